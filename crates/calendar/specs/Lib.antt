@@ -1,0 +1,5 @@
+pub mod Valid
+pub mod Triples
+pub mod Rule
+pub mod Entry
+pub mod Scan

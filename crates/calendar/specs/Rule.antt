@@ -1,0 +1,75 @@
+-- The calendar rule (01, "When a task fits its calendar"): the least and greatest s, e and o over the valid triples in the box, with ect and
+-- lct, or that there is no valid triple.
+use mathlib.Core.List.{List, [], _∷_}
+use Prim.Native.Nat.{ℕ, min, max}
+use Rattle.units.specs.Limits.{hour, duration}
+use Rattle.units.specs.declared.Bounds.{Bounds}
+use Rattle.calendar.specs.declared.Triple.{Triple}
+use Rattle.calendar.specs.declared.Window.{Window}
+use Rattle.calendar.specs.declared.Fit.{Fit}
+use Rattle.calendar.specs.declared.Fit.the-variants.{Never, Within}
+use Rattle.calendar.specs.Triples.{startOf, elapsedOf, overtimeOf, endOf, validTriples}
+
+-- the least, and the greatest, of m and the values of a key over a list
+unfoldable pub least : {A : Type 0} → (A → ℕ) → ℕ → List A → ℕ
+least key m [] = m
+least key m (x ∷ xs) = least key (min m (key x)) xs
+
+unfoldable pub greatest : {A : Type 0} → (A → ℕ) → ℕ → List A → ℕ
+greatest key m [] = m
+greatest key m (x ∷ xs) = greatest key (max m (key x)) xs
+
+-- the window of one triple: each bound is its own
+abbrev pub alone : Triple → Window
+alone t =
+    record {
+      bounds =
+          record {
+            earliest = t .start;
+            latest = t .start;
+            shortest = t .elapsed;
+            longest = t .elapsed;
+            fewest = t .overtime;
+            most = t .overtime;
+          };
+      ect = hour (endOf t);
+      lct = hour (endOf t);
+    }
+
+-- a window, and further triples: the least and greatest s, e and o, and s + e, over both
+unfoldable pub spread : Window → List Triple → Window
+spread w ts =
+    record {
+      bounds =
+          record {
+            earliest = hour (least startOf (w .bounds .earliest .0) ts);
+            latest = hour (greatest startOf (w .bounds .latest .0) ts);
+            shortest = duration (least elapsedOf (w .bounds .shortest .0) ts);
+            longest = duration (greatest elapsedOf (w .bounds .longest .0) ts);
+            fewest = duration (least overtimeOf (w .bounds .fewest .0) ts);
+            most = duration (greatest overtimeOf (w .bounds .most .0) ts);
+          };
+      ect = hour (least endOf (w .ect .0) ts);
+      lct = hour (greatest endOf (w .lct .0) ts);
+    }
+
+unfoldable pub fitOf : List Triple → Fit
+fitOf [] = Never
+fitOf (t ∷ ts) = Within (spread (alone t) ts)
+
+-- the calendar rule, for a calendar, p and a box that pass the tests
+unfoldable pub ruleOf : List ℕ → ℕ → Bounds → Fit
+ruleOf cal p b = fitOf (validTriples cal p b)
+
+-- est and lst are the least and greatest s, ect and lct the least and greatest s + e
+abbrev pub est : Window → ℕ
+est w = w .bounds .earliest .0
+
+abbrev pub lst : Window → ℕ
+lst w = w .bounds .latest .0
+
+abbrev pub ect : Window → ℕ
+ect w = w .ect .0
+
+abbrev pub lct : Window → ℕ
+lct w = w .lct .0

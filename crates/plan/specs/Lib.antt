@@ -1,0 +1,4 @@
+pub mod Plan
+pub mod Boxes
+pub mod Refusals
+pub mod Faults

@@ -1,0 +1,4 @@
+pub mod Load
+pub mod Steps
+pub mod Log
+pub mod Filter

@@ -1,0 +1,42 @@
+-- The schedule checker as an entry point (01, "Refused because of the input", and the order below it).
+use mathlib.Core.Bool.{Bool}
+use mathlib.Core.Option.{Option}
+use mathlib.Core.List.{List}
+use Prim.Native.Nat.{ℕ, _*_}
+use lib.Dec.{leb, eqb}
+use lib.ListN.{length}
+use Rattle.units.specs.Choice.{_and_, _orElse_, firstOf}
+use Rattle.plan.specs.Plan.{Plan, taskCount, calendarOf, workTimeOf}
+use Rattle.plan.specs.Boxes.{boundsAt}
+use Rattle.plan.specs.Refusals.{Fault, unless, Answer, answerUnless}
+use Rattle.plan.specs.Faults.{oneForEachTask, planFault}
+use Rattle.calendar.specs.declared.Triple.{Triple}
+use Rattle.calendar.specs.Triples.{validTriple, inBounds}
+use Rattle.schedule.specs.Schedule.{tripleAt, running, makespan}
+
+-- task by task 14, 15
+unfoldable pub tripleFault : Plan → List ℕ → (ℕ → Triple) → ℕ → Option Fault
+tripleFault P boxes σ i =
+    unless (inBounds (boundsAt boxes i) (σ i)) 14 i
+    orElse unless (validTriple (calendarOf P i) (workTimeOf P i) (σ i)) 15 i
+
+-- 16
+unfoldable pub hourFault : Plan → (ℕ → Triple) → ℕ → Option Fault
+hourFault P σ t = unless (leb (running P σ t) (P .capacity)) 16 t
+
+-- the tasks, and at last 16 at the first such hour
+unfoldable pub scheduleFault : Plan → List ℕ → (ℕ → Triple) → Option Fault
+scheduleFault P boxes σ = firstOf (tripleFault P boxes σ) (taskCount P) orElse firstOf (hourFault P σ) (P .hours)
+
+-- one triple for each task: three numbers
+unfoldable pub isSized : Plan → List ℕ → Bool
+isSized P schedule = eqb (length schedule) (3 * taskCount P)
+
+-- 31, the plan's tests, the schedule's; accepted with the makespan
+unfoldable pub checkSchedule : Plan → List ℕ → List ℕ → Answer ℕ
+checkSchedule P boxes schedule =
+    answerUnless
+    (unless (oneForEachTask P boxes and isSized P schedule) 31 0
+    orElse planFault P boxes
+    orElse scheduleFault P boxes (tripleAt schedule))
+    (makespan P (tripleAt schedule))

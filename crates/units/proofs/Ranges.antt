@@ -1,0 +1,117 @@
+-- Laws of ranges and boxes. Assumes nothing.
+use mathlib.Core.Path.{_≡_, refl, sym, _∙_}
+use mathlib.Core.Bool.{Bool, true, false}
+use Prim.Native.Nat.{ℕ, _≤_, _<_}
+use lib.Dec.{leb, ltb}
+use borrow.Author.Tests.{le-leb, lt-leb, leb-true, ltb-true}
+use Rattle.units.specs.Choice.{_and_}
+use Rattle.units.specs.Limits.{within, isHour, isWorkTime, isOvertime, isRange, isBox}
+use Rattle.units.specs.declared.Bounds.{Bounds}
+use Rattle.units.proofs.Choices.{and-both, and-left, and-right, not-left, not-right}
+
+module _ (least most n : ℕ) where
+  pub is-within : least ≤ n → n ≤ most → within least most n ≡ true
+  unfolding within
+  is-within p q = and-both _ _ (le-leb least n p) (le-leb n most q)
+
+  pub too-small : n < least → within least most n ≡ false
+  unfolding within
+  too-small p = not-left _ _ (lt-leb least n p)
+
+  pub too-large : most < n → within least most n ≡ false
+  unfolding within
+  too-large p = not-right _ _ (lt-leb n most p)
+
+  -- a number that is large enough is within the limits by the other test
+  pub by-most : least ≤ n → within least most n ≡ leb n most
+  unfolding within _and_
+  by-most p = rw (le-leb least n p)
+
+  pub from-least : within least most n ≡ true → least ≤ n
+  unfolding within
+  from-least e = leb-true _ _ (and-left _ _ e)
+
+  pub to-most : within least most n ≡ true → n ≤ most
+  unfolding within
+  to-most e = leb-true _ _ (and-right _ _ e)
+
+module _ (kind : ℕ → Bool) (lower upper : ℕ) where
+  pub is-range : kind lower ≡ true → kind upper ≡ true → lower ≤ upper → isRange kind lower upper ≡ true
+  unfolding isRange
+  is-range p q r = and-both _ _ p (and-both _ _ q (le-leb lower upper r))
+
+  pub lower-out : kind lower ≡ false → isRange kind lower upper ≡ false
+  unfolding isRange
+  lower-out p = not-left _ _ p
+
+  pub upper-out : kind upper ≡ false → isRange kind lower upper ≡ false
+  unfolding isRange
+  upper-out p = not-right _ _ (not-left _ _ p)
+
+  pub crossed : upper < lower → isRange kind lower upper ≡ false
+  unfolding isRange
+  crossed p = not-right _ _ (not-right _ _ (lt-leb lower upper p))
+
+  pub lower-in : isRange kind lower upper ≡ true → kind lower ≡ true
+  unfolding isRange
+  lower-in e = and-left _ _ e
+
+  pub upper-in : isRange kind lower upper ≡ true → kind upper ≡ true
+  unfolding isRange
+  upper-in e = and-left _ _ (and-right _ _ e)
+
+  pub in-order : isRange kind lower upper ≡ true → lower ≤ upper
+  unfolding isRange
+  in-order e = leb-true _ _ (and-right _ _ (and-right _ _ e))
+
+module _ (h p : ℕ) (b : Bounds) where
+  abbrev starts : Bool
+  starts = isRange (isHour h) (b .earliest .0) (b .latest .0)
+
+  abbrev lengths : Bool
+  lengths = isRange (isWorkTime h) (b .shortest .0) (b .longest .0)
+
+  abbrev overtimes : Bool
+  overtimes = isRange (isOvertime p) (b .fewest .0) (b .most .0)
+
+  pub is-box : starts ≡ true → lengths ≡ true → overtimes ≡ true → isBox h p b ≡ true
+  unfolding isBox
+  is-box s e o = and-both _ _ s (and-both _ _ e o)
+
+  pub not-starts : starts ≡ false → isBox h p b ≡ false
+  unfolding isBox
+  not-starts e = not-left _ _ e
+
+  pub not-lengths : lengths ≡ false → isBox h p b ≡ false
+  unfolding isBox
+  not-lengths e = not-right _ _ (not-left _ _ e)
+
+  pub not-overtimes : overtimes ≡ false → isBox h p b ≡ false
+  unfolding isBox
+  not-overtimes e = not-right _ _ (not-right _ _ e)
+
+  -- what a box says of its bounds
+  pub record Boxed : Type 0 where
+    pub starts : b .earliest .0 ≤ b .latest .0
+    pub latest : b .latest .0 < h
+    pub shortest : 1 ≤ b .shortest .0
+    pub lengths : b .shortest .0 ≤ b .longest .0
+    pub longest : b .longest .0 ≤ h
+    pub overtimes : b .fewest .0 ≤ b .most .0
+    pub most : b .most .0 ≤ p
+
+  pub boxed : isBox h p b ≡ true → Boxed
+  unfolding isBox isHour isWorkTime isOvertime
+  boxed e =
+      let s = and-left _ _ e in
+      let l = and-left _ _ (and-right _ _ e) in
+      let o = and-right _ _ (and-right _ _ e) in
+      record {
+        starts = in-order (isHour h) _ _ s;
+        latest = ltb-true _ _ (upper-in (isHour h) _ _ s);
+        shortest = from-least 1 h _ (lower-in (isWorkTime h) _ _ l);
+        lengths = in-order (isWorkTime h) _ _ l;
+        longest = to-most 1 h _ (upper-in (isWorkTime h) _ _ l);
+        overtimes = in-order (isOvertime p) _ _ o;
+        most = leb-true _ _ (upper-in (isOvertime p) _ _ o);
+      }

@@ -1,0 +1,231 @@
+// The kinds of value that a plan is made of. Document 01's limits stand here, each once, at the kind of value that it limits.
+ghost use mathlib.Core.Path.{_≡_};
+ghost use Prim.Native.Nat.{_+_, _-_, _≤_, _<_};
+ghost use Rattle.units.specs.Limits.{hour, duration, height, calendarNumber, isPlanLength, isHour, isWorkTime, isHeight, isCapacity, isCalendarCount, isCalendarNumber, isTaskCount, isOvertime, isBox, hourMade, durationMade, heightMade, calendarNumberMade, boundsMade};
+ghost use Rattle.units.specs.Choice.{someIf};
+
+// An hour of the clock: hour 0 is the plan's first.
+pub struct Hour(pub u16);
+
+// A length in hours.
+pub struct Duration(pub u16);
+
+// How much of the capacity a task takes, and the capacity itself (01's racks).
+pub struct Height(pub u16);
+
+// A calendar's place among the plan's calendars, from 0.
+pub struct CalendarNumber(pub u16);
+
+// 01's box: the least and the greatest start, elapsed time and overtime that a task may have.
+pub struct Bounds {
+    pub earliest: Hour,
+    pub latest: Hour,
+    pub shortest: Duration,
+    pub longest: Duration,
+    pub fewest: Duration,
+    pub most: Duration,
+}
+
+// What a constructor answers: the value, or that the number is outside the limits of its kind.
+pub enum MaybeHour {
+    Outside,
+    Within(Hour),
+}
+
+pub enum MaybeDuration {
+    Outside,
+    Within(Duration),
+}
+
+pub enum MaybeHeight {
+    Outside,
+    Within(Height),
+}
+
+pub enum MaybeCalendarNumber {
+    Outside,
+    Within(CalendarNumber),
+}
+
+pub enum MaybeBounds {
+    Outside,
+    Within(Bounds),
+}
+
+impl Hour {
+    // The end of the longest plan: no task ends later.
+    pub const LAST: u16 = Duration::MOST;
+
+    // An hour of a plan of so many hours.
+    pub fn of_plan(number: u16, hours: Duration) -> MaybeHour
+        ensures { λ r. ⌜ hourMade r ≡ someIf (isHour (hours .0) number) (hour number) ⌝ }
+    {
+        if number < hours.0 {
+            return MaybeHour::Within(Hour(number));
+        }
+        MaybeHour::Outside
+    }
+
+    // The hour so much later: where a task that starts here ends.
+    pub fn plus(self, elapsed: Duration) -> Hour
+        requires { do ⌜ self .0 + elapsed .0 ≤ (← ⟦Hour::LAST⟧) ⌝ }
+        ensures { λ r. ⌜ r ≡ hour (self .0 + elapsed .0) ⌝ }
+    {
+        Hour(self.0 + elapsed.0)
+    }
+
+    // The time from an earlier hour to this one.
+    pub fn since(self, earlier: Hour) -> Duration
+        requires { ⌜ earlier .0 ≤ self .0 ⌝ }
+        ensures { λ r. ⌜ r ≡ duration (self .0 - earlier .0) ⌝ }
+    {
+        Duration(self.0 - earlier.0)
+    }
+}
+
+impl Duration {
+    // The hours of the longest plan.
+    pub const MOST: u16 = 1008;
+
+    // The length of a plan.
+    pub fn of_plan(hours: usize) -> MaybeDuration
+        ensures { λ r. ⌜ durationMade r ≡ someIf (isPlanLength hours) (duration hours) ⌝ }
+    {
+        if hours < 1 {
+            return MaybeDuration::Outside;
+        }
+        if (Duration::MOST as usize) < hours {
+            return MaybeDuration::Outside;
+        }
+        MaybeDuration::Within(Duration(hours as u16))
+    }
+
+    // A work time or an elapsed time in a plan of so many hours.
+    pub fn of_work(number: u16, hours: Duration) -> MaybeDuration
+        ensures { λ r. ⌜ durationMade r ≡ someIf (isWorkTime (hours .0) number) (duration number) ⌝ }
+    {
+        if number < 1 {
+            return MaybeDuration::Outside;
+        }
+        if hours.0 < number {
+            return MaybeDuration::Outside;
+        }
+        MaybeDuration::Within(Duration(number))
+    }
+
+    // The overtime of a task with the work time.
+    pub fn of_overtime(number: u16, work_time: Duration) -> MaybeDuration
+        ensures { λ r. ⌜ durationMade r ≡ someIf (isOvertime («work_time» .0) number) (duration number) ⌝ }
+    {
+        if work_time.0 < number {
+            return MaybeDuration::Outside;
+        }
+        MaybeDuration::Within(Duration(number))
+    }
+}
+
+impl Height {
+    // The most that a task takes.
+    pub const MOST: u16 = 1000;
+
+    // The greatest capacity.
+    pub const CAPACITY: u16 = 60000;
+
+    // The height of a task.
+    pub fn of_task(number: u16) -> MaybeHeight
+        ensures { λ r. ⌜ heightMade r ≡ someIf (isHeight number) (height number) ⌝ }
+    {
+        if Height::MOST < number {
+            return MaybeHeight::Outside;
+        }
+        MaybeHeight::Within(Height(number))
+    }
+
+    // The capacity of a plan.
+    pub fn of_plan(number: u16) -> MaybeHeight
+        ensures { λ r. ⌜ heightMade r ≡ someIf (isCapacity number) (height number) ⌝ }
+    {
+        if Height::CAPACITY < number {
+            return MaybeHeight::Outside;
+        }
+        MaybeHeight::Within(Height(number))
+    }
+}
+
+impl CalendarNumber {
+    // The most calendars of a plan.
+    pub const COUNT: usize = 16;
+
+    // Whether a plan may have so many calendars.
+    pub fn is_count(calendars: usize) -> bool
+        ensures { λ r. ⌜ r ≡ isCalendarCount calendars ⌝ }
+    {
+        if calendars < 1 {
+            return false;
+        }
+        calendars <= CalendarNumber::COUNT
+    }
+
+    // A calendar of a plan that has so many.
+    pub fn of_plan(number: u16, calendars: usize) -> MaybeCalendarNumber
+        ensures { λ r. ⌜ calendarNumberMade r ≡ someIf (isCalendarNumber calendars number) (calendarNumber number) ⌝ }
+    {
+        if (number as usize) < calendars {
+            return MaybeCalendarNumber::Within(CalendarNumber(number));
+        }
+        MaybeCalendarNumber::Outside
+    }
+}
+
+impl Bounds {
+    // The most boxes of a plan, one for each task.
+    pub const COUNT: usize = 64;
+
+    // Whether a plan may have so many tasks.
+    pub fn is_count(tasks: usize) -> bool
+        ensures { λ r. ⌜ r ≡ isTaskCount tasks ⌝ }
+    {
+        tasks <= Bounds::COUNT
+    }
+
+    // The box of a task with the work time, in a plan of so many hours.
+    pub fn of_task(b: Bounds, hours: Duration, work_time: Duration) -> MaybeBounds
+        ensures { λ r. ⌜ boundsMade r ≡ someIf (isBox (hours .0) («work_time» .0) b) b ⌝ }
+    {
+        let MaybeHour::Within(earliest) = Hour::of_plan(b.earliest.0, hours) else {
+            return MaybeBounds::Outside;
+        };
+        let MaybeHour::Within(latest) = Hour::of_plan(b.latest.0, hours) else {
+            return MaybeBounds::Outside;
+        };
+        if latest.0 < earliest.0 {
+            return MaybeBounds::Outside;
+        }
+        let MaybeDuration::Within(shortest) = Duration::of_work(b.shortest.0, hours) else {
+            return MaybeBounds::Outside;
+        };
+        let MaybeDuration::Within(longest) = Duration::of_work(b.longest.0, hours) else {
+            return MaybeBounds::Outside;
+        };
+        if longest.0 < shortest.0 {
+            return MaybeBounds::Outside;
+        }
+        let MaybeDuration::Within(fewest) = Duration::of_overtime(b.fewest.0, work_time) else {
+            return MaybeBounds::Outside;
+        };
+        let MaybeDuration::Within(most) = Duration::of_overtime(b.most.0, work_time) else {
+            return MaybeBounds::Outside;
+        };
+        if most.0 < fewest.0 {
+            return MaybeBounds::Outside;
+        }
+        MaybeBounds::Within(Bounds {
+            earliest,
+            latest,
+            shortest,
+            longest,
+            fewest,
+            most,
+        })
+    }
+}
