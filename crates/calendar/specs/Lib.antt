@@ -1,5 +1,4 @@
 pub mod Valid
 pub mod Triples
 pub mod Rule
-pub mod Entry
 pub mod Scan

@@ -2,6 +2,7 @@
 use mathlib.Core.List.{List}
 use Prim.Native.Nat.{ℕ, _+_}
 use lib.Dec.{eqb}
+use Rattle.units.specs.Choice.{if_then_else_}
 use Rattle.units.specs.Sums.{oneIf}
 use Rattle.plan.specs.Plan.{regular, overtime}
 use Rattle.calendar.specs.declared.Counts.{Counts}
@@ -17,6 +18,10 @@ countsOf cal s n = record { regular = hoursOf regular cal s n; overtime = hoursO
 
 abbrev pub counted : Counts → ℕ → Counts
 counted n symbol = record { regular = n .regular + oneIf (eqb symbol regular); overtime = n .overtime + oneIf (eqb symbol overtime) }
+
+-- how many of the first and the last hour, whose symbols are given, are overtime hours
+abbrev pub endsOf : ℕ → ℕ → ℕ → ℕ
+endsOf first last e = oneIf (eqb first overtime) + (if eqb e 1 then 0 else oneIf (eqb last overtime))
 
 -- an answer, once further triples are found
 unfoldable pub after : Fit → List Triple → Fit

@@ -13,11 +13,11 @@ use Rattle.plan.specs.Boxes.{boundsAt}
 use Rattle.plan.specs.Refusals.{Fault, unless}
 
 -- one number a task in each field, and one box a task: six numbers
-unfoldable pub oneForEachTask : Plan → List ℕ → Bool
-oneForEachTask P boxes =
-    eqb (length (P .workTimes)) (taskCount P)
-    and eqb (length (P .heights)) (taskCount P)
-    and eqb (length boxes) (6 * taskCount P)
+unfoldable pub oneForEachTask : List ℕ → List ℕ → List ℕ → List ℕ → Bool
+oneForEachTask taskCalendars workTimes heights boxes =
+    eqb (length workTimes) (length taskCalendars)
+    and eqb (length heights) (length taskCalendars)
+    and eqb (length boxes) (6 * length taskCalendars)
 
 -- 1 to 16 calendars, each of H symbols
 unfoldable pub isCalendars : Plan → Bool
@@ -47,7 +47,7 @@ planFault P boxes =
 
 -- 31 before all others
 unfoldable pub firstFault : Plan → List ℕ → Option Fault
-firstFault P boxes = unless (oneForEachTask P boxes) 31 0 orElse planFault P boxes
+firstFault P boxes = unless (oneForEachTask (P .taskCalendars) (P .workTimes) (P .heights) boxes) 31 0 orElse planFault P boxes
 
 -- a plan passes the tests if none of 2 to 10 applies to it
 abbrev pub Passes : Plan → List ℕ → Type 0

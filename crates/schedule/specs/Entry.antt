@@ -36,7 +36,7 @@ isSized P schedule = eqb (length schedule) (3 * taskCount P)
 unfoldable pub checkSchedule : Plan → List ℕ → List ℕ → Answer ℕ
 checkSchedule P boxes schedule =
     answerUnless
-    (unless (oneForEachTask P boxes and isSized P schedule) 31 0
+    (unless (oneForEachTask (P .taskCalendars) (P .workTimes) (P .heights) boxes and isSized P schedule) 31 0
     orElse planFault P boxes
     orElse scheduleFault P boxes (tripleAt schedule))
     (makespan P (tripleAt schedule))

@@ -1,0 +1,4 @@
+pub mod Counting
+pub mod Validity
+pub mod Collected
+pub mod Answers

@@ -1,0 +1,61 @@
+-- What each test of a triple's validity decides. Assumes nothing.
+use mathlib.Core.Path.{_≡_, refl, sym, ap, _∙_}
+use mathlib.Core.Bool.{Bool, true, false, not}
+use mathlib.Core.Logic.{_≢_}
+use mathlib.Core.List.{List}
+use Prim.Native.Nat.{ℕ, _+_, _-_, _≤_, _<_}
+use lib.ListN.{length, getD}
+use lib.Dec.{leb, eqb}
+use borrow.Author.Tests.{lt-leb, le-leb, ne-eqb, eq-eqb, leb-true, eqb-true}
+use Rattle.units.specs.Choice.{_and_}
+use Rattle.units.proofs.Choices.{and-left, and-right, not-left, not-right}
+use Rattle.plan.specs.Plan.{regular, closed, overtime}
+use Rattle.calendar.specs.Valid.{isKind, hoursOf, overtimeEnds, valid}
+use Rattle.calendar.specs.Scan.{endsOf}
+
+module _ (cal : List ℕ) (p s e o : ℕ) where
+  pub past-end : length cal < s + e → valid cal p s e o ≡ false
+  unfolding valid
+  past-end h = not-right _ _ (not-left _ _ (lt-leb (s + e) (length cal) h))
+
+  pub closed-first : getD cal s 0 ≡ closed → valid cal p s e o ≡ false
+  unfolding valid isKind
+  closed-first h = not-right _ _ (not-right _ _ (not-left _ _ (ap not (eq-eqb _ _ h))))
+
+  pub closed-last : getD cal (s + e - 1) 0 ≡ closed → valid cal p s e o ≡ false
+  unfolding valid isKind
+  closed-last h = not-right _ _ (not-right _ _ (not-right _ _ (not-left _ _ (ap not (eq-eqb _ _ h)))))
+
+  pub other-overtime : o + hoursOf regular cal s e ≢ p → valid cal p s e o ≡ false
+  unfolding valid
+  other-overtime h = not-right _ _ (not-right _ _ (not-right _ _ (not-right _ _ (not-left _ _ (ne-eqb _ _ h)))))
+
+  pub few-overtime : hoursOf overtime cal s e < o → valid cal p s e o ≡ false
+  unfolding valid
+  few-overtime h = not-right _ _ (not-right _ _ (not-right _ _ (not-right _ _ (not-right _ _ (not-left _ _ (lt-leb _ _ h))))))
+
+  -- a triple that passes the other tests is valid by the last
+  pub by-ends : 1 ≤ e → s + e ≤ length cal → getD cal s 0 ≢ closed → getD cal (s + e - 1) 0 ≢ closed → o + hoursOf regular cal s e ≡ p
+      → o ≤ hoursOf overtime cal s e → valid cal p s e o ≡ leb (endsOf (getD cal s 0) (getD cal (s + e - 1) 0) e) o
+  unfolding valid overtimeEnds isKind _and_
+  by-ends h₁ h₂ h₃ h₄ h₅ h₆ =
+      simp (le-leb _ _ h₁, le-leb _ _ h₂, ne-eqb _ _ h₃, ne-eqb _ _ h₄, eq-eqb _ _ h₅, le-leb _ _ h₆)
+
+  -- what validity says of the numbers
+  pub record Valid : Type 0 where
+    pub lasts : 1 ≤ e
+    pub ends : s + e ≤ length cal
+    pub works : o + hoursOf regular cal s e ≡ p
+
+  pub valid-facts : valid cal p s e o ≡ true → Valid
+  unfolding valid
+  valid-facts v =
+      let r₁ = and-right _ _ v in
+      let r₂ = and-right _ _ r₁ in
+      let r₃ = and-right _ _ r₂ in
+      let r₄ = and-right _ _ r₃ in
+      record {
+        lasts = leb-true _ _ (and-left _ _ v);
+        ends = leb-true _ _ (and-left _ _ r₁);
+        works = eqb-true _ _ (and-left _ _ r₄);
+      }
