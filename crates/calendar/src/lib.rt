@@ -35,6 +35,13 @@ pub enum Fit {
     Within(Window),
 }
 
+// What the calendar rule answers.
+pub enum RuleAnswer {
+    Never,
+    Within(Window),
+    Refused(Refusal),
+}
+
 // The regular and the overtime hours of a stretch of a calendar.
 struct Counts {
     regular: u16,

@@ -2,3 +2,4 @@ pub mod Load
 pub mod Steps
 pub mod Log
 pub mod Filter
+pub mod Weeks

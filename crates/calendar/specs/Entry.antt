@@ -1,0 +1,31 @@
+-- The calendar rule as an entry point: its input is tested as a plan of one calendar and one task with H the calendar's length (01, "When a
+-- task fits its calendar").
+use mathlib.Core.List.{List, [], _∷_}
+use Prim.Native.Nat.{ℕ}
+use lib.ListN.{length}
+use Rattle.units.specs.declared.Bounds.{Bounds}
+use Rattle.plan.specs.Plan.{Plan, plan}
+use Rattle.plan.specs.Refusals.{Answer, refused, answered, faultOf, answerUnless}
+use Rattle.plan.specs.Faults.{firstFault}
+use Rattle.calendar.specs.declared.Fit.{Fit}
+use Rattle.calendar.specs.declared.Fit.the-variants as fit
+use Rattle.calendar.specs.declared.RuleAnswer.{RuleAnswer}
+use Rattle.calendar.specs.declared.RuleAnswer.the-variants as rule
+use Rattle.calendar.specs.Rule.{ruleOf}
+
+-- one calendar, and one task with the work time p, of height 0 in a plan of capacity 0
+unfoldable pub oneTask : List ℕ → ℕ → Plan
+oneTask cal p = plan (length cal) 0 cal (0 ∷ []) (p ∷ []) (0 ∷ [])
+
+-- its box, as lent memory holds it
+unfoldable pub oneBox : Bounds → List ℕ
+oneBox b = b .earliest .0 ∷ b .latest .0 ∷ b .shortest .0 ∷ b .longest .0 ∷ b .fewest .0 ∷ b .most .0 ∷ []
+
+unfoldable pub calendarRule : List ℕ → ℕ → Bounds → Answer Fit
+calendarRule cal p b = answerUnless (firstFault (oneTask cal p) (oneBox b)) (ruleOf cal p b)
+
+-- the number and the values of each case of the answer
+abbrev pub ruleAnswer : RuleAnswer → Answer Fit
+ruleAnswer (rule.Refused r) = refused (faultOf r)
+ruleAnswer rule.Never = answered fit.Never
+ruleAnswer (rule.Within w) = answered (fit.Within w)
