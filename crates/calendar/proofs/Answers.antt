@@ -1,7 +1,7 @@
 -- Laws of an answer to which further triples are added. Assumes nothing.
 use mathlib.Core.Path.{_≡_, refl, sym, ap, _∙_}
 use mathlib.Core.List.{List, [], _∷_, _++_}
-use Prim.Native.Nat.{ℕ, _+_, _≤_, min, max}
+use Prim.Native.Nat.{ℕ, _+_, _≤_}
 use Rattle.calendar.specs.Triples.{over}
 use Rattle.calendar.specs.Rule.{least, greatest, alone, spread, fitOf}
 use Rattle.calendar.specs.Scan.{after}
@@ -10,16 +10,7 @@ use Rattle.calendar.specs.declared.Window.{Window}
 use Rattle.calendar.specs.declared.Fit.{Fit}
 use Rattle.calendar.specs.declared.Fit.the-variants.{Never, Within}
 use Rattle.calendar.proofs.Collected.{over-step}
-
-least-append : (key : Triple → ℕ) (m : ℕ) (ts us : List Triple) → least key m (ts ++ us) ≡ least key (least key m ts) us
-unfolding least
-least-append key m [] us = refl
-least-append key m (t ∷ ts) us = least-append key (min m (key t)) ts us
-
-greatest-append : (key : Triple → ℕ) (m : ℕ) (ts us : List Triple) → greatest key m (ts ++ us) ≡ greatest key (greatest key m ts) us
-unfolding greatest
-greatest-append key m [] us = refl
-greatest-append key m (t ∷ ts) us = greatest-append key (max m (key t)) ts us
+use Rattle.calendar.proofs.Extremes.{least-append, greatest-append}
 
 spread-append : (w : Window) (ts us : List Triple) → spread w (ts ++ us) ≡ spread (spread w ts) us
 unfolding spread
