@@ -14,6 +14,10 @@ use Rattle.calendar.specs.Valid.{isKind, hoursOf, overtimeEnds, valid}
 use Rattle.calendar.specs.Scan.{endsOf}
 
 module _ (cal : List ℕ) (p s e o : ℕ) where
+  pub no-length : e < 1 → valid cal p s e o ≡ false
+  unfolding valid
+  no-length h = not-left _ _ (lt-leb 1 e h)
+
   pub past-end : length cal < s + e → valid cal p s e o ≡ false
   unfolding valid
   past-end h = not-right _ _ (not-left _ _ (lt-leb (s + e) (length cal) h))

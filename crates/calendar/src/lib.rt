@@ -200,6 +200,24 @@ fn is_valid_by(calendar: &[u8], work_time: Duration, t: Triple, n: Counts) -> bo
     overtime_ends(first, last, e) <= o
 }
 
+// Whether a triple is valid for a task with the calendar and the work time.
+pub fn is_valid(calendar: &[u8], work_time: Duration, t: Triple) -> bool
+    requires { ⌜ length (now calendar) ≤ mostHours ⌝ }
+    ensures { λ r. ⌜ r ≡ validTriple (now (calendar .entry)) («work_time» .0) t ⌝ }
+{
+    let start = t.start;
+    let elapsed = t.elapsed;
+    if elapsed.0 < 1 {
+        return false;
+    }
+    let end = (start.0 as usize) + (elapsed.0 as usize);
+    if calendar.len() < end {
+        return false;
+    }
+    let n = count_hours(calendar, start, elapsed);
+    is_valid_by(calendar, work_time, t, n)
+}
+
 // The answer with the valid triples in the box that start at s and last e hours: at most one, since p gives the overtime.
 fn with_length(
     calendar: &[u8],
