@@ -265,8 +265,9 @@ fn with_start(calendar: &[u8], work_time: Duration, b: Bounds, s: Hour, fit: Fit
     ensures { λ r. ⌜ r ≡ after fit (starting (now (calendar .entry)) («work_time» .0) b (s .0)) ⌝ }
 {
     let first = s.0 as usize;
-    let room = (calendar.len() - first) as u16;
-    let most = lesser(b.longest.0, room);
+    let end = Hour(calendar.len() as u16);
+    let room = end.since(s);
+    let most = lesser(b.longest.0, room.0);
     let mut e = b.shortest.0 - 1;
     if most <= e {
         return fit;

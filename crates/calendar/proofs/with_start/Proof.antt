@@ -2,6 +2,7 @@ use mathlib.Core.Path.{_≡_, refl, sym, ap, _∙_}
 use Prim.Native.Nat.{_+_, _-_, _≤_}
 use native.Mathlib.Omega.{arith}
 use borrow.Author.Needs.{needs}
+use Rattle.units.specs.declared.Duration.{Duration}
 use Rattle.calendar.specs.Triples.{over, lasting, starting}
 use Rattle.calendar.specs.Scan.{countsOf, after}
 use Rattle.calendar.proofs.Counting.{regulars, counts-small, counts-more}
@@ -12,23 +13,23 @@ use Rattle.calendar.proofs.with_start.Tie as tie
 
 -- what is found, with all that last longer than e hours, is the answer
 abbrev Inv-loop : tie.InvT-loop
-Inv-loop calendar work-time b s first room most e₀ n₀ best₀ e n best =
+Inv-loop calendar work-time b s first most e₀ n₀ best₀ e n best =
     (e ≤ most)
     × (b .shortest .0 ≤ e + 1)
     × (n ≡ countsOf calendar (s .0) e)
     × (after best (over (e + 1) (b .longest .0) (lasting calendar (work-time .0) b (s .0))) ≡ after best₀ (starting calendar (work-time .0) b (s .0)))
 
 abbrev μ-loop : tie.MeasureT-loop
-μ-loop calendar work-time b s first room most e₀ n₀ best₀ e n best = most - e
+μ-loop calendar work-time b s first most e₀ n₀ best₀ e n best = most - e
 
 cast-first : tie.Need-cast-first Inv-loop μ-loop
 cast-first c = search needs
 
-sub-room : tie.Need-sub-room Inv-loop μ-loop
-sub-room c = search needs
+cast-t15 : tie.Need-cast-t15 Inv-loop μ-loop
+cast-t15 c = search needs
 
-cast-room : tie.Need-cast-room Inv-loop μ-loop
-cast-room c = search needs
+since-requires : tie.Need-since-requires Inv-loop μ-loop
+since-requires c κs = search needs
 
 lesser-requires : tie.Need-lesser-requires Inv-loop μ-loop
 lesser-requires c κs = search needs
@@ -38,15 +39,15 @@ sub-e c = search needs
 
 returns : tie.Need-returns Inv-loop μ-loop
 unfolding starting
-returns c = unmoved _ (none-longer _ _ _ _ _ (omega (arith, c .before .before .lesser .ensures)))
+returns c = unmoved _ (none-longer _ _ _ _ _ (omega (arith, c .before .before .lesser .ensures, ap (λ (d : Duration). d .0) (c .before .before .before .since .ensures))))
 
 count-hours-requires : tie.Need-count-hours-requires Inv-loop μ-loop
-count-hours-requires c κs = search needs
+count-hours-requires c κs = omega (arith, c .before .before .lesser .ensures, ap (λ (d : Duration). d .0) (c .before .before .before .since .ensures))
 
 loop-holds : tie.Need-loop-holds Inv-loop μ-loop
 unfolding starting
 loop-holds c =
-    let e : c .before .before .before .before .before .before .args .b .shortest .0 - 1 + 1 ≡ c .before .before .before .before .before .before .args .b .shortest .0 = omega arith in
+    let e : c .before .before .before .before .before .before .before .args .b .shortest .0 - 1 + 1 ≡ c .before .before .before .before .before .before .before .args .b .shortest .0 = omega arith in
     (omega arith, omega arith, c .count-hours .ensures, rw e)
 
 cast-at : tie.Need-cast-at Inv-loop μ-loop
@@ -56,16 +57,18 @@ add-at : tie.Need-add-at Inv-loop μ-loop
 add-at c = search needs
 
 shared-slice-read-with-hour : tie.Need-shared-slice-read-with-hour Inv-loop μ-loop
-shared-slice-read-with-hour c = search needs
+shared-slice-read-with-hour c = omega (arith, c .before .before .before .before .before .before .lesser .ensures, ap (λ (d : Duration). d .0) (c .before .before .before .before .before .before .before .since .ensures))
 
 with-hour-requires : tie.Need-with-hour-requires Inv-loop μ-loop
-with-hour-requires c κs = counts-small _ _ _ _ (c .before .before .loop .inv .2) (omega arith)
+with-hour-requires c κs = counts-small _ _ _ _ (c .before .before .loop .inv .2) (omega (arith, c .before .before .before .before .before .before .lesser .ensures, ap (λ (d : Duration). d .0) (c .before .before .before .before .before .before .before .since .ensures)))
 
 add-e : tie.Need-add-e Inv-loop μ-loop
 add-e c = search needs
 
 with-length-requires : tie.Need-with-length-requires Inv-loop μ-loop
-with-length-requires c κs = (omega arith, omega (arith, c .before .before .before .before .before .before .before .before .before .before .lesser .ensures), omega arith, c .before .before .before .with-hour .ensures ∙ counts-more _ _ _ _ (c .before .before .before .before .before .before .loop .inv .2))
+with-length-requires c κs =
+    let room = ap (λ (d : Duration). d .0) (c .before .before .before .before .before .before .before .before .before .before .before .since .ensures) in
+    (omega arith, omega (arith, c .before .before .before .before .before .before .before .before .before .before .lesser .ensures, room), omega arith, c .before .before .before .with-hour .ensures ∙ counts-more _ _ _ _ (c .before .before .before .before .before .before .loop .inv .2))
 
 loop-less : tie.Need-loop-less Inv-loop μ-loop
 loop-less c = search needs
@@ -81,7 +84,7 @@ loop-again c =
     )
 
 returns-2 : tie.Need-returns-2 Inv-loop μ-loop
-returns-2 c = unmoved _ (none-longer _ _ _ _ _ (omega (arith, c .before .before .before .before .before .lesser .ensures))) ∙ c .before .loop .inv .3
+returns-2 c = unmoved _ (none-longer _ _ _ _ _ (omega (arith, c .before .before .before .before .before .lesser .ensures, ap (λ (d : Duration). d .0) (c .before .before .before .before .before .before .since .ensures)))) ∙ c .before .loop .inv .3
 
 returns-3 : tie.Need-returns-3 Inv-loop μ-loop
 returns-3 c =
@@ -95,8 +98,8 @@ with-start-spec =
     Inv-loop
     μ-loop
     cast-first
-    sub-room
-    cast-room
+    cast-t15
+    since-requires
     lesser-requires
     sub-e
     returns
