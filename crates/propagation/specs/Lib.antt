@@ -2,4 +2,6 @@ pub mod Load
 pub mod Steps
 pub mod Log
 pub mod Filter
+pub mod Widths
+pub mod Claim
 pub mod Weeks

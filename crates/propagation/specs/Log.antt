@@ -2,11 +2,13 @@
 use mathlib.Core.Bool.{Bool, true, false}
 use mathlib.Core.Option.{Option, none, some}
 use mathlib.Core.List.{List, [], _∷_}
+use mathlib.Core.Path.{_≡_}
 use Prim.Native.Nat.{ℕ, _+_}
 use Rattle.plan.specs.Plan.{Plan}
 use Rattle.plan.specs.Refusals.{Fault, fault}
 use Rattle.propagation.specs.declared.Step.{Step}
 use Rattle.propagation.specs.Steps.{judge, onJudgement}
+use Rattle.propagation.specs.Steps as judged
 
 -- The log's end: its first record that isn't admitted at its turn or that follows one which said impossible, or past its last step.
 pub record LogEnd : Type 0 where
@@ -35,3 +37,11 @@ replayFrom P k false boxes (x ∷ xs) =
 -- from the opening boxes
 unfoldable pub replay : Plan → List ℕ → List Step → LogEnd
 replay P boxes log = replayFrom P 0 false boxes log
+
+-- Each step is admitted at its turn and nothing follows one that says impossible: the first step meets the opening boxes, each later one the
+-- boxes that the step before it left (01, "Steps", the paragraph on the opening boxes and the log's end).
+pub data AllAdmitted (P : Plan) : List ℕ → List Step → Type 0 where
+  noStep : {boxes : List ℕ} → AllAdmitted P boxes []
+  lastStep : {boxes : List ℕ} {x : Step} → judge P boxes x ≡ judged.impossible → AllAdmitted P boxes (x ∷ [])
+  nextStep : {boxes left : List ℕ} {x : Step} {xs : List Step} → judge P boxes x ≡ judged.moved left → AllAdmitted P left xs
+      → AllAdmitted P boxes (x ∷ xs)

@@ -1,2 +1,3 @@
 pub mod Choices
 pub mod Ranges
+pub mod Summing

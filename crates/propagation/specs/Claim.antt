@@ -1,0 +1,40 @@
+-- The whole claim about logs (01, "Steps", its last three paragraphs): over every plan with a box for each task, every list of step records and
+-- every room.
+use mathlib.Core.Path.{_≡_}
+use mathlib.Core.Logic.{_↔_}
+use mathlib.Core.Bool.{Bool, true, false}
+use mathlib.Core.Option.{none}
+use mathlib.Core.List.{List}
+use Prim.Native.Nat.{ℕ, _+_, _≤_, _<_}
+use lib.ListN.{length}
+use Rattle.plan.specs.Plan.{Plan, taskCount}
+use Rattle.plan.specs.Boxes.{boundsAt}
+use Rattle.calendar.specs.declared.Triple.{Triple}
+use Rattle.calendar.specs.Triples.{inBounds}
+use Rattle.schedule.specs.Schedule.{Feasible}
+use Rattle.propagation.specs.declared.Step.{Step}
+use Rattle.propagation.specs.Log.{logEnd, replay, AllAdmitted}
+use Rattle.propagation.specs.Filter.{Ending, settled, impossible, noRoom, count, run}
+use Rattle.propagation.specs.Widths.{widths}
+
+-- the run's last step said impossible
+unfoldable pub saidImpossible : Ending → Bool
+saidImpossible settled = false
+saidImpossible impossible = true
+saidImpossible noRoom = false
+
+pub record LogsHold (P : Plan) (boxes : List ℕ) (log : List Step) (room : ℕ) : Type 0 where
+  -- a log is accepted exactly when each step is admitted at its turn and nothing follows one that says impossible
+  pub accepted : (replay P boxes log .refusal ≡ none) ↔ AllAdmitted P boxes log
+  -- accepting, the checker answers the number of steps
+  pub counted : replay P boxes log .refusal ≡ none → replay P boxes log .steps ≡ length log
+  -- accepted or refused, a schedule that lies in the opening boxes and meets the definitions lies in the boxes at the log's end
+  pub keeps : (σ : ℕ → Triple) → Feasible P boxes σ → (i : ℕ) → i < taskCount P → inBounds (boundsAt (replay P boxes log .boxes) i) (σ i) ≡ true
+  -- if a step before the log's end said impossible, there is no such schedule
+  pub noSchedule : replay P boxes log .impossible ≡ true → (σ : ℕ → Triple) → Feasible P boxes σ → ⊥
+  -- the filter's own log is accepted, with its count, whether it ended impossible, and its boxes
+  pub own : replay P boxes (run P boxes room .log)
+      ≡ logEnd (count (run P boxes room)) (saidImpossible (run P boxes room .ending)) (run P boxes room .boxes) none
+  -- its count is at most the room, and at most one more than the opening boxes' widths
+  pub fits : count (run P boxes room) ≤ room
+  pub short : count (run P boxes room) ≤ 1 + widths P boxes
