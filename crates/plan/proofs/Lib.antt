@@ -1,1 +1,3 @@
+pub mod Refusing
 pub mod Cells
+pub mod Passed

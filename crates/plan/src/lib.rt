@@ -1,4 +1,24 @@
 // A plan in lent memory.
+use units::Bounds;
+use units::CalendarNumber;
+use units::Duration;
+use units::Height;
+use units::Hour;
+use units::MaybeBounds;
+use units::MaybeCalendarNumber;
+use units::MaybeDuration;
+use units::MaybeHeight;
+ghost use mathlib.Core.Bool.{true};
+ghost use mathlib.Core.Path.{_≡_};
+ghost use Prim.Native.Nat.{_+_, _*_, _/_, _%_, _≤_};
+ghost use lib.Dec.{eqb};
+ghost use lib.ListN.{length, getD, take, drop};
+ghost use Rattle.units.specs.Choice.{_and_, _orElse_, firstOf};
+ghost use Rattle.units.specs.Limits.{isCalendarCount, isCalendarNumber, isWorkTime, isHeight, isBox};
+ghost use Rattle.plan.specs.Plan.{plan, firstSymbol};
+ghost use Rattle.plan.specs.Boxes.{boundsAt};
+ghost use Rattle.plan.specs.Refusals.{unless, testedFault};
+ghost use Rattle.plan.specs.Faults.{oneForEachTask, isSymbol, taskFault, planFault, firstFault};
 
 // Why a call is refused, in document 01's order of numbers, with the place where 01 names one.
 pub enum Refusal {
@@ -35,4 +55,234 @@ pub enum Refusal {
 pub enum Tested {
     Passed,
     Refused(Refusal),
+}
+
+// The box of task i.
+pub fn bounds_at(boxes: &[u16], i: usize) -> Bounds
+    requires { ⌜ 6 * i + 6 ≤ length (now boxes) ⌝ }
+    ensures { λ r. ⌜ r ≡ boundsAt (now (boxes .entry)) i ⌝ }
+{
+    let first = 6 * i;
+    Bounds {
+        earliest: Hour(boxes[first]),
+        latest: Hour(boxes[first + 1]),
+        shortest: Duration(boxes[first + 2]),
+        longest: Duration(boxes[first + 3]),
+        fewest: Duration(boxes[first + 4]),
+        most: Duration(boxes[first + 5]),
+    }
+}
+
+// Where a calendar begins among the symbols of all calendars, joined.
+pub fn first_symbol(number: u16, hours: Duration) -> usize
+    ensures { λ r. ⌜ r ≡ firstSymbol (hours .0) number ⌝ }
+{
+    (number as usize) * (hours.0 as usize)
+}
+
+// The symbols of one calendar.
+pub fn calendar_at(calendars: &[u8], hours: Duration, number: u16) -> &[u8]
+    requires { ⌜ firstSymbol (hours .0) number + hours .0 ≤ length (now calendars) ⌝ }
+    ensures { λ r. ⌜ now r ≡ take (hours .0) (drop (firstSymbol (hours .0) number) (now (calendars .entry))) ⌝ }
+{
+    let from = first_symbol(number, hours);
+    let to = from + hours.0 as usize;
+    &calendars[from..to]
+}
+
+// How many calendars of so many hours there are.
+fn calendar_count(calendars: &[u8], hours: Duration) -> usize
+    requires { ⌜ 1 ≤ hours .0 ⌝ }
+    ensures { λ r. ⌜ r ≡ length (now (calendars .entry)) / hours .0 ⌝ }
+{
+    calendars.len() / hours.0 as usize
+}
+
+// Whether the fields and the boxes number one for each task. The boxes' length is divided, since six times a length may not fit.
+pub fn has_one_for_each_task(
+    task_calendars: &[u16],
+    work_times: &[u16],
+    heights: &[u16],
+    boxes: &[u16],
+) -> bool
+    ensures { λ r. ⌜ r ≡ oneForEachTask (now («task_calendars» .entry)) (now («work_times» .entry)) (now (heights .entry)) (now (boxes .entry)) ⌝ }
+{
+    let tasks = task_calendars.len();
+    if work_times.len() != tasks {
+        return false;
+    }
+    if heights.len() != tasks {
+        return false;
+    }
+    if boxes.len() % 6 != 0 {
+        return false;
+    }
+    boxes.len() / 6 == tasks
+}
+
+// Whether the symbols make calendars of so many hours each, and as many as a plan may have.
+fn has_calendars(calendars: &[u8], hours: Duration) -> bool
+    requires { ⌜ 1 ≤ hours .0 ⌝ }
+    ensures { λ r. ⌜ r ≡ eqb (length (now (calendars .entry)) % hours .0) 0 and isCalendarCount (length (now (calendars .entry)) / hours .0) ⌝ }
+{
+    if calendars.len() % hours.0 as usize != 0 {
+        return false;
+    }
+    CalendarNumber::is_count(calendar_count(calendars, hours))
+}
+
+// Whether it is r, c or o.
+fn is_symbol(symbol: u8) -> bool
+    ensures { λ r. ⌜ r ≡ isSymbol symbol ⌝ }
+{
+    if symbol == b'r' {
+        return true;
+    }
+    if symbol == b'c' {
+        return true;
+    }
+    symbol == b'o'
+}
+
+// 4, at the first symbol other than r, c, o.
+fn test_symbols(calendars: &[u8]) -> Tested
+    ensures { λ r. ⌜ testedFault r ≡ firstOf (λ k. unless (isSymbol (getD (now (calendars .entry)) k 0)) 4 k) (length (now (calendars .entry))) ⌝ }
+{
+    for k in 0..calendars.len() {
+        if !is_symbol(calendars[k]) {
+            return Tested::Refused(Refusal::Symbol(k));
+        }
+    }
+    Tested::Passed
+}
+
+// 6, 7, 8, 9 of one task, in a plan of so many hours and calendars.
+fn test_task(
+    task: usize,
+    hours: Duration,
+    calendars: usize,
+    calendar: u16,
+    work_time: u16,
+    height: u16,
+    bounds: Bounds,
+) -> Tested
+    ensures { λ r. ⌜ testedFault r ≡ (unless (isCalendarNumber calendars calendar) 6 task
+        orElse unless (isWorkTime (hours .0) «work_time») 7 task
+        orElse unless (isHeight height) 8 task
+        orElse unless (isBox (hours .0) «work_time» bounds) 9 task) ⌝ }
+{
+    let MaybeCalendarNumber::Within(_) = CalendarNumber::of_plan(calendar, calendars) else {
+        return Tested::Refused(Refusal::NoCalendar(task));
+    };
+    let MaybeDuration::Within(work) = Duration::of_work(work_time, hours) else {
+        return Tested::Refused(Refusal::WorkTime(task));
+    };
+    let MaybeHeight::Within(_) = Height::of_task(height) else {
+        return Tested::Refused(Refusal::TaskHeight(task));
+    };
+    let MaybeBounds::Within(_) = Bounds::of_task(bounds, hours, work) else {
+        return Tested::Refused(Refusal::TaskBounds(task));
+    };
+    Tested::Passed
+}
+
+// Task by task. No test of a task asks for the capacity, so the contract puts 0 there.
+fn test_tasks(
+    hours: Duration,
+    calendars: &[u8],
+    task_calendars: &[u16],
+    work_times: &[u16],
+    heights: &[u16],
+    boxes: &[u16],
+) -> Tested
+    requires { ⌜ (1 ≤ hours .0) × (oneForEachTask (now «task_calendars») (now «work_times») (now heights) (now boxes) ≡ true) ⌝ }
+    ensures { λ r. ⌜ testedFault r ≡ firstOf
+        (taskFault (plan (hours .0) 0 (now (calendars .entry)) (now («task_calendars» .entry)) (now («work_times» .entry)) (now (heights .entry))) (now (boxes .entry)))
+        (length (now («task_calendars» .entry))) ⌝ }
+{
+    let count = calendar_count(calendars, hours);
+    for i in 0..task_calendars.len() {
+        let tested = test_task(
+            i,
+            hours,
+            count,
+            task_calendars[i],
+            work_times[i],
+            heights[i],
+            bounds_at(boxes, i),
+        );
+        let Tested::Passed = tested else {
+            return tested;
+        };
+    }
+    Tested::Passed
+}
+
+// The plan's tests on memory of the right size: 2, 3, 4, 5, 10, then task by task.
+pub fn test_input(
+    hours: u16,
+    capacity: u16,
+    calendars: &[u8],
+    task_calendars: &[u16],
+    work_times: &[u16],
+    heights: &[u16],
+    boxes: &[u16],
+) -> Tested
+    requires { ⌜ oneForEachTask (now «task_calendars») (now «work_times») (now heights) (now boxes) ≡ true ⌝ }
+    ensures { λ r. ⌜ testedFault r ≡ planFault
+        (plan hours capacity (now (calendars .entry)) (now («task_calendars» .entry)) (now («work_times» .entry)) (now (heights .entry)))
+        (now (boxes .entry)) ⌝ }
+{
+    let MaybeDuration::Within(plan_length) = Duration::of_plan(hours as usize) else {
+        return Tested::Refused(Refusal::Hours);
+    };
+    if !has_calendars(calendars, plan_length) {
+        return Tested::Refused(Refusal::Calendars);
+    }
+    let symbols = test_symbols(calendars);
+    let Tested::Passed = symbols else {
+        return symbols;
+    };
+    if !Bounds::is_count(task_calendars.len()) {
+        return Tested::Refused(Refusal::Tasks);
+    }
+    let MaybeHeight::Within(_) = Height::of_plan(capacity) else {
+        return Tested::Refused(Refusal::Capacity);
+    };
+    test_tasks(
+        plan_length,
+        calendars,
+        task_calendars,
+        work_times,
+        heights,
+        boxes,
+    )
+}
+
+// The plan's tests: 31 before all others.
+pub fn test_plan(
+    hours: u16,
+    capacity: u16,
+    calendars: &[u8],
+    task_calendars: &[u16],
+    work_times: &[u16],
+    heights: &[u16],
+    boxes: &[u16],
+) -> Tested
+    ensures { λ r. ⌜ testedFault r ≡ firstFault
+        (plan hours capacity (now (calendars .entry)) (now («task_calendars» .entry)) (now («work_times» .entry)) (now (heights .entry)))
+        (now (boxes .entry)) ⌝ }
+{
+    if !has_one_for_each_task(task_calendars, work_times, heights, boxes) {
+        return Tested::Refused(Refusal::MemorySize);
+    }
+    test_input(
+        hours,
+        capacity,
+        calendars,
+        task_calendars,
+        work_times,
+        heights,
+        boxes,
+    )
 }

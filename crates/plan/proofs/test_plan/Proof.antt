@@ -1,0 +1,25 @@
+use mathlib.Core.Path.{sym, _∙_}
+use borrow.Author.Tests.{not-true, not-false}
+use Rattle.plan.specs.Faults.{firstFault}
+use Rattle.plan.proofs.Refusing.{go-on, refuse}
+use borrow.Author.Needs.{needs}
+use Rattle.plan.proofs.test_plan.Statement.{statement}
+use Rattle.plan.proofs.test_plan.Tie as tie
+
+has-one-for-each-task-requires : tie.Need-has-one-for-each-task-requires
+has-one-for-each-task-requires c κs = search needs
+
+returns : tie.Need-returns
+unfolding firstFault
+returns c = sym (refuse _ 31 0 _ (sym (c .before .has-one-for-each-task .ensures) ∙ not-true _ (c .if1 .taken)))
+
+test-input-requires : tie.Need-test-input-requires
+test-input-requires c κs = sym (c .before .has-one-for-each-task .ensures) ∙ not-false _ (c .if1 .left)
+
+returns-2 : tie.Need-returns-2
+unfolding firstFault
+returns-2 c = c .test-input .ensures ∙ sym (go-on _ 31 0 _ (sym (c .before .before .has-one-for-each-task .ensures) ∙ not-false _ (c .before .if1 .left)))
+
+pub test-plan-spec : {M : Type 1} → statement M
+test-plan-spec =
+    tie.close (tie.spec has-one-for-each-task-requires returns test-input-requires returns-2)
