@@ -4,3 +4,4 @@ pub mod Collected
 pub mod Extremes
 pub mod Answers
 pub mod Members
+pub mod Testing

@@ -1,8 +1,10 @@
 // The calendar rule: the least and greatest start, elapsed time and overtime over the valid triples in a box.
 use plan::Refusal;
+use plan::Tested;
 use units::Bounds;
 use units::Duration;
 use units::Hour;
+use units::MaybeDuration;
 ghost use mathlib.Core.Path.{_≡_};
 ghost use mathlib.Core.List.{[], _∷_};
 ghost use Prim.Native.Nat.{ℕ, _+_, _-_, _≤_, _<_, min, max};
@@ -13,6 +15,7 @@ ghost use Rattle.units.specs.Sums.{oneIf};
 ghost use Rattle.plan.specs.Plan.{overtime};
 ghost use Rattle.calendar.specs.Triples.{endOf, validTriple, lasting, starting};
 ghost use Rattle.calendar.specs.Rule.{alone, spread, ruleOf};
+ghost use Rattle.calendar.specs.Entry.{calendarRule, ruleAnswer};
 ghost use Rattle.calendar.specs.Scan.{countsOf, counted, endsOf, after};
 
 // 01's (s, e, o): when a task starts, how long it lasts, and its overtime.
@@ -301,4 +304,33 @@ pub fn rule(calendar: &[u8], work_time: Duration, b: Bounds) -> Fit
         s += 1;
     }
     best
+}
+
+// The calendar rule. Its input is tested as a plan of one calendar and one task, with H the calendar's length.
+pub fn calendar_rule(calendar: &[u8], work_time: Duration, b: Bounds) -> RuleAnswer
+    ensures { λ r. ⌜ ruleAnswer r ≡ calendarRule (now (calendar .entry)) («work_time» .0) b ⌝ }
+{
+    let MaybeDuration::Within(hours) = Duration::of_plan(calendar.len()) else {
+        return RuleAnswer::Refused(Refusal::Hours);
+    };
+    let number = [0u16];
+    let work = [work_time.0];
+    let height = [0u16];
+    let cells = [
+        b.earliest.0,
+        b.latest.0,
+        b.shortest.0,
+        b.longest.0,
+        b.fewest.0,
+        b.most.0,
+    ];
+    let tested = plan::test_plan(hours.0, 0, calendar, &number, &work, &height, &cells);
+    if let Tested::Refused(r) = tested {
+        return RuleAnswer::Refused(r);
+    }
+    let fit = rule(calendar, work_time, b);
+    let Fit::Within(w) = fit else {
+        return RuleAnswer::Never;
+    };
+    RuleAnswer::Within(w)
 }

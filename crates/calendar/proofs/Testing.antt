@@ -1,0 +1,59 @@
+-- Laws of the calendar rule's own tests: what each outcome of the plan's tests makes of the answer. Assumes nothing.
+use mathlib.Core.Path.{_≡_, refl, sym, ap, _∙_}
+use mathlib.Core.Bool.{Bool, true, false}
+use mathlib.Core.Option.{none, some}
+use mathlib.Core.List.{List, [], _∷_}
+use Prim.Native.Nat.{ℕ, _≤_, _<_}
+use native.Mathlib.Omega.{arith}
+use lib.ListN.{length}
+use Rattle.units.specs.Choice.{_and_}
+use Rattle.units.specs.Limits.{mostHours, duration, isPlanLength}
+use Rattle.units.specs.declared.Duration.{Duration}
+use Rattle.units.specs.declared.Bounds.{Bounds}
+use Rattle.units.proofs.Choices.{else-none, else-some, neither}
+use Rattle.plan.specs.Plan.{plan, taskCount}
+use Rattle.plan.specs.Boxes.{boundsAt}
+use Rattle.plan.specs.Refusals.{Fault, fault, refused, answered, answerUnless}
+use Rattle.plan.specs.Faults.{oneForEachTask, planFault, firstFault}
+use Rattle.plan.proofs.Refusing.{unless-true, unless-false}
+use Rattle.plan.proofs.Passed.{passed}
+use Rattle.calendar.specs.Rule.{ruleOf}
+use Rattle.calendar.specs.Entry.{oneTask, oneBox, calendarRule}
+
+module _ (cal : List ℕ) (p : ℕ) (b : Bounds) where
+  -- the memory of one task is of the right size
+  one-each : oneForEachTask (0 ∷ []) (p ∷ []) (0 ∷ []) (oneBox b) ≡ true
+  unfolding oneForEachTask oneBox _and_
+  one-each = refl
+
+  -- the test that the code asks for, with H from its constructor
+  pub one-test : (h : Duration) → duration (length cal) ≡ h
+      → firstFault (plan (h .0) 0 cal (0 ∷ []) (p ∷ []) (0 ∷ []))
+      (b .earliest .0 ∷ b .latest .0 ∷ b .shortest .0 ∷ b .longest .0 ∷ b .fewest .0 ∷ b .most .0 ∷ [])
+      ≡ firstFault (oneTask cal p) (oneBox b)
+  unfolding oneTask oneBox
+  one-test h e = rw (← e)
+
+  pub refused-by : (f : Fault) → firstFault (oneTask cal p) (oneBox b) ≡ some f → calendarRule cal p b ≡ refused f
+  unfolding calendarRule answerUnless
+  refused-by f e = rw e
+
+  pub answered-by : firstFault (oneTask cal p) (oneBox b) ≡ none → calendarRule cal p b ≡ answered (ruleOf cal p b)
+  unfolding calendarRule answerUnless
+  answered-by e = rw e
+
+  -- a calendar that is no plan's length gets 2
+  pub no-length : isPlanLength (length cal) ≡ false → calendarRule cal p b ≡ refused (fault 2 0)
+  no-length e =
+      refused-by (fault 2 0)
+      (unfold firstFault planFault oneTask in
+      (else-none _ _ (unless-true _ 31 0 one-each) ∙ else-some _ _ _ (unless-false _ 2 0 e)))
+
+  -- what the core asks
+  pub ready : firstFault (oneTask cal p) (oneBox b) ≡ none → (1 ≤ b .shortest .0) × (b .latest .0 < length cal) × (length cal ≤ mostHours)
+  unfolding firstFault oneTask oneBox boundsAt
+  ready e =
+      let faults = neither _ _ e in
+      let P = passed (oneTask cal p) (oneBox b) one-each (faults .1) in
+      let box = P .task 0 (unfold taskCount in (omega arith)) .box in
+      (box .shortest, box .latest, P .hours)
