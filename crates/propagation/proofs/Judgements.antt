@@ -100,7 +100,7 @@ module _ (P : Plan) (boxes : List ℕ) (i t : ℕ) where
       (λ more. movesU w c starts (ltb-true _ _ (and-left _ _ (and-right _ _ a))) (ltb-false _ _ more) refl))
       (λ a. tt))
 
-  known : (k : Kind) → isStep P k i t ≡ true → Known k (judgeKind P boxes k i t)
+  known : (k : Kind) → isStep (taskCount P) (P .hours) k i t ≡ true → Known k (judgeKind P boxes k i t)
   unfolding judgeKind isStep isHour
   known kindC e = known-C (ltb-true _ _ (and-left _ _ e))
   known kindO e = known-O (ltb-true _ _ (and-right _ _ e))

@@ -4,4 +4,5 @@ pub mod Changes
 pub mod Replays
 pub mod Runs
 pub mod Claim
+pub mod Deciding
 pub mod Weeks

@@ -4,4 +4,5 @@ pub mod Log
 pub mod Filter
 pub mod Widths
 pub mod Claim
+pub mod Kept
 pub mod Weeks

@@ -42,13 +42,13 @@ kindOf letter =
     else (if eqb letter letterU then kindU
     else unknownKind)))
 
--- 11 does not apply: a known kind, of a task and an hour that exist, a field that its kind doesn't use is 0
-unfoldable pub isStep : Plan → Kind → ℕ → ℕ → Bool
-isStep P kindC i t = ltb i (taskCount P) and eqb t 0
-isStep P kindO i t = eqb i 0 and isHour (P .hours) t
-isStep P kindL i t = ltb i (taskCount P) and isHour (P .hours) t
-isStep P kindU i t = ltb i (taskCount P) and isHour (P .hours) t
-isStep P unknownKind i t = false
+-- 11 does not apply: a known kind, of a task and an hour that exist, and a field that its kind doesn't use is 0
+unfoldable pub isStep : ℕ → ℕ → Kind → ℕ → ℕ → Bool
+isStep tasks hours kindC i t = ltb i tasks and eqb t 0
+isStep tasks hours kindO i t = eqb i 0 and isHour hours t
+isStep tasks hours kindL i t = ltb i tasks and isHour hours t
+isStep tasks hours kindU i t = ltb i tasks and isHour hours t
+isStep tasks hours unknownKind i t = false
 
 -- What a step comes to at its turn: 11 names it, it is not admitted, it says impossible, or it moves a bound, with the boxes that it leaves.
 pub data Judgement : Type 0 where
@@ -139,6 +139,6 @@ judgeKind P boxes unknownKind i t = unknown
 
 unfoldable pub judge : Plan → List ℕ → Step → Judgement
 judge P boxes x =
-    if isStep P (kindOf (x .kind)) (x .task) (x .hour)
+    if isStep (taskCount P) (P .hours) (kindOf (x .kind)) (x .task) (x .hour)
     then judgeKind P boxes (kindOf (x .kind)) (x .task) (x .hour)
     else unknown

@@ -1,8 +1,25 @@
 // Steps, the log checker and the filter.
+use units::Bounds;
+
+mod judge;
 
 // A step of a log: its kind, a letter as one byte, a task and an hour. A field that the kind does not use is 0.
 pub struct Step {
     pub kind: u8,
     pub task: u16,
     pub hour: u16,
+}
+
+// What a step comes to at its turn; where it moves a bound, the bounds that its task has then.
+pub enum Judged {
+    NotAdmitted,
+    Unknown,
+    Impossible,
+    Moved(Bounds),
+}
+
+// The first admitted step, if there is one.
+pub enum Found {
+    Nothing,
+    At(Step),
 }

@@ -75,8 +75,7 @@ loop-less c = search needs
 
 loop-again : tie.Need-loop-again Inv-loop μ-loop
 loop-again c =
-    let inv = c .before .before .before .before .before .before .before .loop .inv in
-    (
+    let inv = c .before .before .before .before .before .before .before .loop .inv in (
       omega arith,
       omega arith,
       c .before .before .before .before .with-hour .ensures ∙ counts-more _ _ _ _ (inv .2),
