@@ -16,7 +16,7 @@ ghost use lib.ListN.{length, getD, take, drop};
 ghost use Rattle.units.specs.Choice.{_and_, _orElse_, firstOf};
 ghost use Rattle.units.specs.Limits.{isCalendarCount, isCalendarNumber, isWorkTime, isHeight, isBox};
 ghost use Rattle.plan.specs.Plan.{plan, firstSymbol};
-ghost use Rattle.plan.specs.Boxes.{boundsAt};
+ghost use Rattle.plan.specs.Boxes.{boundsAt, withBounds};
 ghost use Rattle.plan.specs.Refusals.{unless, testedFault};
 ghost use Rattle.plan.specs.Faults.{oneForEachTask, isSymbol, taskFault, planFault, firstFault};
 
@@ -71,6 +71,20 @@ pub fn bounds_at(boxes: &[u16], i: usize) -> Bounds
         fewest: Duration(boxes[first + 4]),
         most: Duration(boxes[first + 5]),
     }
+}
+
+// Another box for task i.
+pub fn put_bounds(boxes: &mut [u16], i: usize, b: Bounds)
+    requires { ⌜ 6 * i + 6 ≤ length (now boxes) ⌝ }
+    ensures { λ r. ⌜ now (boxes .exit) ≡ withBounds (now (boxes .entry)) i b ⌝ }
+{
+    let first = 6 * i;
+    boxes[first] = b.earliest.0;
+    boxes[first + 1] = b.latest.0;
+    boxes[first + 2] = b.shortest.0;
+    boxes[first + 3] = b.longest.0;
+    boxes[first + 4] = b.fewest.0;
+    boxes[first + 5] = b.most.0;
 }
 
 // Where a calendar begins among the symbols of all calendars, joined.

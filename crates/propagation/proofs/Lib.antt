@@ -4,5 +4,6 @@ pub mod Changes
 pub mod Replays
 pub mod Runs
 pub mod Claim
+pub mod Fits
 pub mod Deciding
 pub mod Weeks

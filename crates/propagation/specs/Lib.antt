@@ -4,5 +4,6 @@ pub mod Log
 pub mod Filter
 pub mod Widths
 pub mod Claim
+pub mod Fitting
 pub mod Kept
 pub mod Weeks

@@ -2,6 +2,7 @@
 use units::Bounds;
 
 mod judge;
+mod kept;
 
 // A step of a log: its kind, a letter as one byte, a task and an hour. A field that the kind does not use is 0.
 pub struct Step {

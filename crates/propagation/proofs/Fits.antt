@@ -1,0 +1,62 @@
+-- Laws of the answers of the calendar rule, one for each task: how one is taken from memory, and how they fill an array. Assumes nothing.
+use mathlib.Core.Path.{_≡_, refl, sym, ap, _∙_}
+use mathlib.Core.List.{List, []}
+use mathlib.Core.Logic.{_≢_}
+use Prim.Native.Nat.{ℕ, _+_, _*_, _≤_, _<_}
+use native.Mathlib.Decide.{ℕ-discrete}
+use native.Mathlib.Omega.{arith}
+use lib.ListN.{length, getD, take, drop, set, length-take, length-drop}
+use lib.Seq.{getD-set-same, getD-set-other}
+use Rattle.units.specs.Limits.{mostHours}
+use Rattle.units.specs.declared.Bounds.{Bounds}
+use Rattle.plan.specs.Plan.{Plan, plan, taskCount, firstSymbol, calendarAt, calendarOf, workTimeOf}
+use Rattle.plan.specs.Boxes.{boundsAt}
+use Rattle.plan.proofs.Passed.{Passed}
+use Rattle.calendar.specs.declared.Fit.{Fit}
+use Rattle.calendar.specs.Rule.{ruleOf}
+use Rattle.propagation.specs.Load.{fitAt}
+use Rattle.propagation.specs.Fitting.{Fitting}
+
+module _ (hours : ℕ) (calendars taskCalendars workTimes boxes : List ℕ) (i : ℕ) (part : List ℕ) (b : Bounds)
+    (is-part : part ≡ take hours (drop (firstSymbol hours (getD taskCalendars i 0)) calendars)) (is-box : b ≡ boundsAt boxes i) where
+  -- what the rule's core asks
+  pub core-asks : Fitting hours calendars taskCalendars workTimes boxes i → (1 ≤ b .shortest .0) × (b .latest .0 < length part) × (length part ≤ mostHours)
+  core-asks f =
+      let long : length part ≡ hours = rw is-part (simp (length-take, length-drop) (omega (arith, f .calendar))) in
+      let low : 1 ≤ b .shortest .0 = rw is-box (f .shortest) in
+      let high : b .latest .0 < hours = rw is-box (f .latest) in
+      (low, omega arith, omega (arith, f .short))
+
+  pub core-answers : (r : Fit) → r ≡ ruleOf part (getD workTimes i 0) b → r ≡ fitAt (plan hours 0 calendars taskCalendars workTimes []) boxes i
+  unfolding fitAt calendarOf calendarAt workTimeOf
+  core-answers r e = e ∙ rw (is-part, is-box)
+
+-- what a plan that passes the tests gives
+pub fitting : (P : Plan) (boxes : List ℕ) → Passed P boxes → (i : ℕ) → i < taskCount P
+    → Fitting (P .hours) (P .calendars) (P .taskCalendars) (P .workTimes) boxes i
+unfolding taskCount
+fitting P boxes p i l =
+    let t = p .task i l in
+    record {
+      short = p .hours;
+      task = l;
+      work = omega (arith, p .work-times);
+      box = omega (arith, p .boxes);
+      calendar = t .calendar;
+      latest = t .box .latest;
+      shortest = t .box .shortest;
+    }
+
+-- the rule asks for neither the capacity nor the heights
+pub fit-alone : (P : Plan) (boxes : List ℕ) (i : ℕ) → fitAt (plan (P .hours) 0 (P .calendars) (P .taskCalendars) (P .workTimes) []) boxes i ≡ fitAt P boxes i
+unfolding fitAt calendarOf calendarAt workTimeOf
+fit-alone P boxes i = refl
+
+-- one cell more of an array is filled
+pub filled-more : {A : Type 0} (f : ℕ → A) (l : List A) (d : A) (n : ℕ) (x : A) → ((k : ℕ) → k < n → getD l k d ≡ f k) → x ≡ f n → n < length l
+    → (k : ℕ) → k < n + 1 → getD (set l n x) k d ≡ f k
+filled-more {A} f l d n x below e small k h = go (ℕ-discrete k n)
+  where
+    go : Dec (k ≡ n) → getD (set l n x) k d ≡ f k
+    go (yes q) = rw q (getD-set-same l n x d small ∙ e)
+    go (no q) = getD-set-other l n k x d q ∙ below k (omega arith)

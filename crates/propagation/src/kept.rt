@@ -1,0 +1,50 @@
+// The answers of the calendar rule that are kept beside the boxes, one for each task.
+use calendar::Fit;
+use units::Bounds;
+use units::Duration;
+ghost use mathlib.Core.List.{[]};
+ghost use mathlib.Core.Path.{_≡_};
+ghost use Prim.Native.Nat.{ℕ, _≤_, _<_};
+ghost use lib.ListN.{length, getD};
+ghost use Rattle.units.specs.Limits.{mostTasks};
+ghost use Rattle.plan.specs.Plan.{plan};
+ghost use Rattle.propagation.specs.Load.{fitAt};
+ghost use Rattle.propagation.specs.Fitting.{Fitting};
+
+// What the calendar rule answers for task i. It asks for neither the capacity nor the heights, so the contract puts none there.
+pub fn fit_of(
+    hours: Duration,
+    calendars: &[u8],
+    task_calendars: &[u16],
+    work_times: &[u16],
+    boxes: &[u16],
+    i: usize,
+) -> Fit
+    requires { ⌜ Fitting (hours .0) (now calendars) (now «task_calendars») (now «work_times») (now boxes) i ⌝ }
+    ensures { λ r. ⌜ r ≡ fitAt (plan (hours .0) 0 (now (calendars .entry)) (now («task_calendars» .entry)) (now («work_times» .entry)) []) (now (boxes .entry)) i ⌝ }
+{
+    let work_time = Duration(work_times[i]);
+    let b = plan::bounds_at(boxes, i);
+    let calendar = plan::calendar_at(calendars, hours, task_calendars[i]);
+    calendar::rule(calendar, work_time, b)
+}
+
+// The answers for all tasks.
+pub fn all_fits(
+    hours: Duration,
+    calendars: &[u8],
+    task_calendars: &[u16],
+    work_times: &[u16],
+    boxes: &[u16],
+) -> [Fit; Bounds::COUNT]
+    requires { ⌜ (length (now «task_calendars») ≤ mostTasks)
+        × ((i : ℕ) → i < length (now «task_calendars») → Fitting (hours .0) (now calendars) (now «task_calendars») (now «work_times») (now boxes) i) ⌝ }
+    ensures { λ r. ⌜ ((i : ℕ) → i < length (now («task_calendars» .entry)) → getD r i Fit.Never
+        ≡ fitAt (plan (hours .0) 0 (now (calendars .entry)) (now («task_calendars» .entry)) (now («work_times» .entry)) []) (now (boxes .entry)) i) ⌝ }
+{
+    let mut fits = [Fit::Never; Bounds::COUNT];
+    for i in 0..task_calendars.len() {
+        fits[i] = fit_of(hours, calendars, task_calendars, work_times, boxes, i);
+    }
+    fits
+}
