@@ -6,4 +6,5 @@ pub mod Runs
 pub mod Claim
 pub mod Fits
 pub mod Deciding
+pub mod Turns
 pub mod Weeks

@@ -3,6 +3,7 @@ pub mod Steps
 pub mod Log
 pub mod Filter
 pub mod Widths
+pub mod Entry
 pub mod Claim
 pub mod Fitting
 pub mod Kept

@@ -1,4 +1,5 @@
 // Steps, the log checker and the filter.
+use plan::Refusal;
 use units::Bounds;
 
 mod judge;
@@ -23,4 +24,18 @@ pub enum Judged {
 pub enum Found {
     Nothing,
     At(Step),
+}
+
+// What the log checker answers: a refusal, or the number of steps and whether the last said impossible.
+pub enum LogChecked {
+    Refused(Refusal),
+    Accepted { steps: usize, impossible: bool },
+}
+
+// What the filter answers: a refusal, or the count of the steps taken with how the run ended. Without room is refusal 32.
+pub enum Filtered {
+    Refused(Refusal),
+    NoRoom(usize),
+    Settled(usize),
+    Impossible(usize),
 }
