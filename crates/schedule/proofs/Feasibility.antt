@@ -1,37 +1,28 @@
 -- The schedule's tests find no fault exactly with the feasible schedules. Assumes nothing.
-use mathlib.Core.Path.{_≡_, ap, _∙_}
-use mathlib.Core.Bool.{Bool, true, not}
+use mathlib.Core.Path.{_≡_, _∙_}
+use mathlib.Core.Bool.{true}
 use mathlib.Core.Option.{none}
 use mathlib.Core.List.{List}
 use Prim.Native.Nat.{ℕ, _≤_}
-use borrow.Author.Tests.{leb-true, le-leb, not-false}
-use Rattle.units.proofs.Choices.{if-none, none-if, else-none, neither, first-none, first-all-none}
+use borrow.Author.Tests.{leb-true, le-leb}
+use Rattle.units.proofs.Choices.{else-none, neither, first-none, first-all-none}
 use Rattle.plan.specs.Plan.{Plan, taskCount, calendarOf, workTimeOf}
 use Rattle.plan.specs.Boxes.{boundsAt}
-use Rattle.plan.specs.Refusals.{unless}
+use Rattle.plan.proofs.Refusing.{unless-true, unless-none}
 use Rattle.calendar.specs.declared.Triple.{Triple}
 use Rattle.calendar.specs.Triples.{validTriple, inBounds}
 use Rattle.schedule.specs.Schedule.{running, Feasible}
 use Rattle.schedule.specs.Entry.{tripleFault, hourFault, scheduleFault}
 
-module _ (test : Bool) (number place : ℕ) where
-  passed : unless test number place ≡ none → test ≡ true
-  unfolding unless
-  passed e = not-false test (if-none _ _ e)
-
-  no-fault : test ≡ true → unless test number place ≡ none
-  unfolding unless
-  no-fault e = none-if _ _ (ap not e)
-
 module _ (P : Plan) (boxes : List ℕ) (σ : ℕ → Triple) where
   triple-passed : (i : ℕ) → tripleFault P boxes σ i ≡ none
       → (inBounds (boundsAt boxes i) (σ i) ≡ true) × (validTriple (calendarOf P i) (workTimeOf P i) (σ i) ≡ true)
   unfolding tripleFault
-  triple-passed i e = let (a, b) = neither _ _ e in (passed _ 14 i a, passed _ 15 i b)
+  triple-passed i e = let (a, b) = neither _ _ e in (unless-none _ 14 i a, unless-none _ 15 i b)
 
   hour-passed : (t : ℕ) → hourFault P σ t ≡ none → running P σ t ≤ P .capacity
   unfolding hourFault
-  hour-passed t e = leb-true _ _ (passed _ 16 t e)
+  hour-passed t e = leb-true _ _ (unless-none _ 16 t e)
 
   pub faultless-feasible : scheduleFault P boxes σ ≡ none → Feasible P boxes σ
   unfolding scheduleFault
@@ -46,11 +37,11 @@ module _ (P : Plan) (boxes : List ℕ) (σ : ℕ → Triple) where
   no-triple-fault : (i : ℕ) → inBounds (boundsAt boxes i) (σ i) ≡ true → validTriple (calendarOf P i) (workTimeOf P i) (σ i) ≡ true
       → tripleFault P boxes σ i ≡ none
   unfolding tripleFault
-  no-triple-fault i h v = else-none _ _ (no-fault _ 14 i h) ∙ no-fault _ 15 i v
+  no-triple-fault i h v = else-none _ _ (unless-true _ 14 i h) ∙ unless-true _ 15 i v
 
   no-hour-fault : (t : ℕ) → running P σ t ≤ P .capacity → hourFault P σ t ≡ none
   unfolding hourFault
-  no-hour-fault t h = no-fault _ 16 t (le-leb _ _ h)
+  no-hour-fault t h = unless-true _ 16 t (le-leb _ _ h)
 
   pub feasible-faultless : Feasible P boxes σ → scheduleFault P boxes σ ≡ none
   unfolding scheduleFault

@@ -1,1 +1,5 @@
 pub mod Feasibility
+pub mod Testing
+pub mod Adding
+pub mod Readiness
+pub mod Decision

@@ -8,10 +8,12 @@ use lib.ListN.{length}
 use Rattle.units.specs.Choice.{_and_, _orElse_, firstOf}
 use Rattle.plan.specs.Plan.{Plan, taskCount, calendarOf, workTimeOf}
 use Rattle.plan.specs.Boxes.{boundsAt}
-use Rattle.plan.specs.Refusals.{Fault, unless, Answer, answerUnless}
+use Rattle.plan.specs.Refusals.{Fault, unless, Answer, refused, answered, faultOf, answerUnless}
 use Rattle.plan.specs.Faults.{oneForEachTask, planFault}
 use Rattle.calendar.specs.declared.Triple.{Triple}
 use Rattle.calendar.specs.Triples.{validTriple, inBounds}
+use Rattle.schedule.specs.declared.ScheduleChecked.{ScheduleChecked}
+use Rattle.schedule.specs.declared.ScheduleChecked.the-variants.{Refused, Feasible}
 use Rattle.schedule.specs.Schedule.{tripleAt, running, makespan}
 
 -- task by task 14, 15
@@ -40,3 +42,8 @@ checkSchedule P boxes schedule =
     orElse planFault P boxes
     orElse scheduleFault P boxes (tripleAt schedule))
     (makespan P (tripleAt schedule))
+
+-- the number and the values of each case of the answer
+abbrev pub scheduleAnswer : ScheduleChecked → Answer ℕ
+scheduleAnswer (Refused r) = refused (faultOf r)
+scheduleAnswer (Feasible end) = answered (end .0)

@@ -1,1 +1,270 @@
-// The schedule checker.
+// The schedule checker: whether a schedule is feasible, and its makespan.
+use calendar::Triple;
+use plan::Refusal;
+use plan::Tested;
+use units::Bounds;
+use units::Duration;
+use units::Height;
+use units::Hour;
+ghost use mathlib.Core.Path.{_≡_};
+ghost use mathlib.Core.List.{[]};
+ghost use Prim.Native.Nat.{_+_, _*_, _≤_, max};
+ghost use lib.Dec.{eqb, leb};
+ghost use lib.ListN.{length};
+ghost use Rattle.units.specs.Choice.{_orElse_, firstOf};
+ghost use Rattle.units.specs.Limits.{mostHours, within};
+ghost use Rattle.units.specs.Sums.{maxTo};
+ghost use Rattle.plan.specs.Plan.{plan};
+ghost use Rattle.plan.specs.Refusals.{unless, answerUnless, testedFault};
+ghost use Rattle.calendar.specs.Triples.{endOf, validTriple, inBounds};
+ghost use Rattle.schedule.specs.Schedule.{tripleAt, runs, makespan};
+ghost use Rattle.schedule.specs.Ready.{TriplesReady, HoursReady, EndsReady, runningHeights};
+ghost use Rattle.schedule.specs.Entry.{tripleFault, checkSchedule, scheduleAnswer};
+ghost use Rattle.schedule.specs.Decision.{Decides};
+
+// What the schedule checker answers; a feasible schedule with its makespan.
+pub enum ScheduleChecked {
+    Refused(Refusal),
+    Feasible(Hour),
+}
+
+// The triple of task i.
+fn triple_at(schedule: &[u16], i: usize) -> Triple
+    requires { ⌜ 3 * i + 3 ≤ length (now schedule) ⌝ }
+    ensures { λ r. ⌜ r ≡ tripleAt (now (schedule .entry)) i ⌝ }
+{
+    let first = 3 * i;
+    Triple {
+        start: Hour(schedule[first]),
+        elapsed: Duration(schedule[first + 1]),
+        overtime: Duration(schedule[first + 2]),
+    }
+}
+
+// Whether there are three numbers for each task. The length is divided, since three times a length may not fit.
+fn has_triples(schedule: &[u16], tasks: usize) -> bool
+    ensures { λ r. ⌜ r ≡ eqb (length (now (schedule .entry))) (3 * tasks) ⌝ }
+{
+    if schedule.len() % 3 != 0 {
+        return false;
+    }
+    schedule.len() / 3 == tasks
+}
+
+fn is_within(least: u16, most: u16, number: u16) -> bool
+    ensures { λ r. ⌜ r ≡ within least most number ⌝ }
+{
+    if number < least {
+        return false;
+    }
+    number <= most
+}
+
+// Whether a triple lies in a box.
+fn is_in_bounds(b: Bounds, t: Triple) -> bool
+    ensures { λ r. ⌜ r ≡ inBounds b t ⌝ }
+{
+    if !is_within(b.earliest.0, b.latest.0, t.start.0) {
+        return false;
+    }
+    if !is_within(b.shortest.0, b.longest.0, t.elapsed.0) {
+        return false;
+    }
+    is_within(b.fewest.0, b.most.0, t.overtime.0)
+}
+
+// 14, 15 of one task.
+fn test_triple(
+    task: usize,
+    calendar: &[u8],
+    work_time: Duration,
+    bounds: Bounds,
+    t: Triple,
+) -> Tested
+    requires { ⌜ length (now calendar) ≤ mostHours ⌝ }
+    ensures { λ r. ⌜ testedFault r ≡ (unless (inBounds bounds t) 14 task
+        orElse unless (validTriple (now (calendar .entry)) («work_time» .0) t) 15 task) ⌝ }
+{
+    if !is_in_bounds(bounds, t) {
+        return Tested::Refused(Refusal::OutsideBounds(task));
+    }
+    if !calendar::is_valid(calendar, work_time, t) {
+        return Tested::Refused(Refusal::NotValid(task));
+    }
+    Tested::Passed
+}
+
+// Task by task. No test of a triple asks for the capacity or the heights, so the contract puts 0 and none there.
+fn test_triples(
+    hours: Duration,
+    calendars: &[u8],
+    task_calendars: &[u16],
+    work_times: &[u16],
+    boxes: &[u16],
+    schedule: &[u16],
+) -> Tested
+    requires { ⌜ TriplesReady (hours .0) (now calendars) (now «task_calendars») (now «work_times») (now boxes) (now schedule) ⌝ }
+    ensures { λ r. ⌜ testedFault r ≡ firstOf
+        (tripleFault (plan (hours .0) 0 (now (calendars .entry)) (now («task_calendars» .entry)) (now («work_times» .entry)) []) (now (boxes .entry))
+        (tripleAt (now (schedule .entry))))
+        (length (now («task_calendars» .entry))) ⌝ }
+{
+    for i in 0..task_calendars.len() {
+        let tested = test_triple(
+            i,
+            plan::calendar_at(calendars, hours, task_calendars[i]),
+            Duration(work_times[i]),
+            plan::bounds_at(boxes, i),
+            triple_at(schedule, i),
+        );
+        let Tested::Passed = tested else {
+            return tested;
+        };
+    }
+    Tested::Passed
+}
+
+// Whether a task with the triple runs in the hour. The time since its start is compared, since an end may not fit.
+fn is_running(t: Triple, hour: Hour) -> bool
+    ensures { λ r. ⌜ r ≡ runs t (hour .0) ⌝ }
+{
+    let start = t.start;
+    if hour.0 < start.0 {
+        return false;
+    }
+    hour.since(start).0 < t.elapsed.0
+}
+
+// The heights of the tasks that run in the hour, added.
+fn running_heights(heights: &[u16], schedule: &[u16], hour: Hour) -> u16
+    requires { ⌜ HoursReady (now heights) (now schedule) ⌝ }
+    ensures { λ r. ⌜ r ≡ runningHeights (now (heights .entry)) (now (schedule .entry)) (hour .0) ⌝ }
+{
+    let mut sum = 0;
+    for i in 0..heights.len() {
+        if is_running(triple_at(schedule, i), hour) {
+            sum += heights[i];
+        }
+    }
+    sum
+}
+
+// 16, at the first hour in which the running tasks take more than the capacity.
+fn test_hours(hours: Duration, capacity: Height, heights: &[u16], schedule: &[u16]) -> Tested
+    requires { ⌜ HoursReady (now heights) (now schedule) ⌝ }
+    ensures { λ r. ⌜ testedFault r ≡ firstOf
+        (λ t. unless (leb (runningHeights (now (heights .entry)) (now (schedule .entry)) t) (capacity .0)) 16 t)
+        (hours .0) ⌝ }
+{
+    for hour in 0..hours.0 {
+        if capacity.0 < running_heights(heights, schedule, Hour(hour)) {
+            return Tested::Refused(Refusal::OverCapacity(hour as usize));
+        }
+    }
+    Tested::Passed
+}
+
+// The tests of a schedule: 31, the plan's tests, the triples, the hours.
+fn test_schedule(
+    hours: u16,
+    capacity: u16,
+    calendars: &[u8],
+    task_calendars: &[u16],
+    work_times: &[u16],
+    heights: &[u16],
+    boxes: &[u16],
+    schedule: &[u16],
+) -> Tested
+    ensures { λ r. ⌜ answerUnless (testedFault r) (makespan
+        (plan hours capacity (now (calendars .entry)) (now («task_calendars» .entry)) (now («work_times» .entry)) (now (heights .entry)))
+        (tripleAt (now (schedule .entry)))) ≡ checkSchedule
+        (plan hours capacity (now (calendars .entry)) (now («task_calendars» .entry)) (now («work_times» .entry)) (now (heights .entry)))
+        (now (boxes .entry)) (now (schedule .entry)) ⌝ }
+{
+    if !plan::has_one_for_each_task(task_calendars, work_times, heights, boxes) {
+        return Tested::Refused(Refusal::MemorySize);
+    }
+    if !has_triples(schedule, task_calendars.len()) {
+        return Tested::Refused(Refusal::MemorySize);
+    }
+    let input = plan::test_input(
+        hours,
+        capacity,
+        calendars,
+        task_calendars,
+        work_times,
+        heights,
+        boxes,
+    );
+    let Tested::Passed = input else {
+        return input;
+    };
+    let plan_length = Duration(hours);
+    let triples = test_triples(
+        plan_length,
+        calendars,
+        task_calendars,
+        work_times,
+        boxes,
+        schedule,
+    );
+    let Tested::Passed = triples else {
+        return triples;
+    };
+    test_hours(plan_length, Height(capacity), heights, schedule)
+}
+
+// The later of two hours.
+fn later(a: Hour, b: Hour) -> Hour
+    ensures { λ r. ⌜ r .0 ≡ max (a .0) (b .0) ⌝ }
+{
+    if a.0 <= b.0 { b } else { a }
+}
+
+// The largest end.
+fn latest_end(schedule: &[u16], tasks: usize) -> Hour
+    requires { ⌜ EndsReady (now schedule) tasks ⌝ }
+    ensures { λ r. ⌜ r .0 ≡ maxTo (λ i. endOf (tripleAt (now (schedule .entry)) i)) tasks ⌝ }
+{
+    let mut latest = Hour(0);
+    for i in 0..tasks {
+        let t = triple_at(schedule, i);
+        let start = t.start;
+        latest = later(latest, start.plus(t.elapsed));
+    }
+    latest
+}
+
+// The schedule checker: accepts exactly the feasible schedules of a plan that passes the tests, with the makespan.
+pub fn check_schedule(
+    hours: u16,
+    capacity: u16,
+    calendars: &[u8],
+    task_calendars: &[u16],
+    work_times: &[u16],
+    heights: &[u16],
+    boxes: &[u16],
+    schedule: &[u16],
+) -> ScheduleChecked
+    ensures { λ r. ⌜ scheduleAnswer r ≡ checkSchedule
+        (plan hours capacity (now (calendars .entry)) (now («task_calendars» .entry)) (now («work_times» .entry)) (now (heights .entry)))
+        (now (boxes .entry)) (now (schedule .entry)) ⌝ }
+    ensures exactly { λ r. ⌜ Decides
+        (plan hours capacity (now (calendars .entry)) (now («task_calendars» .entry)) (now («work_times» .entry)) (now (heights .entry)))
+        (now (boxes .entry)) (now (schedule .entry)) (scheduleAnswer r) ⌝ }
+{
+    let tested = test_schedule(
+        hours,
+        capacity,
+        calendars,
+        task_calendars,
+        work_times,
+        heights,
+        boxes,
+        schedule,
+    );
+    match tested {
+        Tested::Refused(refusal) => ScheduleChecked::Refused(refusal),
+        Tested::Passed => ScheduleChecked::Feasible(latest_end(schedule, task_calendars.len())),
+    }
+}

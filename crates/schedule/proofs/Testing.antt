@@ -1,0 +1,105 @@
+-- Laws of the tests of a schedule, from the numbers that the code holds. Assumes nothing.
+use mathlib.Core.Path.{_≡_, refl, sym, ap, _∙_}
+use mathlib.Core.Bool.{Bool, true, false}
+use mathlib.Core.Option.{Option}
+use mathlib.Core.List.{List, []}
+use Prim.Native.Nat.{ℕ, _+_, _-_, _*_, _/_, _%_, _≤_, _<_}
+use native.Mathlib.Omega.{arith}
+use lib.Dec.{eqb, leb, ltb}
+use lib.ListN.{length, getD, take, drop, length-take}
+use borrow.Author.Tests.{eqb-true, eqb-false, eq-eqb, ne-eqb, ltb-true, ltb-false, lt-ltb, le-ltb, le-leb, lt-leb}
+use Rattle.units.specs.Choice.{_orElse_, firstOf}
+use Rattle.units.specs.Limits.{hour, duration}
+use Rattle.units.specs.Sums.{sumWhere}
+use Rattle.units.specs.declared.Bounds.{Bounds}
+use Rattle.units.specs.declared.Duration.{Duration}
+use Rattle.units.specs.declared.Hour.{Hour}
+use Rattle.units.proofs.Choices.{not-left}
+use Rattle.plan.specs.Plan.{Plan, plan, taskCount, firstSymbol, calendarAt, calendarOf, workTimeOf, heightOf, heightsWhere}
+use Rattle.plan.specs.Boxes.{boundsAt}
+use Rattle.plan.specs.Refusals.{Fault, unless}
+use Rattle.plan.proofs.Refusing.{and-rest}
+use Rattle.calendar.specs.declared.Triple.{Triple}
+use Rattle.calendar.specs.Triples.{startOf, elapsedOf, endOf, validTriple, inBounds}
+use Rattle.schedule.specs.Schedule.{tripleAt, runs, running}
+use Rattle.schedule.specs.Ready.{runningHeights}
+use Rattle.schedule.specs.Entry.{tripleFault, hourFault}
+
+-- a length that is three for each task, by its third
+module _ (n k : ℕ) where
+  pub third : n % 3 ≡ 0 → eqb (n / 3) k ≡ eqb n (3 * k)
+  third e = go (eqb (n / 3) k) refl
+    where
+      go : (b : Bool) → eqb (n / 3) k ≡ b → eqb (n / 3) k ≡ eqb n (3 * k)
+      go true q = let l = eqb-true (n / 3) k q in q ∙ sym (eq-eqb n (3 * k) (omega arith))
+      go false q = let l = eqb-false (n / 3) k q in q ∙ sym (ne-eqb n (3 * k) (λ m. l (omega arith)))
+
+  pub no-third : (n % 3 ≡ 0 → ⊥) → eqb n (3 * k) ≡ false
+  no-third e = ne-eqb n (3 * k) (λ m. e (omega arith))
+
+-- an hour is before s + e if the time since s is less than e
+by-elapsed : (s e t d : ℕ) → s ≤ t → d ≡ t - s → ltb d e ≡ ltb t (s + e)
+by-elapsed s e t d l q = go (ltb d e) refl
+  where
+    go : (b : Bool) → ltb d e ≡ b → ltb d e ≡ ltb t (s + e)
+    go true h = let m = ltb-true d e h in h ∙ sym (lt-ltb t (s + e) (omega arith))
+    go false h = let m = ltb-false d e h in h ∙ sym (le-ltb t (s + e) (omega arith))
+
+module _ (x : Triple) (t : ℕ) where
+  pub not-started : t < startOf x → runs x t ≡ false
+  unfolding runs
+  not-started l = not-left _ _ (lt-leb _ _ l)
+
+  pub started : (since : Duration) → startOf x ≤ t → since ≡ duration (t - startOf x) → ltb (since .0) (elapsedOf x) ≡ runs x t
+  unfolding runs
+  started since l e =
+      by-elapsed _ _ _ _ l (ap (λ (d : Duration). d .0) e) ∙ sym (and-rest _ _ (le-leb _ _ l))
+
+-- of a triple that is another's equal
+module _ (x y : Triple) (is : x ≡ y) where
+  pub runs-as : (t : ℕ) (r b : Bool) → r ≡ runs x t → r ≡ b → runs y t ≡ b
+  runs-as t r b p q = rw (← is) (sym p ∙ q)
+
+  pub ends-as : (m : ℕ) → endOf y ≤ m → endOf x ≤ m
+  ends-as m l = rw is l
+
+  pub end-as : (h : Hour) → h ≡ hour (endOf x) → h .0 ≡ endOf y
+  end-as h e = rw (← is) (ap (λ (k : Hour). k .0) e)
+
+-- the capacity, held against heights that were added
+module _ (n r capacity : ℕ) (is : r ≡ n) where
+  pub exceeds : capacity < r → leb n capacity ≡ false
+  exceeds l = lt-leb n capacity (omega arith)
+
+  pub allows : r ≤ capacity → leb n capacity ≡ true
+  allows l = le-leb n capacity (omega arith)
+
+-- the first so many of a list
+pub taken-small : (l all : List ℕ) (n m : ℕ) → l ≡ take n all → n ≤ m → length l ≤ m
+taken-small l all n m e h = rw e (simp length-take (omega arith))
+
+module _ (P : Plan) (boxes schedule : List ℕ) where
+  pub triple-is : (i work : ℕ) (cal : List ℕ) (b : Bounds) (x : Triple) (r : Option Fault)
+      → cal ≡ take (P .hours) (drop (firstSymbol (P .hours) (getD (P .taskCalendars) i 0)) (P .calendars))
+      → work ≡ getD (P .workTimes) i 0
+      → b ≡ boundsAt boxes i → x ≡ tripleAt schedule i
+      → r ≡ (unless (inBounds b x) 14 i orElse unless (validTriple cal work x) 15 i)
+      → r ≡ tripleFault P boxes (tripleAt schedule) i
+  unfolding tripleFault calendarOf calendarAt workTimeOf
+  triple-is i work cal b x r p w q s e = rw (← p, ← w, ← q, ← s) e
+
+  -- the capacity and the heights play no part in the triples' tests
+  pub triples-are : firstOf (tripleFault (plan (P .hours) 0 (P .calendars) (P .taskCalendars) (P .workTimes) []) boxes (tripleAt schedule)) (length (P .taskCalendars))
+      ≡ firstOf (tripleFault P boxes (tripleAt schedule)) (taskCount P)
+  unfolding tripleFault calendarOf calendarAt workTimeOf taskCount
+  triples-are = refl
+
+-- one task for each height, so the code counts the heights
+pub hours-are : (P : Plan) (schedule : List ℕ) → length (P .heights) ≡ taskCount P
+    → firstOf (λ t. unless (leb (runningHeights (P .heights) schedule t) (P .capacity)) 16 t) (P .hours)
+    ≡ firstOf (hourFault P (tripleAt schedule)) (P .hours)
+unfolding hourFault running heightsWhere heightOf
+hours-are P schedule e =
+    ap
+    (λ (n : ℕ). firstOf (λ t. unless (leb (sumWhere (λ i. runs (tripleAt schedule i) t) (λ i. getD (P .heights) i 0) n) (P .capacity)) 16 t) (P .hours))
+    e

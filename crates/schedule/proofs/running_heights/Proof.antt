@@ -1,0 +1,76 @@
+use Rattle.schedule.proofs.Testing.{runs-as}
+use mathlib.Core.Path.{_≡_, refl, _∙_}
+use mathlib.Core.Logic.{⊎-elim}
+use Prim.Native.Nat.{_-_, _≤_}
+use native.Mathlib.Omega.{arith}
+use lib.ListN.{length, getD}
+use borrow.Author.Needs.{needs}
+use Rattle.units.specs.Limits.{mostHeight}
+use Rattle.units.specs.Sums.{sumTo, sumWhere}
+use Rattle.schedule.specs.Schedule.{tripleAt, runs}
+use Rattle.schedule.proofs.Adding.{sum-with, sum-without, sum-small}
+use Rattle.schedule.proofs.running_heights.Statement.{statement}
+use Rattle.schedule.proofs.running_heights.Tie as tie
+
+abbrev Inv-loop : tie.InvT-loop
+Inv-loop heights schedule hour sum₀ i₀ i-end sum i =
+    (i ≤ length heights) × (sum ≡ sumWhere (λ j. runs (tripleAt schedule j) (hour .0)) (λ j. getD heights j 0) i)
+
+abbrev μ-loop : tie.MeasureT-loop
+μ-loop heights schedule hour sum₀ i₀ i-end sum i = i-end - i
+
+loop-holds : tie.Need-loop-holds Inv-loop μ-loop
+unfolding sumWhere sumTo
+loop-holds c = (omega arith, refl)
+
+triple-at-requires : tie.Need-triple-at-requires Inv-loop μ-loop
+triple-at-requires c κs = search needs
+
+is-running-requires : tie.Need-is-running-requires Inv-loop μ-loop
+is-running-requires c κs = search needs
+
+mul-sum : tie.Need-mul-sum Inv-loop μ-loop
+mul-sum c = search needs
+
+shared-slice-read-sum : tie.Need-shared-slice-read-sum Inv-loop μ-loop
+shared-slice-read-sum c = search needs
+
+add-sum : tie.Need-add-sum Inv-loop μ-loop
+add-sum c =
+    let ready = c .before .before .before .before .before .before .before .before .pre in
+    omega (arith, ready .heights (c .before .before .before .before .before .loop .i) (omega arith), sum-small _ _ mostHeight _ _ (c .before .before .before .before .before .loop .inv .1) (λ j l. ready .heights j (omega arith)))
+
+add-i : tie.Need-add-i Inv-loop μ-loop
+add-i c = search needs
+
+loop-less : tie.Need-loop-less Inv-loop μ-loop
+loop-less c = search needs
+
+loop-again : tie.Need-loop-again Inv-loop μ-loop
+loop-again c =
+    let is = c .before .before .triple-at .ensures in
+    let runs-is = c .before .is-running .ensures in
+    let sum-is = c .before .before .before .before .loop .inv .1 in
+    (omega arith, ⊎-elim (λ w. w .2 ∙ sum-with _ _ _ _ sum-is (runs-as _ _ is _ _ _ runs-is (w .0 .taken))) (λ w. w .1 ∙ sum-without _ _ _ _ sum-is (runs-as _ _ is _ _ _ runs-is (w .0 .left))) (c .if1 .came))
+
+returns : tie.Need-returns Inv-loop μ-loop
+returns c =
+    let all : c .before .loop .i ≡ length (c .before .before .before .before .args .heights .now) = omega arith in
+    rw all at (c .before .loop .inv .1)
+
+pub running-heights-spec : {M : Type 1} → statement M
+running-heights-spec =
+    tie.close
+    (tie.spec
+    Inv-loop
+    μ-loop
+    loop-holds
+    triple-at-requires
+    is-running-requires
+    mul-sum
+    shared-slice-read-sum
+    add-sum
+    add-i
+    loop-less
+    loop-again
+    returns)
