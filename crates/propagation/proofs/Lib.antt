@@ -4,6 +4,7 @@ pub mod Changes
 pub mod Replays
 pub mod Runs
 pub mod Claim
+pub mod Contracts
 pub mod Fits
 pub mod Deciding
 pub mod Turns

@@ -1,0 +1,224 @@
+-- The claims that the contracts of the log checker and of the filter carry, over their definitions. Assumes nothing.
+use mathlib.Core.Path.{_≡_, refl, sym, ap, _∙_, subst}
+use mathlib.Core.Bool.{Bool, true, false, false≢true}
+use mathlib.Core.Option.{Option, none, some}
+use mathlib.Core.List.{List, [], _∷_, _++_, map}
+use Prim.Native.Nat.{ℕ, zero, suc, _+_, _*_, _≤_, _<_}
+use native.Mathlib.Numerals.{add-one}
+use native.Mathlib.Omega.{arith}
+use lib.ListN.{length, getD, drop}
+use Rattle.units.specs.Choice.{onOption, _orElse_, firstOf}
+use Rattle.units.proofs.Choices.{and-left, none≢some, option-all, if-some, else-case, neither, first-at}
+use Rattle.plan.specs.Plan.{Plan, taskCount}
+use Rattle.plan.specs.Boxes.{boundsAt}
+use Rattle.plan.specs.Refusals.{Fault, fault, unless, Answer, refused, answered, answerUnless}
+use Rattle.plan.specs.Faults.{taskFault, planFault}
+use Rattle.plan.proofs.Refusing.{unless-none}
+use Rattle.propagation.specs.declared.Step.{Step}
+use Rattle.calendar.specs.declared.Triple.{Triple}
+use Rattle.calendar.specs.Triples.{inBounds}
+use Rattle.schedule.specs.Schedule.{Feasible}
+use Rattle.propagation.specs.Steps.{judge}
+use Rattle.propagation.specs.Log.{LogEnd, logEnd, replayFrom, replay}
+use Rattle.propagation.specs.Filter.{Ending, settled, impossible, noRoom, Run, count, run}
+use Rattle.propagation.specs.Entry.{stepAt, stepsFrom, stepsIn, entryFault, Accepted, checkLog, checkAnswer, FilterAnswer, refusedBy, settledAfter, impossibleAfter, noRoomFor, endingAnswer, FilterEnd, written, logged, filterPlan}
+use Rattle.propagation.specs.Claim.{saidImpossible, CheckedHolds, FilterHolds}
+use Rattle.propagation.proofs.Judgements.{judgement-all}
+use Rattle.propagation.proofs.Replays.{accepted-admitted, admitted-accepted, replay-keeps, replay-possible}
+use Rattle.propagation.proofs.Runs.{next-none, run-replays, run-fits, run-short, run-rests}
+use Rattle.propagation.proofs.Claim.{boxes-sized}
+
+-- ---- the faults found before a log is read are none of the log's own
+
+not-13 : Fault → Type 0
+not-13 f = f .number ≡ 13 → ⊥
+
+by-unless : (test : Bool) (n place : ℕ) (f : Fault) → (n ≡ 13 → ⊥) → unless test n place ≡ some f → not-13 f
+unfolding unless not-13
+by-unless test n place f other e q = other (ap (λ (g : Fault). g .number) (if-some _ _ _ e .1) ∙ q)
+
+by-either : (x y : Option Fault) (f : Fault) → (x ≡ some f → not-13 f) → (y ≡ some f → not-13 f) → (x orElse y) ≡ some f → not-13 f
+by-either x y f p q e = else-case _ _ _ e (λ a b. q b) (λ g a b. p (a ∙ b))
+
+by-first : (find : ℕ → Option Fault) (n : ℕ) (f : Fault) → ((i : ℕ) → find i ≡ some f → not-13 f) → firstOf find n ≡ some f → not-13 f
+by-first find n f h e = let (i, l, q) = first-at find n f e in h i q
+
+module _ (P : Plan) (boxes : List ℕ) (f : Fault) where
+  task-fault : (i : ℕ) → taskFault P boxes i ≡ some f → not-13 f
+  unfolding taskFault
+  task-fault i =
+      by-either _ _ f (by-unless _ 6 i f (λ q. omega arith))
+      (by-either _ _ f (by-unless _ 7 i f (λ q. omega arith))
+      (by-either _ _ f (by-unless _ 8 i f (λ q. omega arith)) (by-unless _ 9 i f (λ q. omega arith))))
+
+  plan-fault : planFault P boxes ≡ some f → not-13 f
+  unfolding planFault
+  plan-fault =
+      by-either _ _ f (by-unless _ 2 0 f (λ q. omega arith))
+      (by-either _ _ f (by-unless _ 3 0 f (λ q. omega arith))
+      (by-either _ _ f (by-first _ _ f (λ k. by-unless _ 4 k f (λ q. omega arith)))
+      (by-either _ _ f (by-unless _ 5 0 f (λ q. omega arith))
+      (by-either _ _ f (by-unless _ 10 0 f (λ q. omega arith)) (by-first _ _ f task-fault)))))
+
+  entry-fault : (kinds tasks hours : List ℕ) → entryFault P boxes kinds tasks hours ≡ some f → not-13 f
+  unfolding entryFault
+  entry-fault kinds tasks hours = by-either _ _ f (by-unless _ 31 0 f (λ q. omega arith)) plan-fault
+
+-- ---- the log checker
+
+refused≢answered : {A C : Type 0} {f : Fault} {a : A} → refused f ≡ answered a → C
+refused≢answered e = absurd (let z : _≡_ {A = ℕ} 0 1 = cc in omega arith)
+
+module _ (P : Plan) (boxes kinds tasks hours : List ℕ) where
+  sized : entryFault P boxes kinds tasks hours ≡ none → length boxes ≡ 6 * taskCount P
+  unfolding entryFault
+  sized e = boxes-sized P boxes (and-left _ _ (unless-none _ 31 0 (neither _ _ e .0)))
+
+  refused-holds : (f : Fault) → entryFault P boxes kinds tasks hours ≡ some f → CheckedHolds P boxes kinds tasks hours (refused f) boxes
+  unfolding not-13
+  refused-holds f e =
+      record {
+        exactly = λ q. none≢some (sym q ∙ e);
+        keeps = λ σ F. F .inside;
+        noSchedule = λ steps q. refused≢answered q;
+        noScheduleAt = λ k q. absurd (entry-fault P boxes f kinds tasks hours e (let z : f ≡ fault 13 k = cc in ap (λ (g : Fault). g .number) z));
+      }
+
+-- a record that follows one which said impossible is refused by 13, and only such a one
+After-impossible : LogEnd → Type 0
+After-impossible e = (k : ℕ) → e .refusal ≡ some (fault 13 k) → e .impossible ≡ true
+
+other-number : {C : Type 0} (f g : Fault) → (f .number ≡ g .number → ⊥) → some f ≡ some g → C
+other-number f g ne e = absurd (ne (let z : f ≡ g = cc in ap (λ (h : Fault). h .number) z))
+
+refused-13 : (P : Plan) (k : ℕ) (boxes : List ℕ) (log : List Step) → After-impossible (replayFrom P k false boxes log)
+unfolding After-impossible replayFrom
+refused-13 P k boxes [] = λ n e. none≢some e
+refused-13 P k boxes (x ∷ xs) =
+    judgement-all After-impossible (judge P boxes x) _ _ _ _
+    (λ e n q. other-number _ _ (λ z. omega arith) q)
+    (λ e n q. other-number _ _ (λ z. omega arith) q)
+    (λ e. last xs)
+    (λ left e. refused-13 P (k + 1) left xs)
+  where
+    last : (ys : List Step) → After-impossible (replayFrom P (k + 1) true boxes ys)
+    last [] = λ n q. refl
+    last (y ∷ ys) = λ n q. refl
+
+answer-none : {A : Type 0} (o : Option Fault) (a b : A) → answerUnless o a ≡ answered b → (o ≡ none) × (a ≡ b)
+unfolding answerUnless
+answer-none none a b e = (refl, cc)
+answer-none (some f) a b e = refused≢answered e
+
+answer-some : {A : Type 0} (o : Option Fault) (a : A) (f : Fault) → answerUnless o a ≡ refused f → o ≡ some f
+unfolding answerUnless
+answer-some none a f e = refused≢answered (sym e)
+answer-some (some g) a f e = cc
+
+module _ (P : Plan) (boxes kinds tasks hours : List ℕ) where
+  abbrev end : LogEnd
+  end = replay P boxes (stepsIn kinds tasks hours)
+
+  replayed-holds : length boxes ≡ 6 * taskCount P → CheckedHolds P boxes kinds tasks hours (checkAnswer end) (end .boxes)
+  unfolding checkAnswer After-impossible
+  replayed-holds size =
+      record {
+        exactly = λ q. (
+          λ a. accepted-admitted P boxes (stepsIn kinds tasks hours) (answer-none (end .refusal) _ _ (a .1) .0),
+          λ a. let e = admitted-accepted P boxes (stepsIn kinds tasks hours) a in (record { steps = end .steps; impossible = end .impossible }, unfold answerUnless in (rw e)),
+        );
+        keeps = λ σ F. replay-keeps P boxes (stepsIn kinds tasks hours) size σ F .inside;
+        noSchedule = λ steps e σ F.
+            no-schedule σ F (ap (λ (a : Accepted). a .impossible) (answer-none (end .refusal) _ _ e .1));
+        noScheduleAt = λ k e σ F.
+            no-schedule σ F (unfold replay in (refused-13 P 0 boxes (stepsIn kinds tasks hours) k (answer-some (end .refusal) _ _ e)));
+      }
+    where
+      no-schedule : (σ : ℕ → Triple) → Feasible P boxes σ → end .impossible ≡ true → ⊥
+      no-schedule σ F e = false≢true (sym (replay-possible P boxes (stepsIn kinds tasks hours) size σ F) ∙ e)
+
+  pub check-holds : CheckedHolds P boxes kinds tasks hours (checkAnswer (checkLog P boxes kinds tasks hours)) (checkLog P boxes kinds tasks hours .boxes)
+  unfolding checkLog
+  check-holds =
+      option-all (λ (e : LogEnd). CheckedHolds P boxes kinds tasks hours (checkAnswer e) (e .boxes)) (entryFault P boxes kinds tasks hours) _ _
+      (λ e. replayed-holds (sized P boxes kinds tasks hours e))
+      (λ f e. unfold checkAnswer answerUnless in (refused-holds P boxes kinds tasks hours f e))
+
+-- ---- the filter
+
+steps-shift : (a b c : ℕ) (ks ts hs : List ℕ) (k n : ℕ) → stepsFrom (a ∷ ks) (b ∷ ts) (c ∷ hs) (k + 1) n ≡ stepsFrom ks ts hs k n
+unfolding stepsFrom stepAt
+steps-shift a b c ks ts hs k zero = refl
+steps-shift a b c ks ts hs k (suc n) = rw (steps-shift a b c ks ts hs (k + 1) n, add-one k)
+
+-- the steps in the cells that a log was written to
+steps-written : (log : List Step) (ks ts hs : List ℕ)
+    → stepsFrom (map (λ x. x .kind) log ++ ks) (map (λ x. x .task) log ++ ts) (map (λ x. x .hour) log ++ hs) 0 (length log) ≡ log
+unfolding stepsFrom stepAt
+steps-written [] ks ts hs = refl
+steps-written (x ∷ xs) ks ts hs = ap (λ (l : List Step). x ∷ l) (steps-shift _ _ _ _ _ _ 0 (length xs) ∙ steps-written xs ks ts hs)
+
+refused≢ending : {C : Type 0} (f : Fault) (e : Ending) (n : ℕ) → refusedBy f ≡ endingAnswer e n → C
+unfolding endingAnswer
+refused≢ending f settled n q = absurd (let z : _≡_ {A = ℕ} 0 1 = cc in omega arith)
+refused≢ending f impossible n q = absurd (let z : _≡_ {A = ℕ} 0 1 = cc in omega arith)
+refused≢ending f noRoom n q = absurd (let z : _≡_ {A = ℕ} 0 1 = cc in omega arith)
+
+same-ending : (d e : Ending) (m n : ℕ) → endingAnswer d m ≡ endingAnswer e n → (d ≡ e) × (m ≡ n)
+unfolding endingAnswer
+same-ending settled settled m n q = (refl, cc)
+same-ending settled impossible m n q = absurd (let z : _≡_ {A = ℕ} 0 1 = cc in omega arith)
+same-ending settled noRoom m n q = absurd (let z : _≡_ {A = ℕ} 0 1 = cc in omega arith)
+same-ending impossible settled m n q = absurd (let z : _≡_ {A = ℕ} 0 1 = cc in omega arith)
+same-ending impossible impossible m n q = (refl, cc)
+same-ending impossible noRoom m n q = absurd (let z : _≡_ {A = ℕ} 0 1 = cc in omega arith)
+same-ending noRoom settled m n q = absurd (let z : _≡_ {A = ℕ} 0 1 = cc in omega arith)
+same-ending noRoom impossible m n q = absurd (let z : _≡_ {A = ℕ} 0 1 = cc in omega arith)
+same-ending noRoom noRoom m n q = (refl, cc)
+
+module _ (P : Plan) (boxes kinds tasks hours : List ℕ) where
+  abbrev Holds : FilterEnd → Type 0
+  Holds l = FilterHolds P boxes (length kinds) (l .answer) (l .boxes) (l .kinds) (l .tasks) (l .hours)
+
+  no-run-holds : (f : Fault) → Holds (record { answer = refusedBy f; boxes = boxes; kinds = kinds; tasks = tasks; hours = hours })
+  no-run-holds f =
+      record {
+        own = λ e n q. refused≢ending f e n q;
+        fits = λ e n q. refused≢ending f e n q;
+        short = λ e n q. refused≢ending f e n q;
+        settles = λ n q. refused≢ending f settled n (unfold endingAnswer in q);
+        keeps = λ σ F. F .inside;
+        noSchedule = λ n q. refused≢ending f impossible n (unfold endingAnswer in q);
+      }
+
+  run-holds : length boxes ≡ 6 * taskCount P → Holds (logged (run P boxes (length kinds)) kinds tasks hours)
+  unfolding logged written endingAnswer
+  run-holds size =
+      record {
+        own = λ e n q.
+            let s = same-ending (r .ending) e (count r) n q in
+            rw (← s .0, ← s .1) (ap (replay P boxes) (steps-written (r .log) _ _ _) ∙ run-replays P boxes (length kinds));
+        fits = λ e n q. rw (← (same-ending (r .ending) e (count r) n q .1)) (run-fits P boxes (length kinds));
+        short = λ e n q. rw (← (same-ending (r .ending) e (count r) n q .1)) (run-short P boxes (length kinds) size);
+        settles = λ n q. next-none P (r .boxes) (run-rests P boxes (length kinds) (same-ending (r .ending) settled (count r) n q .0));
+        keeps = λ σ F. subst (λ (l : LogEnd). (i : ℕ) → i < taskCount P → inBounds (boundsAt (l .boxes) i) (σ i) ≡ true) (run-replays P boxes (length kinds))
+            (replay-keeps P boxes (r .log) size σ F .inside);
+        noSchedule = λ n q σ F.
+            false≢true
+            (sym (replay-possible P boxes (r .log) size σ F)
+            ∙ ap (λ (l : LogEnd). l .impossible) (run-replays P boxes (length kinds))
+            ∙ said (same-ending (r .ending) impossible (count r) n q .0));
+      }
+    where
+      r : Run
+      r = run P boxes (length kinds)
+
+      said : {e : Ending} → e ≡ impossible → saidImpossible e ≡ true
+      said e = unfold saidImpossible in (rw e)
+
+  pub filter-holds : Holds (filterPlan P boxes kinds tasks hours)
+  unfolding filterPlan
+  filter-holds =
+      option-all Holds (entryFault P boxes kinds tasks hours) _ _
+      (λ e. run-holds (sized P boxes kinds tasks hours e))
+      (λ f e. no-run-holds f)
