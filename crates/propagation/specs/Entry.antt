@@ -1,6 +1,7 @@
 -- The log checker and the filter as entry points: what each answers and leaves in lent memory (01, "Steps", and the order of refusals).
 use mathlib.Core.Bool.{Bool, true, false}
 use mathlib.Core.Option.{Option, none, some}
+use mathlib.Core.Path.{_≡_}
 use mathlib.Core.List.{List, [], _∷_, _++_, map}
 use Prim.Native.Nat.{ℕ, zero, suc, _+_}
 use lib.Dec.{eqb}
@@ -76,6 +77,14 @@ pub record FilterEnd : Type 0 where
   pub kinds : List ℕ
   pub tasks : List ℕ
   pub hours : List ℕ
+
+-- an answer and the contents of the memory lent are those of an end, number for number
+pub record Leaves (e : FilterEnd) (answer : FilterAnswer) (boxes kinds tasks hours : List ℕ) : Type 0 where
+  pub answers : answer ≡ e .answer
+  pub leaves-boxes : boxes ≡ e .boxes
+  pub leaves-kinds : kinds ≡ e .kinds
+  pub leaves-tasks : tasks ≡ e .tasks
+  pub leaves-hours : hours ≡ e .hours
 
 -- the cells from the first on become xs; those past them are untouched
 unfoldable pub written : List ℕ → List ℕ → List ℕ
