@@ -1,0 +1,17 @@
+use mathlib.Core.Path.{sym}
+use borrow.Author.Tests.{lt-ltb, le-ltb}
+use Rattle.units.specs.Limits.{isHour}
+use Rattle.units.proofs.Choices.{not-left}
+use Rattle.plan.proofs.Refusing.{and-rest}
+use Rattle.propagation.proofs.judge.is_task_hour.Statement.{statement}
+use Rattle.propagation.proofs.judge.is_task_hour.Tie as tie
+
+returns : tie.Need-returns
+returns c = sym (not-left _ _ (le-ltb _ _ (c .if1 .taken)))
+
+returns-2 : tie.Need-returns-2
+unfolding isHour
+returns-2 c = sym (and-rest _ _ (lt-ltb _ _ (c .before .if1 .left)))
+
+pub is-task-hour-spec : {M : Type 1} → statement M
+is-task-hour-spec = tie.close (tie.spec returns returns-2)
