@@ -9,3 +9,5 @@ pub mod Fits
 pub mod Deciding
 pub mod Turns
 pub mod Weeks
+pub mod Hunting
+pub mod Filling

@@ -8,3 +8,5 @@ pub mod Claim
 pub mod Fitting
 pub mod Kept
 pub mod Weeks
+pub mod Ready
+pub mod Hunt

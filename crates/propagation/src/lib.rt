@@ -2,8 +2,10 @@
 use plan::Refusal;
 use units::Bounds;
 
+mod first;
 mod judge;
 mod kept;
+mod load;
 
 // A step of a log: its kind, a letter as one byte, a task and an hour. A field that the kind does not use is 0.
 pub struct Step {

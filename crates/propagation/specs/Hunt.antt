@@ -1,0 +1,53 @@
+-- The words of the hunt for the first admitted step. Only contracts of private functions cite this; 01 has no such terms.
+use mathlib.Core.Bool.{Bool, true, false}
+use mathlib.Core.Option.{Option}
+use mathlib.Core.Path.{_≡_}
+use mathlib.Core.List.{List}
+use Prim.Native.Nat.{ℕ, _+_, _<_}
+use lib.ListN.{length, getD}
+use Rattle.units.specs.Choice.{if_then_else_, firstOf}
+use Rattle.units.specs.Sums.{sumWhere}
+use Rattle.units.specs.declared.Bounds.{Bounds}
+use Rattle.calendar.specs.declared.Window.{Window}
+use Rattle.calendar.specs.declared.Fit.{Fit}
+use Rattle.calendar.specs.declared.Fit.the-variants.{Never, Within}
+use Rattle.calendar.specs.Rule.{lst, ect}
+use Rattle.propagation.specs.declared.Step.{Step}
+use Rattle.propagation.specs.declared.Judged.{Judged}
+use Rattle.propagation.specs.Load.{mustRun}
+use Rattle.propagation.specs.Steps.{step, letterC, letterO, letterL, letterU}
+use Rattle.propagation.specs.Kept.{loadOf, onJudged, admittedBy}
+
+-- a step so judged is admitted
+unfoldable pub admits : Judged → Bool
+admits j = onJudged j false false true (λ b. true)
+
+-- L moves the lower S, U the upper
+unfoldable pub letterOf : Bool → ℕ
+letterOf lower = if lower then letterL else letterU
+
+-- the hours from the first up to before the end are those in which the step can be admitted: lower S ≤ t < ect, or lst ≤ t < upper S + lower E
+unfoldable pub firstHour : Bool → Window → Bounds → ℕ
+firstHour lower w b = if lower then b .earliest .0 else lst w
+
+unfoldable pub endHour : Bool → Window → Bounds → ℕ
+endHour lower w b = if lower then ect w else b .latest .0 + b .shortest .0
+
+-- what a task's compulsory part adds to the load of an hour
+unfoldable pub partAt : Fit → ℕ → ℕ → ℕ
+partAt fit height t = if mustRun fit t then height else 0
+
+-- the numbers are the loads of the hours
+abbrev pub Loaded : List ℕ → List Fit → List ℕ → Type 0
+Loaded loads fits heights = (t : ℕ) → t < length loads → getD loads t 0 ≡ loadOf fits heights t
+
+-- the first admitted step of a kind, from H, the capacity, the heights, the boxes and the answers kept
+module _ (hours capacity : ℕ) (heights boxes : List ℕ) (fits : List Fit) where
+  unfoldable pub firstCalendar : Option Step
+  firstCalendar = firstOf (λ i. admittedBy hours capacity heights boxes fits (step letterC i 0)) (length heights)
+
+  unfoldable pub firstOverload : Option Step
+  firstOverload = firstOf (λ t. admittedBy hours capacity heights boxes fits (step letterO 0 t)) hours
+
+  unfoldable pub firstCrowded : Bool → Option Step
+  firstCrowded lower = firstOf (λ i. firstOf (λ t. admittedBy hours capacity heights boxes fits (step (letterOf lower) i t)) hours) (length heights)
