@@ -2,17 +2,17 @@
 use mathlib.Core.Path.{_≡_, refl, sym, ap, _∙_}
 use mathlib.Core.Logic.{_≢_}
 use mathlib.Core.Bool.{Bool, true, false}
-use mathlib.Core.List.{List}
+use mathlib.Core.List.{List, _++_}
 use Prim.Native.Nat.{ℕ, zero, suc, _+_, _*_, _≤_, _<_, min}
 use native.Mathlib.Numerals.{add-one}
 use native.Mathlib.Omega.{arith}
 use lib.Dec.{leb, ltb, eqb}
-use lib.ListN.{length, getD, set, length-set}
-use lib.Seq.{getD-set-same, getD-set-other}
+use lib.ListN.{length, getD, set, take, drop, replicate, length-set}
+use lib.Seq.{getD-set-same, getD-set-other, length-take-le, length-front, take-at}
 use borrow.Author.Tests.{lt-ltb, le-ltb, le-leb, lt-leb, ltb-true, ltb-false, eqb-true, eqb-false}
 use Rattle.units.specs.Choice.{if_then_else_}
 use Rattle.units.specs.Sums.{sumTo, sumWhere}
-use Rattle.units.specs.Limits.{mostTasks, mostHeight}
+use Rattle.units.specs.Limits.{mostHours, mostTasks, mostHeight}
 use Rattle.units.proofs.Choices.{and-both, not-left, not-right, if-true, if-false, if-all}
 use Rattle.calendar.specs.declared.Window.{Window}
 use Rattle.calendar.specs.declared.Fit.{Fit}
@@ -128,7 +128,7 @@ module _ (fits : List Fit) (heights : List ℕ) where
     load-most h (suc n) l =
         let below = load-most h n (omega arith) in
         let one =
-            if-all (λ (k : ℕ). k ≤ mostHeight) (mustRun (getD fits n Never) t) (getD heights n 0) 0 (λ q. h n (omega arith)) (λ q. omega arith) in
+        if-all (λ (k : ℕ). k ≤ mostHeight) (mustRun (getD fits n Never) t) (getD heights n 0) 0 (λ q. h n (omega arith)) (λ q. omega arith) in
         omega arith
 
 -- the numbers hold the sums over the first n tasks
@@ -173,3 +173,32 @@ pub loaded-fits : (loads heights boxes : List ℕ) (fits : List Fit) (i t : ℕ)
     → i < length heights → t < length loads → getD heights i 0 + getD loads t 0 < 65536
 loaded-fits loads heights boxes fits i t r h l m =
     omega (arith, r .tasks, r .height i l, h t m, sym (load-all fits heights t), load-most fits heights t (r .height) (length heights) (omega arith))
+
+-- ---- the first numbers of an array, lent and filled
+
+-- the array that is lent
+unfoldable pub zeros : List ℕ
+zeros = replicate mostHours 0
+
+module _ (hours : ℕ) (l : hours ≤ mostHours) where
+  pub lent-length : hours ≡ length (take hours zeros)
+  unfolding zeros
+  lent-length = sym (length-take-le hours zeros l)
+
+  module _ (new : List ℕ) (e : length new ≡ length (take hours zeros)) where
+    pub back-room : hours ≤ length (new ++ drop hours zeros)
+    unfolding zeros
+    back-room = rw (length-front zeros new hours e) l
+
+    pub back-front : take hours (new ++ drop hours zeros) ≡ new
+    back-front = take-at new (drop hours zeros) hours (e ∙ sym lent-length)
+
+    pub back-hours : hours ≡ length (take hours (new ++ drop hours zeros))
+    back-hours = lent-length ∙ sym e ∙ sym (ap length back-front)
+
+    pub back-ready : (heights boxes : List ℕ) → Ready hours heights boxes → Ready (length (take hours (new ++ drop hours zeros))) heights boxes
+    back-ready heights boxes r = rw (← back-hours) r
+
+    pub back-loaded : (fits : List Fit) (heights : List ℕ) → ((t : ℕ) → t < length (take hours zeros) → getD new t 0 ≡ loadOf fits heights t)
+        → Loaded (take hours (new ++ drop hours zeros)) fits heights
+    back-loaded fits heights h = rw back-front (λ t m. h t (omega arith))

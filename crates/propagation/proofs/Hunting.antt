@@ -243,3 +243,28 @@ overload-plain capacity heights boxes fits loads h =
 pub ends-soon : (hours : ℕ) (heights boxes : List ℕ) (i : ℕ) (b : Bounds) → Ready hours heights boxes → i < length heights → b ≡ boundsAt boxes i
     → b .latest .0 + b .shortest .0 < 65536
 ends-soon hours heights boxes i b r l e = rw e (omega (arith, r .hours, r .latest i l, r .shortest i l))
+
+-- ---- the first of all, from the hunts for each kind
+
+module _ (hours capacity : ℕ) (heights boxes : List ℕ) (fits : List Fit) where
+  next-is : nextBy hours capacity heights boxes fits
+      ≡ (firstCalendar hours capacity heights boxes fits
+      orElse firstOverload hours capacity heights boxes fits
+      orElse firstCrowded hours capacity heights boxes fits true
+      orElse firstCrowded hours capacity heights boxes fits false)
+  unfolding nextBy firstCalendar firstOverload firstCrowded letterOf if_then_else_
+  next-is = refl
+
+  module _ {r : Option Step} (e : r ≡ firstCalendar 0 0 heights boxes fits) where
+    pub next-calendar : {x : Step} → r ≡ some x → r ≡ nextBy hours capacity heights boxes fits
+    next-calendar q = hunt-ends _ _ (e ∙ calendar-plain hours capacity heights boxes fits) q ∙ sym next-is
+
+    -- the loads number as many as the hours
+    pub next-by-load : {s : Option Step} (count : ℕ) → hours ≡ count → r ≡ none
+        → s
+        ≡ (firstOverload count capacity heights boxes fits
+        orElse firstCrowded count capacity heights boxes fits true
+        orElse firstCrowded count capacity heights boxes fits false)
+        → s ≡ nextBy hours capacity heights boxes fits
+    next-by-load count n q k =
+        hunt-goes-on _ _ (e ∙ calendar-plain hours capacity heights boxes fits) q (rw (← n) at k) ∙ sym next-is

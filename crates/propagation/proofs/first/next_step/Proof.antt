@@ -1,58 +1,53 @@
+use mathlib.Core.Path.{ap}
+use native.Mathlib.Omega.{arith}
 use borrow.Author.Needs.{needs}
+use Rattle.propagation.specs.Kept.{foundStep}
+use Rattle.propagation.proofs.Hunting.{next-calendar, next-by-load}
+use Rattle.propagation.proofs.Filling.{zeros, lent-length, back-room, back-hours, back-ready, back-loaded}
 use Rattle.propagation.proofs.first.next_step.Statement.{statement}
 use Rattle.propagation.proofs.first.next_step.Tie as tie
-use Rattle.propagation.proofs.first.next_step.Reads as reads
-use Rattle.propagation.proofs.first.next_step.Lts as lts
-use Rattle.propagation.proofs.first.first_by_load.Reads as first-by-load-reads
-use Rattle.propagation.proofs.first.first_calendar.Reads as first-calendar-reads
-use Rattle.propagation.proofs.load.fill_loads.Reads as fill-loads-reads
 
--- src/first.rt:170:9
 first-calendar-requires : tie.Need-first-calendar-requires
 first-calendar-requires c κs = search needs
 
 enum-told : tie.Need-enum-told
 enum-told c = search needs
 
--- src/first.rt:172:9
 enum-told-2 : tie.Need-enum-told-2
 enum-told-2 c = search needs
 
--- src/first.rt:172:9
 returns : tie.Need-returns
-returns c = ?
+returns c = next-calendar _ _ _ _ _ (c .before .before .first-calendar .ensures) (ap foundStep (c .enum-told2 .given .1))
 
--- src/first.rt:175:17
 cast-count : tie.Need-cast-count
 cast-count c = search needs
 
--- src/first.rt:176:22
 array-borrow-prefix-room : tie.Need-array-borrow-prefix-room
 array-borrow-prefix-room c = search needs
 
--- src/first.rt:176:22
 slice-aggregate-fill-loads : tie.Need-slice-aggregate-fill-loads
-slice-aggregate-fill-loads c = ?
+unfolding zeros
+slice-aggregate-fill-loads c = lent-length _ (c .before .before .before .before .before .before .before .pre .hours)
 
--- src/first.rt:176:5
 fill-loads-requires : tie.Need-fill-loads-requires
-fill-loads-requires c κs = ?
+unfolding zeros
+fill-loads-requires c κs = (omega (arith, lent-length _ (c .before .before .before .before .before .before .before .pre .hours)), c .before .before .before .before .before .before .before .pre .tasks, c .before .before .before .before .before .before .before .pre .height)
 
--- src/first.rt:177:51
 array-share-prefix-room : tie.Need-array-share-prefix-room
-array-share-prefix-room c = ?
+unfolding zeros
+array-share-prefix-room c = back-room _ (c .before .before .before .before .before .before .before .before .before .pre .hours) (c .before .fill-loads .last .0) (c .before .fill-loads .ensures .0)
 
--- src/first.rt:177:51
 slice-aggregate-first-by-load : tie.Need-slice-aggregate-first-by-load
-slice-aggregate-first-by-load c = ?
+unfolding zeros
+slice-aggregate-first-by-load c = back-hours _ (c .before .before .before .before .before .before .before .before .before .before .pre .hours) (c .before .before .fill-loads .last .0) (c .before .before .fill-loads .ensures .0)
 
--- src/first.rt:177:5
 first-by-load-requires : tie.Need-first-by-load-requires
-first-by-load-requires c κs = ?
+unfolding zeros
+first-by-load-requires c κs = (back-ready _ (c .before .before .before .before .before .before .before .before .before .before .pre .hours) (c .before .before .fill-loads .last .0) (c .before .before .fill-loads .ensures .0) _ _ (c .before .before .before .before .before .before .before .before .before .before .pre), back-loaded _ (c .before .before .before .before .before .before .before .before .before .before .pre .hours) (c .before .before .fill-loads .last .0) (c .before .before .fill-loads .ensures .0) _ _ (c .before .before .fill-loads .ensures .1))
 
--- src/first.rt:160:1
 returns-2 : tie.Need-returns-2
-returns-2 c = ?
+unfolding zeros
+returns-2 c = next-by-load _ _ _ _ _ (c .before .before .before .before .before .before .before .before .first-calendar .ensures) _ (back-hours _ (c .before .before .before .before .before .before .before .before .before .before .before .pre .hours) (c .before .before .before .fill-loads .last .0) (c .before .before .before .fill-loads .ensures .0)) (ap foundStep (c .before .before .before .before .before .before .enum-told .given .1)) (c .first-by-load .ensures)
 
 pub next-step-spec : {M : Type 1} → statement M
 next-step-spec =
