@@ -6,11 +6,10 @@ use mathlib.Core.List.{List, _++_}
 use Prim.Native.Nat.{ℕ, zero, suc, _+_, _*_, _≤_, _<_, min}
 use native.Mathlib.Numerals.{add-one}
 use native.Mathlib.Omega.{arith}
-use lib.Dec.{leb, ltb, eqb}
+use lib.Dec.{ltb, eqb}
 use lib.ListN.{length, getD, set, take, drop, replicate, length-set}
 use lib.Seq.{getD-set-same, getD-set-other, length-take-le, length-front, take-at}
 use borrow.Author.Tests.{lt-ltb, le-ltb, le-leb, lt-leb, ltb-true, ltb-false, eqb-true, eqb-false}
-use Rattle.units.specs.Choice.{if_then_else_}
 use Rattle.units.specs.Sums.{sumTo, sumWhere}
 use Rattle.units.specs.Limits.{mostHours, mostTasks, mostHeight}
 use Rattle.units.proofs.Choices.{and-both, not-left, not-right, if-true, if-false, if-all}

@@ -12,7 +12,7 @@ use borrow.Author.Tests.{lt-ltb, le-ltb, le-leb, lt-leb, ltb-true, ltb-false}
 use Rattle.units.specs.Choice.{_and_, if_then_else_, someIf, _orElse_, firstOf}
 use Rattle.units.specs.Limits.{isHour}
 use Rattle.units.specs.declared.Bounds.{Bounds}
-use Rattle.units.proofs.Choices.{and-both, not-left, not-right, if-true, if-all, some-if, none-if, else-none, else-some, first-none, first-all-none, first-next, first-hit}
+use Rattle.units.proofs.Choices.{and-both, not-left, not-right, if-true, if-all, none-if, else-none, else-some, first-none, first-all-none, first-next, first-hit}
 use Rattle.plan.specs.Boxes.{boundsAt}
 use Rattle.plan.proofs.Refusing.{and-rest}
 use Rattle.calendar.specs.declared.Window.{Window}

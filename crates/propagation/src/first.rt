@@ -10,7 +10,7 @@ use units::Bounds;
 use units::Duration;
 ghost use mathlib.Core.Bool.{true, false};
 ghost use mathlib.Core.Path.{_≡_};
-ghost use Prim.Native.Nat.{_+_, _*_, _≤_, _<_, min};
+ghost use Prim.Native.Nat.{_+_, _*_, _≤_, _<_};
 ghost use lib.Dec.{ltb};
 ghost use lib.ListN.{length, getD};
 ghost use Rattle.units.specs.Choice.{someIf, firstOf, _orElse_};
@@ -94,7 +94,8 @@ fn end_hour(lower: bool, w: Window, b: Bounds) -> u16
     b.latest.0 + b.shortest.0
 }
 
-// The first L, or the first U, by task, then hour. The hours outside first_hour to end_hour are passed over, and a task with no valid triple is.
+// The first L, or the first U, by task, then hour. A task with no valid triple is skipped, and so are the hours in which no step of its can be
+// admitted.
 pub fn first_crowded(
     lower: bool,
     capacity: u16,

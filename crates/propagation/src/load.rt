@@ -20,6 +20,7 @@ pub fn clipped(end: u16, hours: usize) -> u16
     hours as u16
 }
 
+// Sets every number to 0.
 fn clear(loads: &mut [u16])
     ensures { λ _. ⌜ (length (now (loads .exit)) ≡ length (now (loads .entry)))
         × ((t : ℕ) → t < length (now (loads .entry)) → getD (now (loads .exit)) t 0 ≡ 0) ⌝ }

@@ -1,12 +1,11 @@
 use mathlib.Core.Path.{_≡_, refl, sym, ap, _∙_}
 use mathlib.Core.Option.{none}
-use Prim.Native.Nat.{_≤_, _<_, _-_, ℕ}
+use Prim.Native.Nat.{_≤_, _-_}
 use native.Mathlib.Omega.{arith}
-use lib.ListN.{length, getD}
+use lib.ListN.{length}
 use borrow.Author.Needs.{needs}
 use Rattle.units.specs.Choice.{firstOf}
 use Rattle.units.proofs.Choices.{some-if, none-if, first-next}
-use Rattle.plan.specs.Boxes.{boundsAt}
 use Rattle.plan.proofs.Refusing.{first-end}
 use Rattle.propagation.specs.declared.Found.the-variants.{Nothing}
 use Rattle.propagation.specs.Kept.{foundStep}

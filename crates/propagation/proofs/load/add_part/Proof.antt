@@ -1,7 +1,5 @@
-use mathlib.Core.Path.{_≡_, refl, sym, ap, _∙_}
-use Prim.Native.Nat.{_≤_, _<_, _-_, ℕ}
+use Prim.Native.Nat.{_-_}
 use native.Mathlib.Omega.{arith}
-use lib.ListN.{length, getD, length-set}
 use borrow.Author.Needs.{needs}
 use Rattle.propagation.proofs.Filling.{Raised, raised-none, raised-next, raised-all}
 use Rattle.propagation.proofs.load.add_part.Statement.{statement}
