@@ -24,6 +24,10 @@ pub data Answer (A : Type 0) : Type 0 where
   refused : Fault → Answer A
   answered : A → Answer A
 
+unfoldable pub onAnswer : {A B : Type 0} → Answer A → (Fault → B) → (A → B) → B
+onAnswer (refused f) g h = g f
+onAnswer (answered a) g h = h a
+
 -- the answer, unless there is a fault
 unfoldable pub answerUnless : {A : Type 0} → Option Fault → A → Answer A
 answerUnless none a = answered a

@@ -7,6 +7,7 @@ use Prim.Native.Nat.{ℕ, zero, suc, _+_, _*_, _≤_, _<_}
 use native.Mathlib.Numerals.{add-one}
 use native.Mathlib.Omega.{arith}
 use lib.ListN.{length, getD, drop}
+use Rattle.units.specs.Cells.{written}
 use Rattle.units.specs.Choice.{onOption, _orElse_, firstOf}
 use Rattle.units.proofs.Choices.{and-left, none≢some, option-all, if-some, else-case, neither, first-at}
 use Rattle.plan.specs.Plan.{Plan, taskCount}
@@ -21,7 +22,7 @@ use Rattle.schedule.specs.Schedule.{Feasible}
 use Rattle.propagation.specs.Steps.{judge}
 use Rattle.propagation.specs.Log.{LogEnd, logEnd, replayFrom, replay}
 use Rattle.propagation.specs.Filter.{Ending, settled, impossible, noRoom, Run, count, run}
-use Rattle.propagation.specs.Entry.{stepAt, stepsFrom, stepsIn, entryFault, Accepted, checkLog, checkAnswer, FilterAnswer, refusedBy, settledAfter, impossibleAfter, noRoomFor, endingAnswer, FilterEnd, written, logged, filterPlan}
+use Rattle.propagation.specs.Entry.{stepAt, stepsFrom, stepsIn, entryFault, Accepted, checkLog, checkAnswer, FilterAnswer, refusedBy, settledAfter, impossibleAfter, noRoomFor, endingAnswer, FilterEnd, logged, filterPlan}
 use Rattle.propagation.specs.Claim.{saidImpossible, CheckedHolds, FilterHolds}
 use Rattle.propagation.proofs.Judgements.{judgement-all}
 use Rattle.propagation.proofs.Replays.{accepted-admitted, admitted-accepted, replay-keeps, replay-possible}

@@ -9,6 +9,7 @@ use native.Mathlib.Decide.{ℕ-discrete}
 use native.Mathlib.Omega.{arith}
 use lib.ListN.{length, getD, set, drop, length-map, length-append}
 use lib.Seq.{getD-set-same, getD-set-other, drop-cons, set-at}
+use Rattle.units.specs.Cells.{written}
 use Rattle.units.specs.Choice.{onOption}
 use Rattle.units.specs.declared.Bounds.{Bounds}
 use Rattle.plan.specs.Plan.{Plan, plan, taskCount}
@@ -23,7 +24,7 @@ use Rattle.propagation.specs.Steps.{judge, unknown, notAdmitted, moved, 
 use Rattle.propagation.specs.Steps as judged
 use Rattle.propagation.specs.Log.{LogEnd, logEnd, replayFrom, replay}
 use Rattle.propagation.specs.Filter.{Admitted, stops, moves, next, Ending, settled, impossible, noRoom, Run, ended, after, run}
-use Rattle.propagation.specs.Entry.{stepAt, stepsFrom, stepsIn, checkAnswer, settledAfter, impossibleAfter, noRoomFor, endingAnswer, Leaves, written, logged}
+use Rattle.propagation.specs.Entry.{stepAt, stepsFrom, stepsIn, checkAnswer, settledAfter, impossibleAfter, noRoomFor, endingAnswer, Leaves, logged}
 use Rattle.propagation.specs.Kept.{Kept}
 use Rattle.propagation.proofs.Fits.{fit-alone}
 use Rattle.propagation.proofs.Runs.{run-settled, run-full, run-stops, run-moves, resumed}

@@ -2,11 +2,12 @@
 use mathlib.Core.Bool.{Bool, true, false}
 use mathlib.Core.Option.{Option, none, some}
 use mathlib.Core.Path.{_≡_}
-use mathlib.Core.List.{List, [], _∷_, _++_, map}
+use mathlib.Core.List.{List, [], _∷_, map}
 use Prim.Native.Nat.{ℕ, zero, suc, _+_}
 use lib.Dec.{eqb}
-use lib.ListN.{length, getD, drop}
+use lib.ListN.{length, getD}
 use Rattle.units.specs.Choice.{_and_, onOption, _orElse_}
+use Rattle.units.specs.Cells.{written}
 use Rattle.plan.specs.Plan.{Plan}
 use Rattle.plan.specs.Refusals.{Fault, fault, unless, Answer, refused, answered, answerUnless, faultOf}
 use Rattle.plan.specs.Faults.{oneForEachTask, planFault}
@@ -85,10 +86,6 @@ pub record Leaves (e : FilterEnd) (answer : FilterAnswer) (boxes kinds tasks hou
   pub leaves-kinds : kinds ≡ e .kinds
   pub leaves-tasks : tasks ≡ e .tasks
   pub leaves-hours : hours ≡ e .hours
-
--- the cells from the first on become xs; those past them are untouched
-unfoldable pub written : List ℕ → List ℕ → List ℕ
-written xs cells = xs ++ drop (length xs) cells
 
 unfoldable pub logged : Run → List ℕ → List ℕ → List ℕ → FilterEnd
 logged r kinds tasks hours =

@@ -1,3 +1,4 @@
 pub mod Choice
 pub mod Sums
 pub mod Limits
+pub mod Cells

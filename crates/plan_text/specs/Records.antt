@@ -1,0 +1,51 @@
+-- The records of plan text, one a line (01, "Plan text and listing").
+use mathlib.Core.Bool.{Bool, true, false, not}
+use mathlib.Core.Option.{Option, none, some}
+use mathlib.Core.List.{List, [], _∷_}
+use Prim.Native.Nat.{ℕ}
+use lib.Dec.{leb, eqb}
+use lib.ListN.{length, getD}
+use Rattle.units.specs.Choice.{_and_, if_then_else_, someIf, onOption}
+use Rattle.plan_text.specs.Fields.{tab, parts, same, numbersOf}
+
+-- `plan`, H, capacity; `cal` and the symbols; `task` and three or nine numbers: calendar, p, height, and all six bounds or none
+pub data Record : Type 0 where
+  planRecord : ℕ → ℕ → Record
+  calRecord : List ℕ → Record
+  taskRecord : List ℕ → Record
+
+-- the words that open a record
+abbrev pub wordPlan : List ℕ
+wordPlan = 112 ∷ 108 ∷ 97 ∷ 110 ∷ []
+
+abbrev pub wordCal : List ℕ
+wordCal = 99 ∷ 97 ∷ 108 ∷ []
+
+abbrev pub wordTask : List ℕ
+wordTask = 116 ∷ 97 ∷ 115 ∷ 107 ∷ []
+
+-- two numbers
+unfoldable pub planOf : List (List ℕ) → Option Record
+planOf fields = onOption (numbersOf fields) none (λ ns. someIf (eqb (length ns) 2) (planRecord (getD ns 0 0) (getD ns 1 0)))
+
+-- one field of symbols, not empty; what they are is left to refusal 4
+unfoldable pub calOf : List (List ℕ) → Option Record
+calOf fields = someIf (eqb (length fields) 1 and leb 1 (length (getD fields 0 []))) (calRecord (getD fields 0 []))
+
+-- three or nine numbers
+unfoldable pub taskOf : List (List ℕ) → Option Record
+taskOf fields =
+    onOption (numbersOf fields) none (λ ns. someIf (if eqb (length ns) 3 then true else eqb (length ns) 9) (taskRecord ns))
+
+-- by the first field, and the fields after it
+unfoldable pub byWord : List (List ℕ) → Option Record
+byWord [] = none
+byWord (word ∷ fields) =
+    if same word wordPlan then planOf fields
+    else (if same word wordCal then calOf fields
+    else (if same word wordTask then taskOf fields
+    else none))
+
+-- a line's record, if it is one
+unfoldable pub recordOf : List ℕ → Option Record
+recordOf line = byWord (parts tab line)
