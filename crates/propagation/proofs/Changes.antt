@@ -8,11 +8,14 @@ use native.Mathlib.Omega.{arith}
 use lib.Dec.{leb, ltb, eqb}
 use lib.ListN.{length}
 use borrow.Author.Tests.{leb-true, leb-false, ltb-true, ltb-false, le-leb, lt-ltb, eqb-true, eqb-false, eq-eqb}
+use Rattle.units.specs.declared.Hour.{Hour}
 use Rattle.units.specs.declared.Bounds.{Bounds}
 use Rattle.units.proofs.Choices.{and-both}
+use Rattle.units.proofs.Ranges.{Boxed}
 use Rattle.units.proofs.Summing.{sum-gap}
-use Rattle.plan.specs.Plan.{Plan, taskCount}
+use Rattle.plan.specs.Plan.{Plan, taskCount, workTimeOf}
 use Rattle.plan.specs.Boxes.{boundsAt, withBounds}
+use Rattle.plan.proofs.Passed.{PassedTask, Passed}
 use Rattle.plan.proofs.Cells.{length-with, bounds-same, bounds-other}
 use Rattle.calendar.specs.declared.Triple.{Triple}
 use Rattle.calendar.specs.declared.Window.{Window}
@@ -27,13 +30,14 @@ use Rattle.propagation.specs.Widths.{width, widths}
 use Rattle.propagation.proofs.Loads.{fit-held, load-runs, others-run}
 use Rattle.propagation.proofs.Judgements.{Crowded, Moves, movesC, movesL, movesU, Stops, stopsC, stopsO, stopsL, stopsU, judged-moved, judged-impossible}
 
--- one task's box becomes a narrower one, and no feasible schedule is lost
+-- one task's box becomes a narrower one, a box still, and no feasible schedule is lost
 pub record Change (P : Plan) (boxes left : List ℕ) : Type 0 where
   pub task : ℕ
   pub bounds : Bounds
   pub there : task < taskCount P
   pub leaves : left ≡ withBounds boxes task bounds
   pub narrower : width bounds + 1 ≤ width (boundsAt boxes task)
+  pub boxed : {h p : ℕ} → Boxed h p (boundsAt boxes task) → Boxed h p bounds
   pub keeps : (σ : ℕ → Triple) → Feasible P boxes σ → InBounds bounds (σ task)
 
 -- bounds inside others, and not the same, are narrower
@@ -52,6 +56,33 @@ less-wide a b e n = go (ltb (width a) (width b)) refl
         (and-both _ _ (eq-eqb (a .longest .0) (b .longest .0) (omega arith))
         (and-both _ _ (eq-eqb (a .fewest .0) (b .fewest .0) (omega arith)) (eq-eqb (a .most .0) (b .most .0) (omega arith))))))) in
         absurd (false≢true (cc))
+
+-- and, inside a box, they are a box
+narrower-boxed : {h p : ℕ} {a b : Bounds} → Narrower a b → Boxed h p b → Boxed h p a
+narrower-boxed n x =
+    record {
+      starts = n .starts;
+      latest = omega arith;
+      shortest = omega arith;
+      lengths = n .lengths;
+      longest = omega arith;
+      overtimes = n .overtimes;
+      most = omega arith;
+    }
+
+-- so is a box with other starts, in order and before H
+starts-boxed : {h p : ℕ} (b : Bounds) (from to : Hour) → Boxed h p b → from .0 ≤ to .0 → to .0 < h
+    → Boxed h p (record { earliest = from; latest = to; shortest = b .shortest; longest = b .longest; fewest = b .fewest; most = b .most })
+starts-boxed b from to x order before =
+    record {
+      starts = order;
+      latest = before;
+      shortest = x .shortest;
+      lengths = x .lengths;
+      longest = x .longest;
+      overtimes = x .overtimes;
+      most = x .most;
+    }
 
 module _ (P : Plan) (boxes : List ℕ) (σ : ℕ → Triple) (F : Feasible P boxes σ) where
   -- the triple of a task lies in its box
@@ -84,12 +115,14 @@ module _ (P : Plan) (boxes : List ℕ) (i t : ℕ) where
   moves-change : (left : List ℕ) (k : Kind) → Moves P boxes i t left k → Change P boxes left
   unfolding width withEarliest withLatest
   moves-change left k (movesC w l q differ e) =
+      let narrow : Narrower (w .bounds) (boundsAt boxes i) = unfold fitAt in (rule-narrower _ _ (boundsAt boxes i) w q) in
       record {
         task = i;
         bounds = w .bounds;
         there = l;
         leaves = e;
-        narrower = less-wide (w .bounds) (boundsAt boxes i) differ (unfold fitAt in (rule-narrower _ _ (boundsAt boxes i) w q));
+        narrower = less-wide (w .bounds) (boundsAt boxes i) differ narrow;
+        boxed = λ x. narrower-boxed narrow x;
         keeps = λ σ F. fit-held P boxes σ F i l w q .inside;
       }
   moves-change left k (movesL w c ends from to e) =
@@ -99,6 +132,7 @@ module _ (P : Plan) (boxes : List ℕ) (i t : ℕ) where
         there = c .task;
         leaves = e;
         narrower = omega arith;
+        boxed = λ x. starts-boxed _ _ _ x (omega arith) (omega arith);
         keeps = λ σ F.
             let h = inside P boxes σ F i (c .task) in
             record {
@@ -117,6 +151,7 @@ module _ (P : Plan) (boxes : List ℕ) (i t : ℕ) where
         there = c .task;
         leaves = e;
         narrower = omega arith;
+        boxed = λ x. starts-boxed _ _ _ x (omega arith) (omega arith);
         keeps = λ σ F.
             let h = inside P boxes σ F i (c .task) in
             record {
@@ -168,3 +203,35 @@ module _ (P : Plan) (boxes left : List ℕ) (c : Change P boxes left) where
     unfolding widths
     change-widths =
         sum-gap _ _ (taskCount P) (c .task) 1 (c .there) (λ j l ne. rw (else-same j ne) (omega arith)) (rw is-there (c .narrower))
+
+-- a plan that passes the tests passes them with the boxes that are left
+pub change-passes : (P : Plan) (boxes left : List ℕ) → Change P boxes left → Passed P boxes → Passed P left
+change-passes P boxes left c passed =
+    record {
+      some-hours = passed .some-hours;
+      hours = passed .hours;
+      tasks = passed .tasks;
+      capacity = passed .capacity;
+      work-times = passed .work-times;
+      heights = passed .heights;
+      boxes = change-length P boxes left c ∙ passed .boxes;
+      task = λ j l. go j l (eqb j (c .task)) refl;
+    }
+  where
+    with-box : (j : ℕ) → j < taskCount P → Boxed (P .hours) (workTimeOf P j) (boundsAt left j) → PassedTask P left j
+    with-box j l box =
+        let task = passed .task j l in
+        record {
+          calendar = task .calendar;
+          calendar-length = task .calendar-length;
+          some-work = task .some-work;
+          work-time = task .work-time;
+          height = task .height;
+          box = box;
+        }
+
+    go : (j : ℕ) → j < taskCount P → (b : Bool) → eqb j (c .task) ≡ b → PassedTask P left j
+    go j l true e =
+        let q : j ≡ c .task = eqb-true _ _ e in
+        with-box j l (rw (q, is-there P boxes left c (passed .boxes)) (c .boxed (passed .task (c .task) (c .there) .box)))
+    go j l false e = with-box j l (rw (else-same P boxes left c j (eqb-false _ _ e)) (passed .task j l .box))

@@ -7,7 +7,10 @@ pub mod Claim
 pub mod Contracts
 pub mod Fits
 pub mod Deciding
-pub mod Turns
-pub mod Weeks
+pub mod Keeping
 pub mod Hunting
 pub mod Filling
+pub mod Turns
+pub mod Replaying
+pub mod Entering
+pub mod Weeks

@@ -9,6 +9,8 @@ use native.Mathlib.Decide.{ℕ-discrete}
 use native.Mathlib.Omega.{arith}
 use lib.ListN.{length, getD, set, drop, length-map, length-append}
 use lib.Seq.{getD-set-same, getD-set-other, drop-cons, set-at}
+use borrow.Author.Tests.{eqb-true}
+use Rattle.units.proofs.Choices.{and-left, and-right}
 use Rattle.units.specs.Cells.{written}
 use Rattle.units.specs.Choice.{onOption}
 use Rattle.units.specs.declared.Bounds.{Bounds}
@@ -24,7 +26,7 @@ use Rattle.propagation.specs.Steps.{judge, unknown, notAdmitted, moved, 
 use Rattle.propagation.specs.Steps as judged
 use Rattle.propagation.specs.Log.{LogEnd, logEnd, replayFrom, replay}
 use Rattle.propagation.specs.Filter.{Admitted, stops, moves, next, Ending, settled, impossible, noRoom, Run, ended, after, run}
-use Rattle.propagation.specs.Entry.{stepAt, stepsFrom, stepsIn, checkAnswer, settledAfter, impossibleAfter, noRoomFor, endingAnswer, Leaves, logged}
+use Rattle.propagation.specs.Entry.{stepAt, stepsFrom, stepsIn, oneForEachStep, checkAnswer, settledAfter, impossibleAfter, noRoomFor, endingAnswer, Leaves, logged}
 use Rattle.propagation.specs.Kept.{Kept}
 use Rattle.propagation.proofs.Fits.{fit-alone}
 use Rattle.propagation.proofs.Runs.{run-settled, run-full, run-stops, run-moves, resumed}
@@ -44,6 +46,10 @@ kept-moved P boxes left fits i b fit kept is e l j m = go (ℕ-discrete j i)
     go (no q) = getD-set-other fits i j fit Never q ∙ kept j m ∙ sym (ap (λ (bs : List ℕ). fitAt P bs j) is ∙ fit-other P boxes i j b q)
 
 -- ---- the log checker
+
+pub one-each : (kinds tasks hours : List ℕ) → oneForEachStep kinds tasks hours ≡ true → (length tasks ≡ length kinds) × (length hours ≡ length kinds)
+unfolding oneForEachStep
+one-each kinds tasks hours e = (eqb-true _ _ (and-left _ _ e), eqb-true _ _ (and-right _ _ e))
 
 module _ (kinds tasks hours : List ℕ) (k : ℕ) where
   steps-next : k < length kinds

@@ -13,6 +13,10 @@ pub data Admitted : Type 0 where
   stops : Step → Admitted
   moves : Step → List ℕ → Admitted
 
+abbrev pub stepOf : Admitted → Step
+stepOf (stops x) = x
+stepOf (moves x left) = x
+
 unfoldable pub onAdmitted : {A : Type 0} → Admitted → (Step → A) → (Step → List ℕ → A) → A
 onAdmitted (stops x) f g = f x
 onAdmitted (moves x left) f g = g x left

@@ -39,7 +39,7 @@ pub fn all_fits(
 ) -> [Fit; Bounds::COUNT]
     requires { ⌜ (length (now «task_calendars») ≤ mostTasks)
         × ((i : ℕ) → i < length (now «task_calendars») → Fitting (hours .0) (now calendars) (now «task_calendars») (now «work_times») (now boxes) i) ⌝ }
-    ensures { λ r. ⌜ ((i : ℕ) → i < length (now («task_calendars» .entry)) → getD r i Fit.Never
+    ensures { λ r. ⌜ (length r ≡ mostTasks) × ((i : ℕ) → i < length (now («task_calendars» .entry)) → getD r i Fit.Never
         ≡ fitAt (plan (hours .0) 0 (now (calendars .entry)) (now («task_calendars» .entry)) (now («work_times» .entry)) []) (now (boxes .entry)) i) ⌝ }
 {
     let mut fits = [Fit::Never; Bounds::COUNT];

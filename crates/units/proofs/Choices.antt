@@ -1,5 +1,5 @@
 -- Laws of tests and choices: what each comes to, and what is known once it has come to that. Assumes nothing.
-use mathlib.Core.Path.{_≡_, refl, sym, ap, _∙_, subst}
+use mathlib.Core.Path.{_≡_, refl, sym, ap₂, _∙_, subst}
 use mathlib.Core.Logic.{_≢_}
 use mathlib.Core.Bool.{Bool, true, false, false≢true}
 use mathlib.Core.Option.{Option, none, some}
@@ -63,6 +63,12 @@ pub if-all : {A : Type 0} (C : A → Type 0) (b : Bool) (x y : A) → (b ≡ tru
 unfolding if_then_else_
 if-all C true x y f g = f refl
 if-all C false x y f g = g refl
+
+-- what is made of a choice's value is a choice of what is made of each branch
+pub if-ap : {A B : Type 0} (f : A → B) (b : Bool) (x y : A) → f (if b then x else y) ≡ (if b then f x else f y)
+unfolding if_then_else_
+if-ap f true x y = refl
+if-ap f false x y = refl
 
 -- ---- someIf
 
@@ -165,3 +171,18 @@ module _ {A : Type 0} (f : ℕ → Option A) where
   first-at zero a e = none≢some e
   first-at (suc n) a e =
       else-case _ _ _ e (λ q k. (n, omega arith, k)) (λ b q k. let (i, l, m) = first-at n a (q ∙ k) in (i, omega arith, m))
+
+-- ---- what f makes of the one that is found
+
+module _ {A B : Type 0} (f : A → B) where
+  pub else-on : (x y : Option A)
+      → onOption (x orElse y) none (λ a. some (f a)) ≡ (onOption x none (λ a. some (f a)) orElse onOption y none (λ a. some (f a)))
+  unfolding _orElse_ onOption
+  else-on none y = refl
+  else-on (some a) y = refl
+
+  pub first-on : (g : ℕ → Option A) (h : ℕ → Option B) (n : ℕ) → ((i : ℕ) → h i ≡ onOption (g i) none (λ a. some (f a)))
+      → firstOf h n ≡ onOption (firstOf g n) none (λ a. some (f a))
+  unfolding firstOf onOption
+  first-on g h zero e = refl
+  first-on g h (suc n) e = ap₂ _orElse_ (first-on g h n e) (e n) ∙ sym (else-on (firstOf g n) (g n))

@@ -1,5 +1,5 @@
 -- Laws of sums over the numbers 0, 1, .., n - 1. Assumes nothing.
-use mathlib.Core.Path.{_≡_, refl, ap₂}
+use mathlib.Core.Path.{_≡_, refl, ap, ap₂}
 use mathlib.Core.Logic.{_≢_}
 use mathlib.Core.Bool.{Bool, true, false, not}
 use Prim.Native.Nat.{ℕ, zero, suc, _+_, _*_, _≤_, _<_}
@@ -69,6 +69,11 @@ module _ (test : ℕ → Bool) (f : ℕ → ℕ) where
   where-most zero m h = omega arith
   where-most (suc n) m h =
       omega (arith, where-most n m h, if-all (λ (k : ℕ). k ≤ m) (test n) (f n) 0 (λ e. h n) (λ e. omega arith), suc-mul n m)
+
+  -- another test that decides the same
+  pub where-eq : (other : ℕ → Bool) (n : ℕ) → ((j : ℕ) → j < n → test j ≡ other j) → sumWhere test f n ≡ sumWhere other f n
+  unfolding sumWhere
+  where-eq other n h = sum-eq _ _ n (λ j l. ap (λ (b : Bool). if b then f j else 0) (h j l))
 
   -- the share of one number, and the sum over the others
   pub where-split : (n i : ℕ) → i < n

@@ -44,7 +44,7 @@ loop-again : tie.Need-loop-again Inv-loop μ-loop
 loop-again c = (omega arith, omega arith, simp length-set (c .before .before .loop .inv .2), filled-more _ (c .before .before .loop .fits) _ (c .before .before .loop .i) _ (c .before .before .loop .inv .3) (c .fit-of .ensures) (omega arith))
 
 returns : tie.Need-returns Inv-loop μ-loop
-returns c = λ i l. c .before .loop .inv .3 i (omega arith)
+returns c = (c .before .loop .inv .2, λ i l. c .before .loop .inv .3 i (omega arith))
 
 pub all-fits-spec : {M : Type 1} → statement M
 all-fits-spec =

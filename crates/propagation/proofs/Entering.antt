@@ -1,0 +1,77 @@
+-- Laws of the entry points' own tests: what each outcome makes of the log checker's contract and of the filter's. Assumes nothing.
+use mathlib.Core.Path.{_≡_, refl, sym, ap, _∙_, subst}
+use mathlib.Core.Bool.{Bool, true, false}
+use mathlib.Core.Option.{none, some}
+use mathlib.Core.List.{List}
+use Prim.Native.Nat.{ℕ}
+use lib.ListN.{length}
+use Rattle.units.specs.Choice.{_and_, onOption}
+use Rattle.units.proofs.Choices.{and-both, not-left, not-right}
+use Rattle.plan.specs.Plan.{Plan}
+use Rattle.plan.specs.Refusals.{Fault, fault, Answer, refused, answerUnless}
+use Rattle.plan.specs.Faults.{oneForEachTask, planFault}
+use Rattle.plan.proofs.Refusing.{go-on, refuse}
+use Rattle.propagation.specs.Log.{LogEnd, replay}
+use Rattle.propagation.specs.Filter.{run}
+use Rattle.propagation.specs.Entry.{stepsIn, oneForEachStep, entryFault, Accepted, checkLog, checkAnswer, FilterAnswer, refusedBy, FilterEnd, Leaves, logged, filterPlan}
+use Rattle.propagation.specs.Claim.{CheckedHolds, FilterHolds}
+use Rattle.propagation.proofs.Contracts.{check-holds, filter-holds}
+
+module _ (P : Plan) (boxes kinds tasks hours : List ℕ) where
+  abbrev Tasks : Bool
+  Tasks = oneForEachTask (P .taskCalendars) (P .workTimes) (P .heights) boxes
+
+  abbrev Steps : Bool
+  Steps = oneForEachStep kinds tasks hours
+
+  pub other-tasks : Tasks ≡ false → entryFault P boxes kinds tasks hours ≡ some (fault 31 0)
+  unfolding entryFault
+  other-tasks e = refuse _ 31 0 _ (not-left _ _ e)
+
+  pub other-steps : Steps ≡ false → entryFault P boxes kinds tasks hours ≡ some (fault 31 0)
+  unfolding entryFault
+  other-steps e = refuse _ 31 0 _ (not-right _ _ e)
+
+  pub right-size : Tasks ≡ true → Steps ≡ true → entryFault P boxes kinds tasks hours ≡ planFault P boxes
+  unfolding entryFault
+  right-size a b = go-on _ 31 0 _ (and-both _ _ a b)
+
+  -- the log checker's contract
+  abbrev pub Checks : Answer Accepted → List ℕ → Type 0
+  Checks answer left =
+      ((answer ≡ checkAnswer (checkLog P boxes kinds tasks hours)) × (left ≡ checkLog P boxes kinds tasks hours .boxes))
+      × CheckedHolds P boxes kinds tasks hours answer left
+
+  checks : (answer : Answer Accepted) (left : List ℕ) → answer ≡ checkAnswer (checkLog P boxes kinds tasks hours)
+      → left ≡ checkLog P boxes kinds tasks hours .boxes → Checks answer left
+  checks answer left a l = ((a, l), rw (a, l) (check-holds P boxes kinds tasks hours))
+
+  pub check-refuses : (f : Fault) → entryFault P boxes kinds tasks hours ≡ some f → Checks (refused f) boxes
+  unfolding checkLog checkAnswer answerUnless onOption
+  check-refuses f e = checks (refused f) boxes (rw e) (rw e)
+
+  pub check-replays : entryFault P boxes kinds tasks hours ≡ none → (answer : Answer Accepted) (left : List ℕ)
+      → answer ≡ checkAnswer (replay P boxes (stepsIn kinds tasks hours)) → left ≡ replay P boxes (stepsIn kinds tasks hours) .boxes → Checks answer left
+  unfolding checkLog onOption
+  check-replays e answer left a l = checks answer left (rw e a) (rw e l)
+
+  -- the filter's contract
+  abbrev pub Filters : FilterAnswer → List ℕ → List ℕ → List ℕ → List ℕ → Type 0
+  Filters answer left ks ts hs =
+      Leaves (filterPlan P boxes kinds tasks hours) answer left ks ts hs × FilterHolds P boxes (length kinds) answer left ks ts hs
+
+  filters : (answer : FilterAnswer) (left ks ts hs : List ℕ) → Leaves (filterPlan P boxes kinds tasks hours) answer left ks ts hs
+      → Filters answer left ks ts hs
+  filters answer left ks ts hs l =
+      (l, rw (l .answers, l .leaves-boxes, l .leaves-kinds, l .leaves-tasks, l .leaves-hours) (filter-holds P boxes kinds tasks hours))
+
+  pub filter-refuses : (f : Fault) → entryFault P boxes kinds tasks hours ≡ some f → Filters (refusedBy f) boxes kinds tasks hours
+  unfolding filterPlan onOption
+  filter-refuses f e =
+      filters (refusedBy f) boxes kinds tasks hours
+      (rw e record { answers = refl; leaves-boxes = refl; leaves-kinds = refl; leaves-tasks = refl; leaves-hours = refl })
+
+  pub filter-runs : entryFault P boxes kinds tasks hours ≡ none → (answer : FilterAnswer) (left ks ts hs : List ℕ)
+      → Leaves (logged (run P boxes (length kinds)) kinds tasks hours) answer left ks ts hs → Filters answer left ks ts hs
+  unfolding filterPlan onOption
+  filter-runs e answer left ks ts hs l = filters answer left ks ts hs (rw e l)
