@@ -1,0 +1,128 @@
+// 01's worked weeks without a star: each is run, and its answer printed on a line.
+use libc::STDOUT_FILENO;
+use plan::Refusal;
+use schedule::ScheduleChecked;
+ghost use mathlib.Core.Path.{_≡_};
+ghost use Rattle.plan.specs.Refusals.{faultOf};
+
+// 01's number of a refusal.
+fn number_of(refusal: Refusal) -> usize
+    ensures { λ r. ⌜ r ≡ faultOf refusal .number ⌝ }
+{
+    match refusal {
+        Refusal::Malformed(_) => 1,
+        Refusal::Hours => 2,
+        Refusal::Calendars => 3,
+        Refusal::Symbol(_) => 4,
+        Refusal::Tasks => 5,
+        Refusal::NoCalendar(_) => 6,
+        Refusal::WorkTime(_) => 7,
+        Refusal::TaskHeight(_) => 8,
+        Refusal::TaskBounds(_) => 9,
+        Refusal::Capacity => 10,
+        Refusal::UnknownStep(_) => 11,
+        Refusal::NotAdmitted(_) => 12,
+        Refusal::AfterImpossible(_) => 13,
+        Refusal::OutsideBounds(_) => 14,
+        Refusal::NotValid(_) => 15,
+        Refusal::OverCapacity(_) => 16,
+        Refusal::MemorySize => 31,
+    }
+}
+
+// Its place, and 0 where 01 names none.
+fn place_of(refusal: Refusal) -> usize
+    ensures { λ r. ⌜ r ≡ faultOf refusal .place ⌝ }
+{
+    match refusal {
+        Refusal::Malformed(line) => line,
+        Refusal::Hours => 0,
+        Refusal::Calendars => 0,
+        Refusal::Symbol(index) => index,
+        Refusal::Tasks => 0,
+        Refusal::NoCalendar(task) => task,
+        Refusal::WorkTime(task) => task,
+        Refusal::TaskHeight(task) => task,
+        Refusal::TaskBounds(task) => task,
+        Refusal::Capacity => 0,
+        Refusal::UnknownStep(step) => step,
+        Refusal::NotAdmitted(step) => step,
+        Refusal::AfterImpossible(step) => step,
+        Refusal::OutsideBounds(task) => task,
+        Refusal::NotValid(task) => task,
+        Refusal::OverCapacity(hour) => hour,
+        Refusal::MemorySize => 0,
+    }
+}
+
+fn print_word(word: &[u8]) {
+    io::write_all(STDOUT_FILENO, word);
+}
+
+fn print_field(number: u64) {
+    io::write_all(STDOUT_FILENO, b"\t");
+    io::print_decimal(STDOUT_FILENO, number);
+}
+
+fn end_line() {
+    io::write_all(STDOUT_FILENO, b"\n");
+}
+
+fn report_refusal(refusal: Refusal) {
+    print_word(b"refused");
+    print_field(number_of(refusal) as u64);
+    print_field(place_of(refusal) as u64);
+    end_line();
+}
+
+fn report(answer: ScheduleChecked) {
+    match answer {
+        ScheduleChecked::Refused(refusal) => report_refusal(refusal),
+        ScheduleChecked::Feasible(end) => {
+            print_word(b"feasible");
+            print_field(end.0 as u64);
+            end_line();
+        }
+    }
+}
+
+// A schedule of the printed week, held against its opening boxes.
+fn printed_week(schedule: &[u16]) -> ScheduleChecked {
+    let task_calendars: [u16; 2] = [0, 0];
+    let work_times: [u16; 2] = [2, 2];
+    let heights: [u16; 2] = [1, 1];
+    let boxes: [u16; 12] = [0, 3, 2, 3, 0, 0, 0, 2, 2, 3, 0, 0];
+    schedule::check_schedule(
+        6,
+        1,
+        b"rcrrrr",
+        &task_calendars,
+        &work_times,
+        &heights,
+        &boxes,
+        schedule,
+    )
+}
+
+fn feasible_schedule() {
+    let schedule: [u16; 6] = [3, 2, 0, 0, 3, 0];
+    report(printed_week(&schedule));
+}
+
+// Both tasks run in hour 2.
+fn crowded_schedule() {
+    let schedule: [u16; 6] = [2, 2, 0, 0, 3, 0];
+    report(printed_week(&schedule));
+}
+
+// Task 0 would end on a closed hour.
+fn schedule_that_ends_closed() {
+    let schedule: [u16; 6] = [0, 2, 0, 0, 3, 0];
+    report(printed_week(&schedule));
+}
+
+fn main() {
+    feasible_schedule();
+    crowded_schedule();
+    schedule_that_ends_closed();
+}
