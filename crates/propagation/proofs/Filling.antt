@@ -171,7 +171,7 @@ module _ {fits : List Fit} {heights old new : List ℕ} {n : ℕ} (r : Filled fi
 pub loaded-fits : (loads heights boxes : List ℕ) (fits : List Fit) (i t : ℕ) → Ready (length loads) heights boxes → Loaded loads fits heights
     → i < length heights → t < length loads → getD heights i 0 + getD loads t 0 < 65536
 loaded-fits loads heights boxes fits i t r h l m =
-    omega (arith, r .tasks, r .height i l, h t m, sym (load-all fits heights t), load-most fits heights t (r .height) (length heights) (omega arith))
+    omega (arith, r .tasks, r .heights i, h t m, sym (load-all fits heights t), load-most fits heights t (λ j m. r .heights j) (length heights) (omega arith))
 
 -- ---- the first numbers of an array, lent and filled
 

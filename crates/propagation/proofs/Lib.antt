@@ -12,5 +12,6 @@ pub mod Hunting
 pub mod Filling
 pub mod Turns
 pub mod Replaying
+pub mod Filtering
 pub mod Entering
 pub mod Weeks

@@ -27,7 +27,7 @@ use Rattle.propagation.proofs.Replays.{accepted-admitted, admitted-shor
 
 module _ (P : Plan) (boxes : List ℕ) where
   -- the step is judged as it says
-  pub Rightly : Admitted → Type 0
+  unfoldable pub Rightly : Admitted → Type 0
   Rightly (stops x) = judge P boxes x ≡ judged.impossible
   Rightly (moves x left) = judge P boxes x ≡ moved left
 

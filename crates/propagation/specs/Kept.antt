@@ -2,14 +2,13 @@
 -- has no such terms.
 use mathlib.Core.Bool.{Bool}
 use mathlib.Core.Option.{Option, none, some}
-use mathlib.Core.List.{List, [], _∷_, map, _++_}
+use mathlib.Core.List.{List}
 use mathlib.Core.Path.{_≡_}
-use Prim.Native.Nat.{ℕ, _+_, _-_, _*_, _≤_, _<_}
+use Prim.Native.Nat.{ℕ, _+_, _-_, _<_}
 use lib.Dec.{leb, ltb}
 use lib.ListN.{length, getD}
 use Rattle.units.specs.Choice.{_and_, if_then_else_, _orElse_, firstOf}
 use Rattle.units.specs.Sums.{sumWhere}
-use Rattle.units.specs.Limits.{mostHours, mostTasks, mostHeight}
 use Rattle.units.specs.declared.Bounds.{Bounds}
 use Rattle.plan.specs.Plan.{Plan, taskCount}
 use Rattle.plan.specs.Boxes.{boundsAt, withBounds}
@@ -29,17 +28,6 @@ use Rattle.propagation.specs.Steps.{step, letterC, letterO, letterL, let
 -- the answers of the calendar rule that are kept, one for each task, are those for the boxes
 abbrev pub Kept : Plan → List ℕ → List Fit → Type 0
 Kept P boxes fits = (i : ℕ) → i < taskCount P → getD fits i Never ≡ fitAt P boxes i
-
--- what a step is judged from is small enough: H hours, the heights hs, and for each task a box of bs with its starts in order
-pub record Ready (h : ℕ) (hs bs : List ℕ) : Type 0 where
-  pub hours : h ≤ mostHours
-  pub tasks : length hs ≤ mostTasks
-  pub heights : (i : ℕ) → getD hs i 0 ≤ mostHeight
-  pub boxes : length bs ≡ 6 * length hs
-  pub starts : (i : ℕ) → i < length hs → boundsAt bs i .earliest .0 ≤ boundsAt bs i .latest .0
-  pub latest : (i : ℕ) → i < length hs → boundsAt bs i .latest .0 < h
-  pub some-time : (i : ℕ) → i < length hs → 1 ≤ boundsAt bs i .shortest .0
-  pub shortest : (i : ℕ) → i < length hs → boundsAt bs i .shortest .0 ≤ h
 
 -- load(t), from the answers kept
 unfoldable pub loadOf : List Fit → List ℕ → ℕ → ℕ

@@ -15,7 +15,8 @@ ghost use Rattle.units.specs.Choice.{_and_, if_then_else_};
 ghost use Rattle.units.specs.Limits.{mostHours, mostTasks, mostHeight, isHour};
 ghost use Rattle.propagation.specs.Load.{mustRun};
 ghost use Rattle.propagation.specs.Steps.{kindOf, isStep, onFit, sameBounds};
-ghost use Rattle.propagation.specs.Kept.{Ready, loadOf, crowded, calendarBy, lowerBy, upperBy, judgeBy};
+ghost use Rattle.propagation.specs.Ready.{Ready};
+ghost use Rattle.propagation.specs.Kept.{loadOf, crowded, calendarBy, lowerBy, upperBy, judgeBy};
 
 // Whether the compulsory part of a task with the window holds the hour.
 pub fn must_run(w: Window, t: u16) -> bool

@@ -2,6 +2,7 @@
 use plan::Refusal;
 use units::Bounds;
 
+pub mod filter;
 mod first;
 mod judge;
 mod kept;

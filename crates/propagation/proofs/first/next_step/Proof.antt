@@ -31,7 +31,7 @@ slice-aggregate-fill-loads c = lent-length _ (c .before .before .before .before 
 
 fill-loads-requires : tie.Need-fill-loads-requires
 unfolding zeros
-fill-loads-requires c κs = (omega (arith, lent-length _ (c .before .before .before .before .before .before .before .pre .hours)), c .before .before .before .before .before .before .before .pre .tasks, c .before .before .before .before .before .before .before .pre .height)
+fill-loads-requires c κs = (omega (arith, lent-length _ (c .before .before .before .before .before .before .before .pre .hours)), c .before .before .before .before .before .before .before .pre .tasks, λ i l. c .before .before .before .before .before .before .before .pre .heights i)
 
 array-share-prefix-room : tie.Need-array-share-prefix-room
 unfolding zeros
