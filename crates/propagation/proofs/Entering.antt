@@ -6,11 +6,12 @@ use mathlib.Core.List.{List}
 use Prim.Native.Nat.{ℕ}
 use lib.ListN.{length}
 use Rattle.units.specs.Choice.{_and_, onOption}
-use Rattle.units.proofs.Choices.{and-both, not-left, not-right}
+use Rattle.units.proofs.Choices.{and-both, and-left, and-right, not-left, not-right, neither}
 use Rattle.plan.specs.Plan.{Plan}
 use Rattle.plan.specs.Refusals.{Fault, fault, Answer, refused, answerUnless}
 use Rattle.plan.specs.Faults.{oneForEachTask, planFault}
-use Rattle.plan.proofs.Refusing.{go-on, refuse}
+use Rattle.plan.proofs.Refusing.{unless-none, go-on, refuse}
+use Rattle.plan.proofs.Passed.{Passed, passed}
 use Rattle.propagation.specs.Log.{LogEnd, replay}
 use Rattle.propagation.specs.Filter.{run}
 use Rattle.propagation.specs.Entry.{stepsIn, oneForEachStep, entryFault, Accepted, checkLog, checkAnswer, FilterAnswer, refusedBy, FilterEnd, Leaves, logged, filterPlan}
@@ -35,6 +36,14 @@ module _ (P : Plan) (boxes kinds tasks hours : List ℕ) where
   pub right-size : Tasks ≡ true → Steps ≡ true → entryFault P boxes kinds tasks hours ≡ planFault P boxes
   unfolding entryFault
   right-size a b = go-on _ 31 0 _ (and-both _ _ a b)
+
+  -- what passes
+  pub passes : entryFault P boxes kinds tasks hours ≡ none → Passed P boxes × (Steps ≡ true)
+  unfolding entryFault
+  passes e =
+      let faults = neither _ _ e in
+      let sizes = unless-none _ 31 0 (faults .0) in
+      (passed P boxes (and-left _ _ sizes) (faults .1), and-right _ _ sizes)
 
   -- the log checker's contract
   abbrev pub Checks : Answer Accepted → List ℕ → Type 0

@@ -1,13 +1,12 @@
 // The filter: takes the first admitted step of each turn, and logs it.
-use calendar::Fit;
 use crate::Filtered;
 use crate::Found;
 use crate::Judged;
+use crate::entry;
 use crate::first;
 use crate::judge;
 use crate::kept;
-use crate::log;
-use plan::Refusal;
+use calendar::Fit;
 use plan::Tested;
 use units::Bounds;
 use units::Duration;
@@ -99,13 +98,7 @@ pub fn filter(
         (now (boxes .entry)) (length (now («log_kinds» .entry))) (filterAnswer r)
         (now (boxes .exit)) (now («log_kinds» .exit)) (now («log_tasks» .exit)) (now («log_hours» .exit)) ⌝ }
 {
-    if !plan::has_one_for_each_task(task_calendars, work_times, heights, boxes) {
-        return Filtered::Refused(Refusal::MemorySize);
-    }
-    if !log::has_one_for_each_step(log_kinds, log_tasks, log_hours) {
-        return Filtered::Refused(Refusal::MemorySize);
-    }
-    let tested = plan::test_input(
+    let tested = entry::test_entry(
         hours,
         capacity,
         calendars,
@@ -113,6 +106,9 @@ pub fn filter(
         work_times,
         heights,
         boxes,
+        log_kinds,
+        log_tasks,
+        log_hours,
     );
     if let Tested::Refused(refusal) = tested {
         return Filtered::Refused(refusal);

@@ -2,6 +2,7 @@
 use plan::Refusal;
 use units::Bounds;
 
+mod entry;
 pub mod filter;
 mod first;
 mod judge;

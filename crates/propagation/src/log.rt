@@ -2,6 +2,7 @@
 use crate::Judged;
 use crate::LogChecked;
 use crate::Step;
+use crate::entry;
 use crate::judge;
 use crate::kept;
 use calendar::Fit;
@@ -16,16 +17,6 @@ ghost use Rattle.plan.proofs.Passed.{Passed};
 ghost use Rattle.propagation.specs.Log.{replay};
 ghost use Rattle.propagation.specs.Entry.{stepsIn, oneForEachStep, checkLog, checkAnswer, logAnswer};
 ghost use Rattle.propagation.specs.Claim.{CheckedHolds};
-
-// Whether the slices of a log number one for each step.
-pub fn has_one_for_each_step(kinds: &[u8], tasks: &[u16], hours: &[u16]) -> bool
-    ensures { λ r. ⌜ r ≡ oneForEachStep (now (kinds .entry)) (now (tasks .entry)) (now (hours .entry)) ⌝ }
-{
-    if tasks.len() != kinds.len() {
-        return false;
-    }
-    hours.len() == kinds.len()
-}
 
 // The replay of a log on a plan that passed its tests. The answers of the calendar rule are kept, and only the moved task's is worked out anew.
 fn replay_log(
@@ -109,13 +100,7 @@ pub fn check_log(
         (plan hours capacity (now (calendars .entry)) (now («task_calendars» .entry)) (now («work_times» .entry)) (now (heights .entry)))
         (now (boxes .entry)) (now («log_kinds» .entry)) (now («log_tasks» .entry)) (now («log_hours» .entry)) (logAnswer r) (now (boxes .exit)) ⌝ }
 {
-    if !plan::has_one_for_each_task(task_calendars, work_times, heights, boxes) {
-        return LogChecked::Refused(Refusal::MemorySize);
-    }
-    if !has_one_for_each_step(log_kinds, log_tasks, log_hours) {
-        return LogChecked::Refused(Refusal::MemorySize);
-    }
-    let tested = plan::test_input(
+    let tested = entry::test_entry(
         hours,
         capacity,
         calendars,
@@ -123,6 +108,9 @@ pub fn check_log(
         work_times,
         heights,
         boxes,
+        log_kinds,
+        log_tasks,
+        log_hours,
     );
     if let Tested::Refused(refusal) = tested {
         return LogChecked::Refused(refusal);

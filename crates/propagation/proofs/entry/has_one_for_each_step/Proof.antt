@@ -3,8 +3,8 @@ use borrow.Author.Tests.{eq-eqb, ne-eqb}
 use Rattle.units.proofs.Choices.{not-left}
 use Rattle.plan.proofs.Refusing.{and-rest}
 use Rattle.propagation.specs.Entry.{oneForEachStep}
-use Rattle.propagation.proofs.log.has_one_for_each_step.Statement.{statement}
-use Rattle.propagation.proofs.log.has_one_for_each_step.Tie as tie
+use Rattle.propagation.proofs.entry.has_one_for_each_step.Statement.{statement}
+use Rattle.propagation.proofs.entry.has_one_for_each_step.Tie as tie
 
 returns : tie.Need-returns
 unfolding oneForEachStep

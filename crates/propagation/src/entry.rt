@@ -1,0 +1,51 @@
+// The tests that the log checker and the filter share.
+use plan::Refusal;
+use plan::Tested;
+ghost use mathlib.Core.Path.{_≡_};
+ghost use Rattle.plan.specs.Plan.{plan};
+ghost use Rattle.plan.specs.Refusals.{testedFault};
+ghost use Rattle.propagation.specs.Entry.{oneForEachStep, entryFault};
+
+// Whether the slices of a log number one for each step.
+fn has_one_for_each_step(log_kinds: &[u8], log_tasks: &[u16], log_hours: &[u16]) -> bool
+    ensures { λ r. ⌜ r ≡ oneForEachStep (now («log_kinds» .entry)) (now («log_tasks» .entry)) (now («log_hours» .entry)) ⌝ }
+{
+    if log_tasks.len() != log_kinds.len() {
+        return false;
+    }
+    log_hours.len() == log_kinds.len()
+}
+
+// 31, then the plan's tests.
+pub fn test_entry(
+    hours: u16,
+    capacity: u16,
+    calendars: &[u8],
+    task_calendars: &[u16],
+    work_times: &[u16],
+    heights: &[u16],
+    boxes: &[u16],
+    log_kinds: &[u8],
+    log_tasks: &[u16],
+    log_hours: &[u16],
+) -> Tested
+    ensures { λ r. ⌜ testedFault r ≡ entryFault
+        (plan hours capacity (now (calendars .entry)) (now («task_calendars» .entry)) (now («work_times» .entry)) (now (heights .entry)))
+        (now (boxes .entry)) (now («log_kinds» .entry)) (now («log_tasks» .entry)) (now («log_hours» .entry)) ⌝ }
+{
+    if !plan::has_one_for_each_task(task_calendars, work_times, heights, boxes) {
+        return Tested::Refused(Refusal::MemorySize);
+    }
+    if !has_one_for_each_step(log_kinds, log_tasks, log_hours) {
+        return Tested::Refused(Refusal::MemorySize);
+    }
+    plan::test_input(
+        hours,
+        capacity,
+        calendars,
+        task_calendars,
+        work_times,
+        heights,
+        boxes,
+    )
+}
