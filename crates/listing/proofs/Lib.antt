@@ -1,0 +1,4 @@
+pub mod Parts
+pub mod Digits
+pub mod Lines
+pub mod Reading

@@ -1,0 +1,169 @@
+// The listing that the program prints.
+use plan::Refusal;
+use plan::bounds_at;
+use propagation::Filtered;
+use units::Bounds;
+ghost use mathlib.Core.Path.{_≡_};
+ghost use mathlib.Core.List.{[], _∷_, _++_};
+ghost use Prim.Native.Nat.{_+_, _*_, _≤_, _<_};
+ghost use lib.ListN.{length};
+ghost use Rattle.units.specs.Limits.{mostTasks};
+ghost use Rattle.units.specs.Cells.{written};
+ghost use Rattle.plan.specs.Refusals.{faultOf};
+ghost use Rattle.propagation.specs.Entry.{filterAnswer};
+ghost use Rattle.listing.specs.Decimal.{digitsBy, decimalText};
+ghost use Rattle.listing.specs.Listing.{tab, lineOf, taskLines, taskLine, refusedLine, listing};
+ghost use Rattle.listing.specs.Putting.{Put, mostListing};
+
+// Bytes that hold every listing.
+pub const ROOM: usize = 4096;
+
+// A refusal as it is printed: its number, then its place.
+struct Fault(u16, usize);
+
+// Each function that puts something answers the place after it.
+fn put_byte(out: &mut [u8], at: usize, byte: u8) -> usize
+    requires { ⌜ at < length (now out) ⌝ }
+    ensures { λ r. ⌜ Put (byte ∷ []) at (now (out .entry)) r (now (out .exit)) ⌝ }
+{
+    out[at] = byte;
+    at + 1
+}
+
+fn put_word(out: &mut [u8], at: usize, word: &[u8]) -> usize
+    requires { ⌜ at + length (now word) ≤ length (now out) ⌝ }
+    ensures { λ r. ⌜ Put (now (word .entry)) at (now (out .entry)) r (now (out .exit)) ⌝ }
+{
+    for k in 0..word.len() {
+        out[at + k] = word[k];
+    }
+    at + word.len()
+}
+
+// The last digits of n, at most so many, without leading zero.
+fn put_digits(out: &mut [u8], at: usize, n: usize, most: usize) -> usize
+    requires { ⌜ at + most ≤ length (now out) ⌝ }
+    ensures { λ r. ⌜ Put (digitsBy most n) at (now (out .entry)) r (now (out .exit)) ⌝ }
+{
+    if most == 0 {
+        return at;
+    }
+    if n < 10 {
+        return put_byte(out, at, b'0' + n as u8);
+    }
+    let last = put_digits(out, at, n / 10, most - 1);
+    put_byte(out, last, b'0' + (n % 10) as u8)
+}
+
+// A tab and a number.
+fn put_field(out: &mut [u8], at: usize, n: usize) -> usize
+    requires { ⌜ at + 6 ≤ length (now out) ⌝ }
+    ensures { λ r. ⌜ Put (tab ∷ decimalText n) at (now (out .entry)) r (now (out .exit)) ⌝ }
+{
+    let digits = put_byte(out, at, b'\t');
+    put_digits(out, digits, n, 5)
+}
+
+// A lower bound and its upper.
+fn put_range(out: &mut [u8], at: usize, lower: u16, upper: u16) -> usize
+    requires { ⌜ at + 12 ≤ length (now out) ⌝ }
+    ensures { λ r. ⌜ Put (tab ∷ (decimalText lower ++ (tab ∷ decimalText upper))) at (now (out .entry)) r (now (out .exit)) ⌝ }
+{
+    let second = put_field(out, at, lower as usize);
+    put_field(out, second, upper as usize)
+}
+
+// A line with a word and one number.
+fn put_count(out: &mut [u8], word: &[u8], n: usize) -> usize
+    requires { ⌜ length (now word) + 7 ≤ length (now out) ⌝ }
+    ensures { λ r. ⌜ Put (lineOf (now (word .entry)) (n ∷ [])) 0 (now (out .entry)) r (now (out .exit)) ⌝ }
+{
+    let count = put_word(out, 0, word);
+    let end = put_field(out, count, n);
+    put_byte(out, end, b'\n')
+}
+
+// The line of task i.
+fn put_task(out: &mut [u8], at: usize, boxes: &[u16], i: usize) -> usize
+    requires { ⌜ (at + 47 ≤ length (now out)) × (6 * i + 6 ≤ length (now boxes)) ⌝ }
+    ensures { λ r. ⌜ Put (taskLine (now (boxes .entry)) i) at (now (out .entry)) r (now (out .exit)) ⌝ }
+{
+    let b = bounds_at(boxes, i);
+    let number = put_word(out, at, b"task");
+    let start = put_field(out, number, i);
+    let elapsed = put_range(out, start, b.earliest.0, b.latest.0);
+    let overtime = put_range(out, elapsed, b.shortest.0, b.longest.0);
+    let end = put_range(out, overtime, b.fewest.0, b.most.0);
+    put_byte(out, end, b'\n')
+}
+
+// The lines of the first tasks.
+fn put_tasks(out: &mut [u8], at: usize, boxes: &[u16], tasks: usize) -> usize
+    requires { ⌜ (at + 47 * tasks ≤ length (now out)) × (6 * tasks ≤ length (now boxes)) ⌝ }
+    ensures { λ r. ⌜ Put (taskLines (now (boxes .entry)) tasks) at (now (out .entry)) r (now (out .exit)) ⌝ }
+{
+    let mut end = at;
+    for i in 0..tasks {
+        end = put_task(out, end, boxes, i);
+    }
+    end
+}
+
+// 01's number and place of each refusal.
+fn fault_of(r: Refusal) -> Fault
+    ensures { λ f. ⌜ (f .0 ≡ faultOf r .number) × (f .1 ≡ faultOf r .place) ⌝ }
+{
+    match r {
+        Refusal::Malformed(line) => Fault(1, line),
+        Refusal::Hours => Fault(2, 0),
+        Refusal::Calendars => Fault(3, 0),
+        Refusal::Symbol(index) => Fault(4, index),
+        Refusal::Tasks => Fault(5, 0),
+        Refusal::NoCalendar(task) => Fault(6, task),
+        Refusal::WorkTime(task) => Fault(7, task),
+        Refusal::TaskHeight(task) => Fault(8, task),
+        Refusal::TaskBounds(task) => Fault(9, task),
+        Refusal::Capacity => Fault(10, 0),
+        Refusal::UnknownStep(step) => Fault(11, step),
+        Refusal::NotAdmitted(step) => Fault(12, step),
+        Refusal::AfterImpossible(step) => Fault(13, step),
+        Refusal::OutsideBounds(task) => Fault(14, task),
+        Refusal::NotValid(task) => Fault(15, task),
+        Refusal::OverCapacity(hour) => Fault(16, hour),
+        Refusal::MemorySize => Fault(31, 0),
+    }
+}
+
+// The one line of a refusal, 20 bytes at most; the bytes past it are untouched.
+pub fn list_refusal(r: Refusal, out: &mut [u8]) -> usize
+    requires { ⌜ 20 ≤ length (now out) ⌝ }
+    ensures { λ n. ⌜ (n ≡ length (refusedLine (faultOf r))) × (now (out .exit) ≡ written (refusedLine (faultOf r)) (now (out .entry))) ⌝ }
+{
+    let fault = fault_of(r);
+    let number = put_word(out, 0, b"refused");
+    let place = put_field(out, number, fault.0 as usize);
+    let end = put_field(out, place, fault.1);
+    put_byte(out, end, b'\n')
+}
+
+// The first line with the count, then the tasks.
+fn list_tasks(word: &[u8], n: usize, boxes: &[u16], tasks: usize, out: &mut [u8]) -> usize
+    requires { ⌜ (length (now word) + 7 + 47 * tasks ≤ length (now out)) × (6 * tasks ≤ length (now boxes)) ⌝ }
+    ensures { λ r. ⌜ Put (lineOf (now (word .entry)) (n ∷ []) ++ taskLines (now (boxes .entry)) tasks) 0 (now (out .entry)) r (now (out .exit)) ⌝ }
+{
+    let first = put_count(out, word, n);
+    put_tasks(out, first, boxes, tasks)
+}
+
+// What a run of the filter answered, and the boxes that it left; the bytes past the listing are untouched.
+pub fn list_run(answer: Filtered, boxes: &[u16], tasks: usize, out: &mut [u8]) -> usize
+    requires { ⌜ (tasks ≤ mostTasks) × (6 * tasks ≤ length (now boxes)) × (mostListing ≤ length (now out)) ⌝ }
+    ensures { λ n. ⌜ (n ≡ length (listing (filterAnswer answer) (now (boxes .entry)) tasks)) × (now (out .exit) ≡ written (listing (filterAnswer answer) (now (boxes .entry)) tasks) (now (out .entry))) ⌝ }
+{
+    match answer {
+        Filtered::Refused(r) => list_refusal(r, out),
+        Filtered::NoRoom(n) => list_tasks(b"room", n, boxes, tasks, out),
+        Filtered::Settled(n) => list_tasks(b"settled", n, boxes, tasks, out),
+        Filtered::Impossible(n) => list_tasks(b"impossible", n, boxes, tasks, out),
+    }
+}
