@@ -2,7 +2,6 @@
 use plan::Refusal;
 use plan::bounds_at;
 use propagation::Filtered;
-use units::Bounds;
 ghost use mathlib.Core.Path.{_≡_};
 ghost use mathlib.Core.List.{[], _∷_, _++_};
 ghost use Prim.Native.Nat.{_+_, _*_, _≤_, _<_};
