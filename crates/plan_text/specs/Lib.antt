@@ -1,4 +1,5 @@
 pub mod Fields
 pub mod Records
 pub mod Text
+pub mod Lines
 pub mod Entry

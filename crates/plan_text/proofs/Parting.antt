@@ -1,0 +1,66 @@
+-- Laws of lines and fields: a text's first part and the parts after it. Assumes nothing.
+use mathlib.Core.Path.{_≡_, refl, sym, ap, _∙_}
+use mathlib.Core.Bool.{Bool, true, false}
+use mathlib.Core.List.{List, [], _∷_}
+use Prim.Native.Nat.{ℕ, suc, _+_, _≤_, _<_}
+use native.Mathlib.Numerals.{add-one}
+use native.Mathlib.Omega.{arith}
+use lib.Dec.{eqb}
+use lib.ListN.{length, getD, take, drop, drop-of-length-le}
+use lib.Seq.{drop-cons}
+use borrow.Author.Tests.{eq-eqb, ne-eqb}
+use Rattle.units.specs.Choice.{if_then_else_}
+use Rattle.units.proofs.Choices.{if-true, if-false}
+use Rattle.plan_text.specs.Fields.{intoFirst, parts}
+use Rattle.plan_text.specs.Lines.{firstAt}
+
+module _ (separator : ℕ) where
+  pub first-within : (l : List ℕ) → firstAt separator l ≤ length l
+  unfolding firstAt if_then_else_
+  first-within [] = omega arith
+  first-within (b ∷ bs) = go (first-within bs) (eqb b separator)
+    where
+      go : firstAt separator bs ≤ length bs → (t : Bool) → (if t then 0 else suc (firstAt separator bs)) ≤ suc (length bs)
+      go h true = omega arith
+      go h false = omega arith
+
+  -- there is one: the part before it, and the parts after it
+  pub parts-more : (l : List ℕ) → firstAt separator l < length l
+      → parts separator l ≡ take (firstAt separator l) l ∷ parts separator (drop (suc (firstAt separator l)) l)
+  unfolding firstAt if_then_else_ parts intoFirst
+  parts-more [] h = absurd (omega arith)
+  parts-more (b ∷ bs) h = go (λ k. parts-more bs k) (eqb b separator) h
+    where
+      go : (firstAt separator bs < length bs
+          → parts separator bs ≡ take (firstAt separator bs) bs ∷ parts separator (drop (suc (firstAt separator bs)) bs))
+          → (t : Bool) → (if t then 0 else suc (firstAt separator bs)) < suc (length bs)
+          → (if t then [] ∷ parts separator bs else intoFirst b (parts separator bs))
+          ≡ take (if t then 0 else suc (firstAt separator bs)) (b ∷ bs)
+          ∷ parts separator (drop (suc (if t then 0 else suc (firstAt separator bs))) (b ∷ bs))
+      go more true k = refl
+      go more false k = rw (more (omega arith))
+
+  -- there is none: the whole
+  pub parts-last : (l : List ℕ) → firstAt separator l ≡ length l → parts separator l ≡ l ∷ []
+  unfolding firstAt if_then_else_ parts intoFirst
+  parts-last [] h = refl
+  parts-last (b ∷ bs) h = go (λ k. parts-last bs k) (eqb b separator) h
+    where
+      go : (firstAt separator bs ≡ length bs → parts separator bs ≡ bs ∷ []) → (t : Bool) → (if t then 0 else suc (firstAt separator bs)) ≡ suc (length bs)
+          → (if t then [] ∷ parts separator bs else intoFirst b (parts separator bs)) ≡ (b ∷ bs) ∷ []
+      go last true k = absurd (omega arith)
+      go last false k = rw (last (omega arith))
+
+  -- a loop that looks for it
+  pub first-here : (l : List ℕ) (i : ℕ) → i < length l → getD l i 0 ≡ separator → firstAt separator (drop i l) ≡ 0
+  unfolding firstAt
+  first-here l i h e = rw (drop-cons l i 0) (if-true _ _ _ (eq-eqb _ _ e))
+
+  pub first-later : (l : List ℕ) (i : ℕ) → i < length l → (getD l i 0 ≡ separator → ⊥)
+      → firstAt separator (drop i l) ≡ suc (firstAt separator (drop (i + 1) l))
+  unfolding firstAt
+  first-later l i h e = rw (add-one, drop-cons l i 0) (if-false _ _ _ (ne-eqb _ _ e))
+
+  pub first-end : (l : List ℕ) (i : ℕ) → length l ≤ i → firstAt separator (drop i l) ≡ 0
+  unfolding firstAt
+  first-end l i h = rw (drop-of-length-le l h)
