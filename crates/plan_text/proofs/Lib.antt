@@ -1,2 +1,4 @@
 pub mod Parting
 pub mod Reading
+pub mod Gathering
+pub mod Recording

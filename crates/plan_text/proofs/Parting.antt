@@ -2,13 +2,13 @@
 use mathlib.Core.Path.{_≡_, refl, sym, ap, _∙_}
 use mathlib.Core.Bool.{Bool, true, false}
 use mathlib.Core.List.{List, [], _∷_}
-use Prim.Native.Nat.{ℕ, suc, _+_, _≤_, _<_}
+use Prim.Native.Nat.{ℕ, suc, _+_, _-_, _≤_, _<_}
 use native.Mathlib.Numerals.{add-one}
 use native.Mathlib.Omega.{arith}
-use lib.Dec.{eqb}
-use lib.ListN.{length, getD, take, drop, drop-of-length-le}
-use lib.Seq.{drop-cons}
-use borrow.Author.Tests.{eq-eqb, ne-eqb}
+use lib.Dec.{eqb, ltb}
+use lib.ListN.{length, getD, take, drop, length-drop, drop-of-length-le}
+use lib.Seq.{drop-cons, take-all, length-take-le}
+use borrow.Author.Tests.{eq-eqb, ne-eqb, ltb-true, ltb-false}
 use Rattle.units.specs.Choice.{if_then_else_}
 use Rattle.units.proofs.Choices.{if-true, if-false}
 use Rattle.plan_text.specs.Fields.{intoFirst, parts}
@@ -64,3 +64,29 @@ module _ (separator : ℕ) where
   pub first-end : (l : List ℕ) (i : ℕ) → length l ≤ i → firstAt separator (drop i l) ≡ 0
   unfolding firstAt
   first-end l i h = rw (drop-of-length-le l h)
+
+  -- the first part, and some parts after it
+  pub parts-first : (l : List ℕ) → (ps : List (List ℕ)) × (parts separator l ≡ take (firstAt separator l) l ∷ ps)
+  parts-first l = go (ltb (firstAt separator l) (length l)) refl
+    where
+      go : (t : Bool) → ltb (firstAt separator l) (length l) ≡ t
+          → (ps : List (List ℕ)) × (parts separator l ≡ take (firstAt separator l) l ∷ ps)
+      go true e = (_, parts-more l (ltb-true _ _ e))
+      go false e =
+          let none : firstAt separator l ≡ length l = omega (arith, ltb-false (firstAt separator l) (length l) e, first-within l) in
+          ([], parts-last l none ∙ ap (λ (p : List ℕ). p ∷ []) (sym (take-all (firstAt separator l) l (omega arith))))
+
+-- a part up to the end
+pub to-end : (l : List ℕ) (from : ℕ) → take (length l - from) (drop from l) ≡ drop from l
+to-end l from = take-all (length l - from) (drop from l) (omega (arith, length-drop from l))
+
+pub rest-length : (l : List ℕ) (from : ℕ) → length (take (length l - from) (drop from l)) ≡ length l - from
+rest-length l from = ap length (to-end l from) ∙ length-drop from l
+
+-- the end of the first part of what is left from an index on, and the length of that part
+module _ (separator : ℕ) (l : List ℕ) (from e : ℕ) (p : e ≡ firstAt separator (take (length l - from) (drop from l))) where
+  pub end-in : e ≤ length l - from
+  end-in = omega (arith, first-within separator (take (length l - from) (drop from l)), rest-length l from)
+
+  pub part-length : e ≡ length (take e (take (length l - from) (drop from l)))
+  part-length = sym (length-take-le e (take (length l - from) (drop from l)) (omega (arith, end-in, rest-length l from)))

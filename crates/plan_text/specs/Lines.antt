@@ -26,7 +26,7 @@ numberMade (Number n) = some n
 
 abbrev pub numbersMade : MaybeNumbers → List ℕ → Option (List ℕ)
 numbersMade NotNumbers cells = none
-numbersMade (Count n) cells = some (take n cells)
+numbersMade (Count n) cells = someIf (leb n (length cells)) (take n cells)
 
 -- the numbers, if they are at most so many
 unfoldable pub atMost : ℕ → Option (List ℕ) → Option (List ℕ)

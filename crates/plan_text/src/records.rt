@@ -2,20 +2,20 @@
 use crate::LineRecord;
 use crate::MaybeNumbers;
 use crate::fields;
-ghost use mathlib.Core.List.{[]};
+ghost use mathlib.Core.List.{List};
 ghost use mathlib.Core.Path.{_≡_};
-ghost use Prim.Native.Nat.{_≤_};
+ghost use Prim.Native.Nat.{ℕ, _≤_};
 ghost use lib.ListN.{length, drop};
 ghost use Rattle.plan_text.specs.Fields.{tab, parts};
 ghost use Rattle.plan_text.specs.Records.{planOf, calOf, taskOf, recordOf};
 ghost use Rattle.plan_text.specs.Lines.{mostFields, lineRecord};
 
-// `plan`: two numbers.
-fn plan_of(fields: &[u8], numbers: &mut [u16]) -> LineRecord
-    requires { ⌜ length (now numbers) ≡ mostFields ⌝ }
-    ensures { λ r. ⌜ lineRecord r (now (fields .entry)) (now (numbers .exit)) ≡ planOf (parts tab (now (fields .entry))) ⌝ }
+// `plan`: two numbers, in the fields from an index of the line on.
+fn plan_of(line: &[u8], from: usize, numbers: &mut [u16]) -> LineRecord
+    requires { ⌜ (from ≤ length (now line)) × (length (now numbers) ≡ mostFields) ⌝ }
+    ensures { λ r. ⌜ lineRecord r (now (line .entry)) (now (numbers .exit)) ≡ planOf (parts tab (drop from (now (line .entry)))) ⌝ }
 {
-    let MaybeNumbers::Count(count) = fields::numbers_of(fields, numbers) else {
+    let MaybeNumbers::Count(count) = fields::numbers_of(&line[from..], numbers) else {
         return LineRecord::Other;
     };
     if count != 2 {
@@ -27,10 +27,10 @@ fn plan_of(fields: &[u8], numbers: &mut [u16]) -> LineRecord
     }
 }
 
-// `cal`: one field of symbols, which begins in the line where the fields do.
+// `cal`: one field of symbols, from an index of the line on. It stores no numbers, so the contract takes any.
 fn cal_of(line: &[u8], from: usize) -> LineRecord
     requires { ⌜ from ≤ length (now line) ⌝ }
-    ensures { λ r. ⌜ lineRecord r (now (line .entry)) [] ≡ calOf (parts tab (drop from (now (line .entry)))) ⌝ }
+    ensures { λ r. ⌜ ((ns : List ℕ) → lineRecord r (now (line .entry)) ns ≡ calOf (parts tab (drop from (now (line .entry))))) ⌝ }
 {
     let fields = &line[from..];
     if fields::end_of(fields, fields::TAB) != fields.len() {
@@ -42,12 +42,12 @@ fn cal_of(line: &[u8], from: usize) -> LineRecord
     LineRecord::Cal(from)
 }
 
-// `task`: three numbers or nine.
-fn task_of(fields: &[u8], numbers: &mut [u16]) -> LineRecord
-    requires { ⌜ length (now numbers) ≡ mostFields ⌝ }
-    ensures { λ r. ⌜ lineRecord r (now (fields .entry)) (now (numbers .exit)) ≡ taskOf (parts tab (now (fields .entry))) ⌝ }
+// `task`: three numbers or nine, in the fields from an index of the line on.
+fn task_of(line: &[u8], from: usize, numbers: &mut [u16]) -> LineRecord
+    requires { ⌜ (from ≤ length (now line)) × (length (now numbers) ≡ mostFields) ⌝ }
+    ensures { λ r. ⌜ lineRecord r (now (line .entry)) (now (numbers .exit)) ≡ taskOf (parts tab (drop from (now (line .entry)))) ⌝ }
 {
-    let MaybeNumbers::Count(count) = fields::numbers_of(fields, numbers) else {
+    let MaybeNumbers::Count(count) = fields::numbers_of(&line[from..], numbers) else {
         return LineRecord::Other;
     };
     if count == 3 {
@@ -55,6 +55,29 @@ fn task_of(fields: &[u8], numbers: &mut [u16]) -> LineRecord
     }
     if count == 9 {
         return LineRecord::Task(count);
+    }
+    LineRecord::Other
+}
+
+// A line's record, by its first field.
+pub fn record_of(line: &[u8], numbers: &mut [u16]) -> LineRecord
+    requires { ⌜ length (now numbers) ≡ mostFields ⌝ }
+    ensures { λ r. ⌜ lineRecord r (now (line .entry)) (now (numbers .exit)) ≡ recordOf (now (line .entry)) ⌝ }
+{
+    let end = fields::end_of(line, fields::TAB);
+    if end == line.len() {
+        return LineRecord::Other;
+    }
+    let word = &line[..end];
+    let from = end + 1;
+    if fields::is_word(word, b"plan") {
+        return plan_of(line, from, numbers);
+    }
+    if fields::is_word(word, b"cal") {
+        return cal_of(line, from);
+    }
+    if fields::is_word(word, b"task") {
+        return task_of(line, from, numbers);
     }
     LineRecord::Other
 }
