@@ -3,3 +3,4 @@ pub mod Records
 pub mod Text
 pub mod Lines
 pub mod Entry
+pub mod Scanning

@@ -2,7 +2,7 @@
 use mathlib.Core.Bool.{Bool, true, false}
 use mathlib.Core.Option.{Option, none, some}
 use mathlib.Core.List.{List, [], _∷_}
-use Prim.Native.Nat.{ℕ, suc}
+use Prim.Native.Nat.{ℕ, suc, _≤_}
 use lib.Dec.{leb, eqb}
 use lib.ListN.{length, take, drop}
 use Rattle.units.specs.Choice.{if_then_else_, someIf, onOption}
@@ -42,3 +42,10 @@ lineRecord line.Other bytes numbers = none
 lineRecord (line.Plan h c) bytes numbers = some (planRecord h c)
 lineRecord (line.Cal from) bytes numbers = some (calRecord (drop from bytes))
 lineRecord (line.Task n) bytes numbers = some (taskRecord (take n numbers))
+
+-- and what it names lies inside the line, or among the numbers that are stored
+abbrev pub Inside : LineRecord → ℕ → Type 0
+Inside line.Other size = Unit {0}
+Inside (line.Plan h c) size = Unit {0}
+Inside (line.Cal from) size = from ≤ size
+Inside (line.Task n) size = (3 ≤ n) × (n ≤ mostFields)

@@ -8,12 +8,13 @@ ghost use Prim.Native.Nat.{ℕ, _≤_};
 ghost use lib.ListN.{length, drop};
 ghost use Rattle.plan_text.specs.Fields.{tab, parts};
 ghost use Rattle.plan_text.specs.Records.{planOf, calOf, taskOf, recordOf};
-ghost use Rattle.plan_text.specs.Lines.{mostFields, lineRecord};
+ghost use Rattle.plan_text.specs.Lines.{mostFields, lineRecord, Inside};
 
 // `plan`: two numbers, in the fields from an index of the line on.
 fn plan_of(line: &[u8], from: usize, numbers: &mut [u16]) -> LineRecord
     requires { ⌜ (from ≤ length (now line)) × (length (now numbers) ≡ mostFields) ⌝ }
     ensures { λ r. ⌜ lineRecord r (now (line .entry)) (now (numbers .exit)) ≡ planOf (parts tab (drop from (now (line .entry)))) ⌝ }
+    ensures inside { λ r. ⌜ Inside r (length (now (line .entry))) ⌝ }
 {
     let MaybeNumbers::Count(count) = fields::numbers_of(&line[from..], numbers) else {
         return LineRecord::Other;
@@ -31,6 +32,7 @@ fn plan_of(line: &[u8], from: usize, numbers: &mut [u16]) -> LineRecord
 fn cal_of(line: &[u8], from: usize) -> LineRecord
     requires { ⌜ from ≤ length (now line) ⌝ }
     ensures { λ r. ⌜ ((ns : List ℕ) → lineRecord r (now (line .entry)) ns ≡ calOf (parts tab (drop from (now (line .entry))))) ⌝ }
+    ensures inside { λ r. ⌜ Inside r (length (now (line .entry))) ⌝ }
 {
     let fields = &line[from..];
     if fields::end_of(fields, fields::TAB) != fields.len() {
@@ -46,6 +48,7 @@ fn cal_of(line: &[u8], from: usize) -> LineRecord
 fn task_of(line: &[u8], from: usize, numbers: &mut [u16]) -> LineRecord
     requires { ⌜ (from ≤ length (now line)) × (length (now numbers) ≡ mostFields) ⌝ }
     ensures { λ r. ⌜ lineRecord r (now (line .entry)) (now (numbers .exit)) ≡ taskOf (parts tab (drop from (now (line .entry)))) ⌝ }
+    ensures inside { λ r. ⌜ Inside r (length (now (line .entry))) ⌝ }
 {
     let MaybeNumbers::Count(count) = fields::numbers_of(&line[from..], numbers) else {
         return LineRecord::Other;
@@ -63,6 +66,7 @@ fn task_of(line: &[u8], from: usize, numbers: &mut [u16]) -> LineRecord
 pub fn record_of(line: &[u8], numbers: &mut [u16]) -> LineRecord
     requires { ⌜ length (now numbers) ≡ mostFields ⌝ }
     ensures { λ r. ⌜ lineRecord r (now (line .entry)) (now (numbers .exit)) ≡ recordOf (now (line .entry)) ⌝ }
+    ensures inside { λ r. ⌜ Inside r (length (now (line .entry))) ⌝ }
 {
     let end = fields::end_of(line, fields::TAB);
     if end == line.len() {

@@ -26,19 +26,19 @@ returns : tie.Need-returns
 returns c =
     let l = c .before .before .before .before .args .line .now in
     let e = c .before .end-of .ensures ∙ ap (firstAt tab) (to-end l (c .before .before .before .before .args .from)) in
-    λ ns. sym (cal-more _ (λ q. c .if1 .taken (omega (arith, e, q, length-drop (c .before .before .before .before .args .from) l))))
+    (λ ns. sym (cal-more _ (λ q. c .if1 .taken (omega (arith, e, q, length-drop (c .before .before .before .before .args .from) l)))), tt)
 
 returns-2 : tie.Need-returns-2
 returns-2 c =
     let l = c .before .before .before .before .before .args .line .now in
     let e = c .before .before .end-of .ensures ∙ ap (firstAt tab) (to-end l (c .before .before .before .before .before .args .from)) in
-    λ ns. sym (cal-empty (drop (c .before .before .before .before .before .args .from) l) (omega (arith, e, length-drop (c .before .before .before .before .before .args .from) l)) (omega (arith, length-drop (c .before .before .before .before .before .args .from) l)))
+    (λ ns. sym (cal-empty (drop (c .before .before .before .before .before .args .from) l) (omega (arith, e, length-drop (c .before .before .before .before .before .args .from) l)) (omega (arith, length-drop (c .before .before .before .before .before .args .from) l))), tt)
 
 returns-3 : tie.Need-returns-3
 returns-3 c =
     let l = c .before .before .before .before .before .args .line .now in
     let e = c .before .before .end-of .ensures ∙ ap (firstAt tab) (to-end l (c .before .before .before .before .before .args .from)) in
-    λ ns. sym (cal-is (drop (c .before .before .before .before .before .args .from) l) (omega (arith, e, length-drop (c .before .before .before .before .before .args .from) l)) (omega (arith, length-drop (c .before .before .before .before .before .args .from) l)))
+    (λ ns. sym (cal-is (drop (c .before .before .before .before .before .args .from) l) (omega (arith, e, length-drop (c .before .before .before .before .before .args .from) l)) (omega (arith, length-drop (c .before .before .before .before .before .args .from) l))), omega arith)
 
 pub cal-of-spec : {M : Type 1} → statement M
 cal-of-spec =

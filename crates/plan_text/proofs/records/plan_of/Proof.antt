@@ -34,7 +34,7 @@ same-length c = search needs
 returns : tie.Need-returns
 returns c =
     let e = c .before .before .before .before .numbers-of .ensures ∙ ap₂ (λ m k. atMost m (numbersOf (parts tab k))) (c .before .before .before .before .before .before .before .before .before .pre .1) (to-end _ (c .before .before .before .before .before .before .before .before .before .args .from)) in
-    sym (plan-none _ (sym (ap (λ (r : MaybeNumbers). numbersMade r (c .before .before .before .before .numbers-of .last .1 .0)) (c .enum-told .given .1)) ∙ e))
+    (sym (plan-none _ (sym (ap (λ (r : MaybeNumbers). numbersMade r (c .before .before .before .before .numbers-of .last .1 .0)) (c .enum-told .given .1)) ∙ e)), tt)
 
 same-length-2 : tie.Need-same-length-2
 same-length-2 c = search needs
@@ -42,7 +42,7 @@ same-length-2 c = search needs
 returns-2 : tie.Need-returns-2
 returns-2 c =
     let e = c .before .before .before .before .before .before .numbers-of .ensures ∙ ap₂ (λ m k. atMost m (numbersOf (parts tab k))) (c .before .before .before .before .before .before .before .before .before .before .before .pre .1) (to-end _ (c .before .before .before .before .before .before .before .before .before .before .before .args .from)) in
-    sym (plan-not (c .before .before .before .before .before .before .numbers-of .last .1 .0) _ _ (c .before .before .before .before .before .before .numbers-of .kept .1 .0 ∙ c .before .before .before .before .before .before .before .before .before .before .before .pre .1) (sym (ap (λ (r : MaybeNumbers). numbersMade r (c .before .before .before .before .before .before .numbers-of .last .1 .0)) (c .before .before .count .given .1)) ∙ e) (c .if1 .taken))
+    (sym (plan-not (c .before .before .before .before .before .before .numbers-of .last .1 .0) _ _ (c .before .before .before .before .before .before .numbers-of .kept .1 .0 ∙ c .before .before .before .before .before .before .before .before .before .before .before .pre .1) (sym (ap (λ (r : MaybeNumbers). numbersMade r (c .before .before .before .before .before .before .numbers-of .last .1 .0)) (c .before .before .count .given .1)) ∙ e) (c .if1 .taken)), tt)
 
 slice-read-t14 : tie.Need-slice-read-t14
 slice-read-t14 c = search needs
@@ -56,7 +56,7 @@ same-length-3 c = search needs
 returns-3 : tie.Need-returns-3
 returns-3 c =
     let e = c .before .before .before .before .before .before .before .before .numbers-of .ensures ∙ ap₂ (λ m k. atMost m (numbersOf (parts tab k))) (c .before .before .before .before .before .before .before .before .before .before .before .before .before .pre .1) (to-end _ (c .before .before .before .before .before .before .before .before .before .before .before .before .before .args .from)) in
-    sym (plan-is (c .before .before .before .before .before .before .before .before .numbers-of .last .1 .0) _ _ (c .before .before .before .before .before .before .before .before .numbers-of .kept .1 .0 ∙ c .before .before .before .before .before .before .before .before .before .before .before .before .before .pre .1) (sym (ap (λ (r : MaybeNumbers). numbersMade r (c .before .before .before .before .before .before .before .before .numbers-of .last .1 .0)) (c .before .before .before .before .count .given .1)) ∙ e) (c .before .before .if1 .left))
+    (sym (plan-is (c .before .before .before .before .before .before .before .before .numbers-of .last .1 .0) _ _ (c .before .before .before .before .before .before .before .before .numbers-of .kept .1 .0 ∙ c .before .before .before .before .before .before .before .before .before .before .before .before .before .pre .1) (sym (ap (λ (r : MaybeNumbers). numbersMade r (c .before .before .before .before .before .before .before .before .numbers-of .last .1 .0)) (c .before .before .before .before .count .given .1)) ∙ e) (c .before .before .if1 .left)), tt)
 
 pub plan-of-spec : {M : Type 1} → statement M
 plan-of-spec =

@@ -14,7 +14,7 @@ end-of-requires : tie.Need-end-of-requires
 end-of-requires c κs = search needs
 
 returns : tie.Need-returns
-returns c = sym (record-one _ (sym (c .before .end-of .ensures) ∙ c .if1 .taken))
+returns c = (sym (record-one _ (sym (c .before .end-of .ensures) ∙ c .if1 .taken)), tt)
 
 slice-aggregate-word : tie.Need-slice-aggregate-word
 slice-aggregate-word c = sym (length-take-le (c .before .before .end-of .result) (c .before .before .before .before .before .args .line .now) (omega (arith, c .before .before .end-of .ensures, first-within tab (c .before .before .before .before .before .args .line .now))))
@@ -35,7 +35,7 @@ same-length : tie.Need-same-length
 same-length c = search needs
 
 returns-2 : tie.Need-returns-2
-returns-2 c = c .before .before .plan-of .ensures ∙ sym (record-plan (c .before .before .before .before .before .before .before .before .before .before .before .before .args .line .now) (c .before .before .before .before .before .before .before .before .before .end-of .result) (c .before .before .before .before .before .before .before .before .before .end-of .ensures) (omega (arith, c .before .before .before .before .before .before .before .before .before .end-of .ensures, first-within tab (c .before .before .before .before .before .before .before .before .before .before .before .before .args .line .now))) (sym (c .before .before .before .before .before .is-word .ensures) ∙ c .before .before .before .before .if2 .taken))
+returns-2 c = (c .before .before .plan-of .ensures .0 ∙ sym (record-plan (c .before .before .before .before .before .before .before .before .before .before .before .before .args .line .now) (c .before .before .before .before .before .before .before .before .before .end-of .result) (c .before .before .before .before .before .before .before .before .before .end-of .ensures) (omega (arith, c .before .before .before .before .before .before .before .before .before .end-of .ensures, first-within tab (c .before .before .before .before .before .before .before .before .before .before .before .before .args .line .now))) (sym (c .before .before .before .before .before .is-word .ensures) ∙ c .before .before .before .before .if2 .taken)), c .before .before .plan-of .ensures .1)
 
 slice-aggregate-is-word-2 : tie.Need-slice-aggregate-is-word-2
 slice-aggregate-is-word-2 c = search needs
@@ -47,7 +47,7 @@ cal-of-requires : tie.Need-cal-of-requires
 cal-of-requires c κs = omega (arith, c .before .before .before .before .before .before .before .before .end-of .ensures, first-within tab (c .before .before .before .before .before .before .before .before .before .before .before .args .line .now))
 
 returns-3 : tie.Need-returns-3
-returns-3 c = c .cal-of .ensures _ ∙ sym (record-cal (c .before .before .before .before .before .before .before .before .before .before .before .before .args .line .now) (c .before .before .before .before .before .before .before .before .before .end-of .result) (c .before .before .before .before .before .before .before .before .before .end-of .ensures) (omega (arith, c .before .before .before .before .before .before .before .before .before .end-of .ensures, first-within tab (c .before .before .before .before .before .before .before .before .before .before .before .before .args .line .now))) (sym (c .before .before .before .before .before .is-word .ensures) ∙ c .before .before .before .before .if2 .left) (sym (c .before .before .is-word2 .ensures) ∙ c .before .if3 .taken))
+returns-3 c = (c .cal-of .ensures .0 _ ∙ sym (record-cal (c .before .before .before .before .before .before .before .before .before .before .before .before .args .line .now) (c .before .before .before .before .before .before .before .before .before .end-of .result) (c .before .before .before .before .before .before .before .before .before .end-of .ensures) (omega (arith, c .before .before .before .before .before .before .before .before .before .end-of .ensures, first-within tab (c .before .before .before .before .before .before .before .before .before .before .before .before .args .line .now))) (sym (c .before .before .before .before .before .is-word .ensures) ∙ c .before .before .before .before .if2 .left) (sym (c .before .before .is-word2 .ensures) ∙ c .before .if3 .taken)), c .cal-of .ensures .1)
 
 slice-aggregate-is-word-3 : tie.Need-slice-aggregate-is-word-3
 slice-aggregate-is-word-3 c = search needs
@@ -62,10 +62,10 @@ same-length-2 : tie.Need-same-length-2
 same-length-2 c = search needs
 
 returns-4 : tie.Need-returns-4
-returns-4 c = c .before .before .task-of .ensures ∙ sym (record-task (c .before .before .before .before .before .before .before .before .before .before .before .before .before .before .before .before .before .before .args .line .now) (c .before .before .before .before .before .before .before .before .before .before .before .before .before .before .before .end-of .result) (c .before .before .before .before .before .before .before .before .before .before .before .before .before .before .before .end-of .ensures) (omega (arith, c .before .before .before .before .before .before .before .before .before .before .before .before .before .before .before .end-of .ensures, first-within tab (c .before .before .before .before .before .before .before .before .before .before .before .before .before .before .before .before .before .before .args .line .now))) (sym (c .before .before .before .before .before .before .before .before .before .before .before .is-word .ensures) ∙ c .before .before .before .before .before .before .before .before .before .before .if2 .left) (sym (c .before .before .before .before .before .before .before .before .is-word2 .ensures) ∙ c .before .before .before .before .before .before .before .if3 .left) (sym (c .before .before .before .before .before .is-word3 .ensures) ∙ c .before .before .before .before .if4 .taken))
+returns-4 c = (c .before .before .task-of .ensures .0 ∙ sym (record-task (c .before .before .before .before .before .before .before .before .before .before .before .before .before .before .before .before .before .before .args .line .now) (c .before .before .before .before .before .before .before .before .before .before .before .before .before .before .before .end-of .result) (c .before .before .before .before .before .before .before .before .before .before .before .before .before .before .before .end-of .ensures) (omega (arith, c .before .before .before .before .before .before .before .before .before .before .before .before .before .before .before .end-of .ensures, first-within tab (c .before .before .before .before .before .before .before .before .before .before .before .before .before .before .before .before .before .before .args .line .now))) (sym (c .before .before .before .before .before .before .before .before .before .before .before .is-word .ensures) ∙ c .before .before .before .before .before .before .before .before .before .before .if2 .left) (sym (c .before .before .before .before .before .before .before .before .is-word2 .ensures) ∙ c .before .before .before .before .before .before .before .if3 .left) (sym (c .before .before .before .before .before .is-word3 .ensures) ∙ c .before .before .before .before .if4 .taken)), c .before .before .task-of .ensures .1)
 
 returns-5 : tie.Need-returns-5
-returns-5 c = sym (record-other (c .before .before .before .before .before .before .before .before .before .before .before .before .before .before .args .line .now) (c .before .before .before .before .before .before .before .before .before .before .before .end-of .result) (c .before .before .before .before .before .before .before .before .before .before .before .end-of .ensures) (omega (arith, c .before .before .before .before .before .before .before .before .before .before .before .end-of .ensures, first-within tab (c .before .before .before .before .before .before .before .before .before .before .before .before .before .before .args .line .now))) (sym (c .before .before .before .before .before .before .before .is-word .ensures) ∙ c .before .before .before .before .before .before .if2 .left) (sym (c .before .before .before .before .is-word2 .ensures) ∙ c .before .before .before .if3 .left) (sym (c .before .is-word3 .ensures) ∙ c .if4 .left))
+returns-5 c = (sym (record-other (c .before .before .before .before .before .before .before .before .before .before .before .before .before .before .args .line .now) (c .before .before .before .before .before .before .before .before .before .before .before .end-of .result) (c .before .before .before .before .before .before .before .before .before .before .before .end-of .ensures) (omega (arith, c .before .before .before .before .before .before .before .before .before .before .before .end-of .ensures, first-within tab (c .before .before .before .before .before .before .before .before .before .before .before .before .before .before .args .line .now))) (sym (c .before .before .before .before .before .before .before .is-word .ensures) ∙ c .before .before .before .before .before .before .if2 .left) (sym (c .before .before .before .before .is-word2 .ensures) ∙ c .before .before .before .if3 .left) (sym (c .before .is-word3 .ensures) ∙ c .if4 .left)), tt)
 
 pub record-of-spec : {M : Type 1} → statement M
 record-of-spec =

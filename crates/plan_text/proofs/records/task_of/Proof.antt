@@ -34,7 +34,7 @@ same-length c = search needs
 returns : tie.Need-returns
 returns c =
     let e = c .before .before .before .before .numbers-of .ensures ∙ ap₂ (λ m k. atMost m (numbersOf (parts tab k))) (c .before .before .before .before .before .before .before .before .before .pre .1) (to-end _ (c .before .before .before .before .before .before .before .before .before .args .from)) in
-    sym (task-none _ (sym (ap (λ (r : MaybeNumbers). numbersMade r (c .before .before .before .before .numbers-of .last .1 .0)) (c .enum-told .given .1)) ∙ e))
+    (sym (task-none _ (sym (ap (λ (r : MaybeNumbers). numbersMade r (c .before .before .before .before .numbers-of .last .1 .0)) (c .enum-told .given .1)) ∙ e)), tt)
 
 same-length-2 : tie.Need-same-length-2
 same-length-2 c = search needs
@@ -42,7 +42,7 @@ same-length-2 c = search needs
 returns-2 : tie.Need-returns-2
 returns-2 c =
     let e = c .before .before .before .before .before .before .numbers-of .ensures ∙ ap₂ (λ m k. atMost m (numbersOf (parts tab k))) (c .before .before .before .before .before .before .before .before .before .before .before .pre .1) (to-end _ (c .before .before .before .before .before .before .before .before .before .before .before .args .from)) in
-    sym (task-three (c .before .before .before .before .before .before .numbers-of .last .1 .0) _ _ (c .before .before .before .before .before .before .numbers-of .kept .1 .0 ∙ c .before .before .before .before .before .before .before .before .before .before .before .pre .1) (sym (ap (λ (r : MaybeNumbers). numbersMade r (c .before .before .before .before .before .before .numbers-of .last .1 .0)) (c .before .before .count .given .1)) ∙ e) (c .if1 .taken))
+    (sym (task-three (c .before .before .before .before .before .before .numbers-of .last .1 .0) _ _ (c .before .before .before .before .before .before .numbers-of .kept .1 .0 ∙ c .before .before .before .before .before .before .before .before .before .before .before .pre .1) (sym (ap (λ (r : MaybeNumbers). numbersMade r (c .before .before .before .before .before .before .numbers-of .last .1 .0)) (c .before .before .count .given .1)) ∙ e) (c .if1 .taken)), omega arith)
 
 same-length-3 : tie.Need-same-length-3
 same-length-3 c = search needs
@@ -50,7 +50,7 @@ same-length-3 c = search needs
 returns-3 : tie.Need-returns-3
 returns-3 c =
     let e = c .before .before .before .before .before .before .before .numbers-of .ensures ∙ ap₂ (λ m k. atMost m (numbersOf (parts tab k))) (c .before .before .before .before .before .before .before .before .before .before .before .before .pre .1) (to-end _ (c .before .before .before .before .before .before .before .before .before .before .before .before .args .from)) in
-    sym (task-nine (c .before .before .before .before .before .before .before .numbers-of .last .1 .0) _ _ (c .before .before .before .before .before .before .before .numbers-of .kept .1 .0 ∙ c .before .before .before .before .before .before .before .before .before .before .before .before .pre .1) (sym (ap (λ (r : MaybeNumbers). numbersMade r (c .before .before .before .before .before .before .before .numbers-of .last .1 .0)) (c .before .before .before .count .given .1)) ∙ e) (c .before .if1 .left) (c .if2 .taken))
+    (sym (task-nine (c .before .before .before .before .before .before .before .numbers-of .last .1 .0) _ _ (c .before .before .before .before .before .before .before .numbers-of .kept .1 .0 ∙ c .before .before .before .before .before .before .before .before .before .before .before .before .pre .1) (sym (ap (λ (r : MaybeNumbers). numbersMade r (c .before .before .before .before .before .before .before .numbers-of .last .1 .0)) (c .before .before .before .count .given .1)) ∙ e) (c .before .if1 .left) (c .if2 .taken)), omega arith)
 
 same-length-4 : tie.Need-same-length-4
 same-length-4 c = search needs
@@ -58,7 +58,7 @@ same-length-4 c = search needs
 returns-4 : tie.Need-returns-4
 returns-4 c =
     let e = c .before .before .before .before .before .before .before .numbers-of .ensures ∙ ap₂ (λ m k. atMost m (numbersOf (parts tab k))) (c .before .before .before .before .before .before .before .before .before .before .before .before .pre .1) (to-end _ (c .before .before .before .before .before .before .before .before .before .before .before .before .args .from)) in
-    sym (task-not (c .before .before .before .before .before .before .before .numbers-of .last .1 .0) _ _ (c .before .before .before .before .before .before .before .numbers-of .kept .1 .0 ∙ c .before .before .before .before .before .before .before .before .before .before .before .before .pre .1) (sym (ap (λ (r : MaybeNumbers). numbersMade r (c .before .before .before .before .before .before .before .numbers-of .last .1 .0)) (c .before .before .before .count .given .1)) ∙ e) (c .before .if1 .left) (c .if2 .left))
+    (sym (task-not (c .before .before .before .before .before .before .before .numbers-of .last .1 .0) _ _ (c .before .before .before .before .before .before .before .numbers-of .kept .1 .0 ∙ c .before .before .before .before .before .before .before .before .before .before .before .before .pre .1) (sym (ap (λ (r : MaybeNumbers). numbersMade r (c .before .before .before .before .before .before .before .numbers-of .last .1 .0)) (c .before .before .before .count .given .1)) ∙ e) (c .before .if1 .left) (c .if2 .left)), tt)
 
 pub task-of-spec : {M : Type 1} → statement M
 task-of-spec =

@@ -1,0 +1,233 @@
+// A plan text read line by line. What it holds is stored as far as there is room; what it counts goes on.
+use crate::LineRecord;
+use crate::MaybeScan;
+use crate::Scan;
+use crate::Scanned;
+use crate::fields;
+use crate::records;
+ghost use mathlib.Core.Bool.{Bool};
+ghost use mathlib.Core.List.{List};
+ghost use mathlib.Core.Path.{_≡_};
+ghost use Prim.Native.Nat.{ℕ, _+_, _-_, _*_, _≤_, _<_};
+ghost use lib.Dec.{eqb, leb};
+ghost use lib.ListN.{length, getD, set};
+ghost use Rattle.units.specs.Choice.{_and_};
+ghost use Rattle.plan_text.specs.Fields.{lf, parts};
+ghost use Rattle.plan_text.specs.Records.{planRecord, calRecord, taskRecord};
+ghost use Rattle.plan_text.specs.Text.{Read, mostBytes, nothing, withRecord, withLine, readLines, readText};
+ghost use Rattle.plan_text.specs.Entry.{boxOf};
+ghost use Rattle.plan_text.specs.Scanning.{writtenAt, counted, Sized, Holds, Follows, Scans};
+
+// The byte that ends lines.
+const LF: u8 = 10;
+
+// The most bytes of a text.
+const MOST_BYTES: usize = 32768;
+
+// The most numbers of a line.
+const MOST_NUMBERS: usize = 9;
+
+// Stores symbols from an index on.
+pub fn store_symbols(cells: &mut [u8], at: usize, symbols: &[u8])
+    requires { ⌜ at + length (now symbols) ≤ length (now cells) ⌝ }
+    ensures { λ _. ⌜ now (cells .exit) ≡ writtenAt at (now (symbols .entry)) (now (cells .entry)) ⌝ }
+{
+    for i in 0..symbols.len() {
+        cells[at + i] = symbols[i];
+    }
+}
+
+// Stores numbers from an index on.
+pub fn store_numbers(cells: &mut [u16], at: usize, numbers: &[u16])
+    requires { ⌜ at + length (now numbers) ≤ length (now cells) ⌝ }
+    ensures { λ _. ⌜ now (cells .exit) ≡ writtenAt at (now (numbers .entry)) (now (cells .entry)) ⌝ }
+{
+    for i in 0..numbers.len() {
+        cells[at + i] = numbers[i];
+    }
+}
+
+// The last hour of a plan; a text may say 0 hours.
+fn last_hour(hours: u16) -> u16
+    ensures { λ r. ⌜ r ≡ hours - 1 ⌝ }
+{
+    if hours == 0 {
+        return 0;
+    }
+    hours - 1
+}
+
+// Stores a task's box: the bounds of its line, or all that its work time allows.
+fn store_box(boxes: &mut [u16], task: usize, hours: u16, numbers: &[u16])
+    requires { ⌜ (6 * task + 6 ≤ length (now boxes)) × (3 ≤ length (now numbers)) ⌝ }
+    ensures { λ _. ⌜ now (boxes .exit) ≡ writtenAt (6 * task) (boxOf hours (now (numbers .entry))) (now (boxes .entry)) ⌝ }
+{
+    if numbers.len() == MOST_NUMBERS {
+        store_numbers(boxes, 6 * task, &numbers[3..]);
+        return;
+    }
+    let work_time = numbers[1];
+    let bounds = [0, last_hour(hours), work_time, hours, 0, work_time];
+    store_numbers(boxes, 6 * task, &bounds);
+}
+
+// Stores a task.
+fn store_task(
+    task: usize,
+    hours: u16,
+    numbers: &[u16],
+    task_calendars: &mut [u16],
+    work_times: &mut [u16],
+    heights: &mut [u16],
+    boxes: &mut [u16],
+)
+    requires { ⌜ (task < length (now «task_calendars»))
+        × Sized (now «task_calendars») (now «work_times») (now heights) (now boxes)
+        × (3 ≤ length (now numbers)) ⌝ }
+    ensures { λ _. ⌜ (now («task_calendars» .exit) ≡ set (now («task_calendars» .entry)) task (getD (now (numbers .entry)) 0 0))
+        × (now («work_times» .exit) ≡ set (now («work_times» .entry)) task (getD (now (numbers .entry)) 1 0))
+        × (now (heights .exit) ≡ set (now (heights .entry)) task (getD (now (numbers .entry)) 2 0))
+        × (now (boxes .exit) ≡ writtenAt (6 * task) (boxOf hours (now (numbers .entry))) (now (boxes .entry))) ⌝ }
+{
+    task_calendars[task] = numbers[0];
+    work_times[task] = numbers[1];
+    heights[task] = numbers[2];
+    store_box(boxes, task, hours, numbers);
+}
+
+// After a `plan` line: it comes first, and once.
+fn with_plan(scan: Scan, hours: u16, capacity: u16) -> MaybeScan
+    ensures { λ x. ⌜ ((r : Read) (n : ℕ) (symbols taskCalendars workTimes heights boxes : List ℕ)
+        → Holds r scan n symbols taskCalendars workTimes heights boxes
+        → Follows (withRecord r (planRecord hours capacity)) x n symbols taskCalendars workTimes heights boxes) ⌝ }
+{
+    if scan.started {
+        return MaybeScan::Broken;
+    }
+    MaybeScan::Next(Scan {
+        started: true,
+        hours,
+        capacity,
+        calendars: 0,
+        even: true,
+        symbols: 0,
+        tasks: 0,
+    })
+}
+
+// After a `cal` line: it comes after the plan line, and before the tasks.
+fn with_calendar(scan: Scan, calendar: &[u8], symbols: &mut [u8]) -> MaybeScan
+    requires { ⌜ (counted scan ≤ mostBytes) × (length (now calendar) ≤ mostBytes) ⌝ }
+    ensures { λ x. ⌜ ((r : Read) (n : ℕ) (taskCalendars workTimes heights boxes : List ℕ)
+        → Holds r scan n (now (symbols .entry)) taskCalendars workTimes heights boxes
+        → Follows (withRecord r (calRecord (now (calendar .entry)))) x (n + (length (now (calendar .entry)) + 1))
+            (now (symbols .exit)) taskCalendars workTimes heights boxes) ⌝ }
+{
+    if !scan.started {
+        return MaybeScan::Broken;
+    }
+    if scan.tasks != 0 {
+        return MaybeScan::Broken;
+    }
+    let next = Scan {
+        started: true,
+        hours: scan.hours,
+        capacity: scan.capacity,
+        calendars: scan.calendars + 1,
+        even: is_even(scan.even, calendar.len(), scan.hours),
+        symbols: scan.symbols + calendar.len(),
+        tasks: 0,
+    };
+    if next.symbols <= symbols.len() {
+        store_symbols(symbols, scan.symbols, calendar);
+    }
+    MaybeScan::Next(next)
+}
+
+// Whether each calendar line has H symbols, and so has another.
+fn is_even(even: bool, symbols: usize, hours: u16) -> bool
+    ensures { λ r. ⌜ r ≡ even and eqb symbols hours ⌝ }
+{
+    if !even {
+        return false;
+    }
+    symbols == hours as usize
+}
+
+// After a `task` line: it comes after the plan line.
+fn with_task(
+    scan: Scan,
+    numbers: &[u16],
+    task_calendars: &mut [u16],
+    work_times: &mut [u16],
+    heights: &mut [u16],
+    boxes: &mut [u16],
+) -> MaybeScan
+    requires { ⌜ (counted scan ≤ mostBytes)
+        × Sized (now «task_calendars») (now «work_times») (now heights) (now boxes)
+        × (3 ≤ length (now numbers)) ⌝ }
+    ensures { λ x. ⌜ ((r : Read) (n : ℕ) (symbols : List ℕ)
+        → Holds r scan n symbols (now («task_calendars» .entry)) (now («work_times» .entry)) (now (heights .entry)) (now (boxes .entry))
+        → Follows (withRecord r (taskRecord (now (numbers .entry)))) x (n + 1)
+            symbols (now («task_calendars» .exit)) (now («work_times» .exit)) (now (heights .exit)) (now (boxes .exit))) ⌝ }
+{
+    if !scan.started {
+        return MaybeScan::Broken;
+    }
+    let next = Scan {
+        started: true,
+        hours: scan.hours,
+        capacity: scan.capacity,
+        calendars: scan.calendars,
+        even: scan.even,
+        symbols: scan.symbols,
+        tasks: scan.tasks + 1,
+    };
+    if scan.tasks < task_calendars.len() {
+        store_task(
+            scan.tasks,
+            scan.hours,
+            numbers,
+            task_calendars,
+            work_times,
+            heights,
+            boxes,
+        );
+    }
+    MaybeScan::Next(next)
+}
+
+// After another line.
+fn with_line(
+    scan: Scan,
+    line: &[u8],
+    symbols: &mut [u8],
+    task_calendars: &mut [u16],
+    work_times: &mut [u16],
+    heights: &mut [u16],
+    boxes: &mut [u16],
+) -> MaybeScan
+    requires { ⌜ (counted scan ≤ mostBytes)
+        × (length (now line) ≤ mostBytes)
+        × Sized (now «task_calendars») (now «work_times») (now heights) (now boxes) ⌝ }
+    ensures { λ x. ⌜ ((r : Read) (n : ℕ)
+        → Holds r scan n (now (symbols .entry)) (now («task_calendars» .entry)) (now («work_times» .entry)) (now (heights .entry)) (now (boxes .entry))
+        → Follows (withLine r (now (line .entry))) x (n + (length (now (line .entry)) + 1))
+            (now (symbols .exit)) (now («task_calendars» .exit)) (now («work_times» .exit)) (now (heights .exit)) (now (boxes .exit))) ⌝ }
+{
+    let mut numbers = [0u16; MOST_NUMBERS];
+    let record = records::record_of(line, &mut numbers);
+    match record {
+        LineRecord::Other => MaybeScan::Broken,
+        LineRecord::Plan { hours, capacity } => with_plan(scan, hours, capacity),
+        LineRecord::Cal(from) => with_calendar(scan, &line[from..], symbols),
+        LineRecord::Task(count) => with_task(
+            scan,
+            &numbers[..count],
+            task_calendars,
+            work_times,
+            heights,
+            boxes,
+        ),
+    }
+}
