@@ -9,12 +9,13 @@ use native.Mathlib.Omega.{arith}
 use lib.Dec.{eqb}
 use lib.ListN.{length, getD, take, drop, set, length-append, length-drop, length-map}
 use borrow.Author.Tests.{eq-eqb, ne-eqb, eqb-true}
-use Rattle.units.specs.Choice.{_and_, if_then_else_, someIf}
+use Rattle.units.specs.Choice.{_and_, if_then_else_, someIf, onOption}
 use Rattle.units.proofs.Choices.{some-if, none-if, and-both, not-left, not-right, if-true, if-false, if-all}
 use Rattle.plan_text.specs.declared.Scan.{Scan}
+use Rattle.plan_text.specs.declared.MaybeScan.{MaybeScan}
 use Rattle.plan_text.specs.declared.MaybeScan.the-variants.{Broken, Next}
-use Rattle.plan_text.specs.Records.{planRecord, calRecord, taskRecord}
-use Rattle.plan_text.specs.Text.{Read, withRecord}
+use Rattle.plan_text.specs.Records.{Record, planRecord, calRecord, taskRecord, recordOf}
+use Rattle.plan_text.specs.Text.{Read, withRecord, withLine}
 use Rattle.plan_text.specs.Entry.{joined, boxOf, planIn, boxesIn, allOf}
 use Rattle.plan_text.specs.Scanning.{Kept, counted, writtenAt, Sized, Holds, Follows}
 use Rattle.plan_text.proofs.Storing.{kept-none, kept-past, kept-more, kept-one}
@@ -90,14 +91,14 @@ module _ {r : Read} {s : Scan} {n : ℕ} {sy tc wt hs bx : List ℕ} (held : Hol
         kept-boxes = held .kept-boxes;
       }
 
-  pub plan-broken : (h c : ℕ) → s .started ≡ true → withRecord r (planRecord h c) ≡ none
-  unfolding withRecord
+  pub plan-broken : (h c : ℕ) → s .started ≡ true → Follows (withRecord r (planRecord h c)) Broken n sy tc wt hs bx
+  unfolding withRecord Follows
   plan-broken h c e = none-if _ _ (if-true _ _ _ (sym (held .started) ∙ e))
 
   pub plan-next : (h c : ℕ) → s .started ≡ false
       → Follows (withRecord r (planRecord h c))
       (Next (record { started = true; hours = h; capacity = c; calendars = 0; even = true; symbols = 0; tasks = 0 })) n sy tc wt hs bx
-  unfolding withRecord planIn boxesIn joined allOf
+  unfolding withRecord planIn boxesIn joined allOf Follows
   plan-next h c e =
       (_,
       some-if _ _ (if-false _ _ _ (sym (held .started) ∙ e)),
@@ -117,12 +118,12 @@ module _ {r : Read} {s : Scan} {n : ℕ} {sy tc wt hs bx : List ℕ} (held : Hol
         kept-boxes = kept-none bx;
       })
 
-  pub cal-unstarted : (l : List ℕ) → s .started ≡ false → withRecord r (calRecord l) ≡ none
-  unfolding withRecord
+  pub cal-unstarted : (l : List ℕ) → s .started ≡ false → Follows (withRecord r (calRecord l)) Broken (n + (length l + 1)) sy tc wt hs bx
+  unfolding withRecord Follows
   cal-unstarted l e = none-if _ _ (not-left _ _ (sym (held .started) ∙ e))
 
-  pub cal-late : (l : List ℕ) → (s .tasks ≡ 0 → ⊥) → withRecord r (calRecord l) ≡ none
-  unfolding withRecord
+  pub cal-late : (l : List ℕ) → (s .tasks ≡ 0 → ⊥) → Follows (withRecord r (calRecord l)) Broken (n + (length l + 1)) sy tc wt hs bx
+  unfolding withRecord Follows
   cal-late l e = none-if _ _ (not-right _ _ (ne-eqb (length (r .tasks)) 0 (λ q. e (omega (arith, held .tasks)))))
 
   module _ (l : List ℕ) (even : Bool) (e : s .started ≡ true) (z : s .tasks ≡ 0) (q : even ≡ (s .even and eqb (length l) (s .hours))) where
@@ -141,7 +142,7 @@ module _ {r : Read} {s : Scan} {n : ℕ} {sy tc wt hs bx : List ℕ} (held : Hol
     cal-next : (sy′ : List ℕ) → Kept (joined (r .calendars) ++ l) sy′
         → Follows (withRecord r (calRecord l))
         (Next cal-scan) (n + (length l + 1)) sy′ tc wt hs bx
-    unfolding withRecord planIn boxesIn joined
+    unfolding withRecord planIn boxesIn joined Follows
     cal-next sy′ kept =
         (_,
         some-if _ _ (and-both _ _ (sym (held .started) ∙ e) (eq-eqb (length (r .tasks)) 0 (omega (arith, held .tasks)))),
@@ -174,8 +175,8 @@ module _ {r : Read} {s : Scan} {n : ℕ} {sy tc wt hs bx : List ℕ} (held : Hol
         cal-next sy
         (kept-past (joined (r .calendars) ++ l) sy (omega (arith, held .symbol-count, length-append (joined (r .calendars)) l)))
 
-  pub task-unstarted : (ns : List ℕ) → s .started ≡ false → withRecord r (taskRecord ns) ≡ none
-  unfolding withRecord
+  pub task-unstarted : (ns : List ℕ) → s .started ≡ false → Follows (withRecord r (taskRecord ns)) Broken (n + 1) sy tc wt hs bx
+  unfolding withRecord Follows
   task-unstarted ns e = none-if _ _ (sym (held .started) ∙ e)
 
   module _ (ns : List ℕ) (e : s .started ≡ true) where
@@ -197,7 +198,7 @@ module _ {r : Read} {s : Scan} {n : ℕ} {sy tc wt hs bx : List ℕ} (held : Hol
         → Kept (planIn r .heights ++ (getD ns 2 0 ∷ [])) hs′
         → Kept (boxesIn r ++ boxOf (s .hours) ns) bx′
         → Follows (withRecord r (taskRecord ns)) (Next task-scan) (n + 1) sy tc′ wt′ hs′ bx′
-    unfolding withRecord planIn boxesIn
+    unfolding withRecord planIn boxesIn Follows
     task-next tc′ wt′ hs′ bx′ p q u v =
         (_,
         some-if _ _ (sym (held .started) ∙ e),
@@ -258,3 +259,21 @@ module _ {r : Read} {s : Scan} {n : ℕ} {sy tc wt hs bx : List ℕ} (held : Hol
         (omega (arith, size .one-height, count-heights, length-append (planIn r .heights) (getD ns 2 0 ∷ []))))
         (kept-past (boxesIn r ++ boxOf (s .hours) ns) bx
         (omega (arith, size .one-box, count-boxes, box-length (s .hours) ns, length-append (boxesIn r) (boxOf (s .hours) ns))))
+
+-- ---- a line more
+
+module _ (r : Read) (line : List ℕ) where
+  pub line-none : recordOf line ≡ none → withLine r line ≡ none
+  unfolding withLine onOption
+  line-none e = rw e
+
+  pub line-is : (found : Record) → recordOf line ≡ some found → withLine r line ≡ withRecord r found
+  unfolding withLine onOption
+  line-is found e = rw e
+
+-- what follows, said of an equal outcome and more bytes
+pub follows : {o o′ : Option Read} (x : MaybeScan) (n m : ℕ) (sy tc wt hs bx : List ℕ) → o ≡ o′ → n ≤ m → Follows o′ x n sy tc wt hs bx
+    → Follows o x m sy tc wt hs bx
+unfolding Follows
+follows Broken n m sy tc wt hs bx e h f = e ∙ f
+follows (Next s) n m sy tc wt hs bx e h (r, q, held) = (r, e ∙ q, holds-later held m h)

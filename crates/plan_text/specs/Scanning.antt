@@ -49,13 +49,13 @@ pub record Holds (r : Read) (s : Scan) (n : ℕ) (symbols taskCalendars workTime
   pub kept-boxes : Kept (boxesIn r) boxes
 
 -- what has been read with another line, if the line keeps to the rules
-abbrev pub Follows : Option Read → MaybeScan → ℕ → List ℕ → List ℕ → List ℕ → List ℕ → List ℕ → Type 0
+unfoldable pub Follows : Option Read → MaybeScan → ℕ → List ℕ → List ℕ → List ℕ → List ℕ → List ℕ → Type 0
 Follows o Broken n symbols taskCalendars workTimes heights boxes = o ≡ none
 Follows o (Next s) n symbols taskCalendars workTimes heights boxes =
     (r : Read) × (o ≡ some r) × Holds r s n symbols taskCalendars workTimes heights boxes
 
 -- what the whole text comes to
-abbrev pub Scans : Answer Read → Scanned → List ℕ → List ℕ → List ℕ → List ℕ → List ℕ → Type 0
+unfoldable pub Scans : Answer Read → Scanned → List ℕ → List ℕ → List ℕ → List ℕ → List ℕ → Type 0
 Scans a (Malformed line) symbols taskCalendars workTimes heights boxes = a ≡ refused (fault 1 line)
 Scans a (Whole s) symbols taskCalendars workTimes heights boxes =
     (r : Read) × (a ≡ answered r) × Holds r s mostBytes symbols taskCalendars workTimes heights boxes

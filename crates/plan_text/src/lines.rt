@@ -216,8 +216,8 @@ fn with_line(
             (now (symbols .exit)) (now («task_calendars» .exit)) (now («work_times» .exit)) (now (heights .exit)) (now (boxes .exit))) ⌝ }
 {
     let mut numbers = [0u16; MOST_NUMBERS];
-    let record = records::record_of(line, &mut numbers);
-    match record {
+    let found = records::record_of(line, &mut numbers);
+    match found {
         LineRecord::Other => MaybeScan::Broken,
         LineRecord::Plan { hours, capacity } => with_plan(scan, hours, capacity),
         LineRecord::Cal(from) => with_calendar(scan, &line[from..], symbols),
