@@ -4,3 +4,4 @@ pub mod Gathering
 pub mod Recording
 pub mod Storing
 pub mod Following
+pub mod Lining

@@ -231,3 +231,103 @@ fn with_line(
         ),
     }
 }
+
+// Whether a text may end where so many bytes follow the last LF.
+fn is_end(whole: bool, started: bool, left: usize) -> bool
+    ensures { λ r. ⌜ r ≡ whole and started and eqb left 0 ⌝ }
+{
+    if !whole {
+        return false;
+    }
+    if !started {
+        return false;
+    }
+    left == 0
+}
+
+// The lines of a text, or of as much of it as is looked at.
+fn read_lines(
+    text: &[u8],
+    whole: bool,
+    symbols: &mut [u8],
+    task_calendars: &mut [u16],
+    work_times: &mut [u16],
+    heights: &mut [u16],
+    boxes: &mut [u16],
+) -> Scanned
+    requires { ⌜ (length (now text) ≤ mostBytes) × Sized (now «task_calendars») (now «work_times») (now heights) (now boxes) ⌝ }
+    ensures { λ x. ⌜ Scans (readLines whole 1 nothing (parts lf (now (text .entry)))) x
+        (now (symbols .exit)) (now («task_calendars» .exit)) (now («work_times» .exit)) (now (heights .exit)) (now (boxes .exit)) ⌝ }
+{
+    let mut scan = Scan {
+        started: false,
+        hours: 0,
+        capacity: 0,
+        calendars: 0,
+        even: true,
+        symbols: 0,
+        tasks: 0,
+    };
+    let mut line = 1;
+    let mut from = 0;
+    loop {
+        let rest = &text[from..];
+        let end = fields::end_of(rest, LF);
+        if end == rest.len() {
+            if is_end(whole, scan.started, end) {
+                return Scanned::Whole(scan);
+            }
+            return Scanned::Malformed(line);
+        }
+        let next = with_line(
+            scan,
+            &rest[..end],
+            symbols,
+            task_calendars,
+            work_times,
+            heights,
+            boxes,
+        );
+        let MaybeScan::Next(more) = next else {
+            return Scanned::Malformed(line);
+        };
+        scan = more;
+        line += 1;
+        from += end + 1;
+    }
+}
+
+// The first line that breaks the rules, or all that a text holds. No byte past the most is looked at.
+pub fn read_text(
+    text: &[u8],
+    symbols: &mut [u8],
+    task_calendars: &mut [u16],
+    work_times: &mut [u16],
+    heights: &mut [u16],
+    boxes: &mut [u16],
+) -> Scanned
+    requires { ⌜ Sized (now «task_calendars») (now «work_times») (now heights) (now boxes) ⌝ }
+    ensures { λ x. ⌜ Scans (readText (now (text .entry))) x
+        (now (symbols .exit)) (now («task_calendars» .exit)) (now («work_times» .exit)) (now (heights .exit)) (now (boxes .exit)) ⌝ }
+{
+    if text.len() <= MOST_BYTES {
+        return read_lines(
+            text,
+            true,
+            symbols,
+            task_calendars,
+            work_times,
+            heights,
+            boxes,
+        );
+    }
+    read_lines(
+        &text[..MOST_BYTES],
+        false,
+        symbols,
+        task_calendars,
+        work_times,
+        heights,
+        boxes,
+    )
+}

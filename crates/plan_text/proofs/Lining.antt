@@ -1,0 +1,151 @@
+-- Laws of a text's lines, as a loop over them reads them. Assumes nothing.
+use mathlib.Core.Path.{_≡_, refl, sym, ap, _∙_}
+use mathlib.Core.Bool.{Bool, true, false}
+use mathlib.Core.Option.{Option, none, some}
+use mathlib.Core.List.{List, [], _∷_}
+use Prim.Native.Nat.{ℕ, suc, _+_, _-_, _≤_, _<_}
+use native.Mathlib.Numerals.{add-one}
+use native.Mathlib.Omega.{arith}
+use lib.Dec.{eqb, leb}
+use lib.ListN.{length, take, drop}
+use lib.Seq.{drop-drop}
+use Rattle.units.specs.Choice.{_and_, if_then_else_, onOption}
+use Rattle.units.proofs.Choices.{if-true, if-false}
+use Rattle.plan.specs.Refusals.{fault, Answer, refused, answered}
+use Rattle.plan_text.specs.declared.Scan.{Scan}
+use Rattle.plan_text.specs.declared.MaybeScan.{MaybeScan}
+use Rattle.plan_text.specs.declared.MaybeScan.the-variants.{Broken, Next}
+use Rattle.plan_text.specs.declared.Scanned.the-variants.{Malformed, Whole}
+use Rattle.plan_text.specs.Fields.{lf, parts}
+use Rattle.plan_text.specs.Text.{Read, mostBytes, nothing, withLine, readLines}
+use Rattle.plan_text.specs.Entry.{joined, planIn, boxesIn, allOf}
+use Rattle.plan_text.specs.Lines.{firstAt}
+use Rattle.plan_text.specs.Scanning.{Sized, Holds, Follows, Scans}
+use Rattle.plan_text.proofs.Parting.{parts-more, parts-last, parts-first}
+use Rattle.plan_text.proofs.Storing.{kept-none}
+use Rattle.plan_text.proofs.Following.{holds-later}
+
+module _ (whole : Bool) (k : ℕ) (r : Read) (rest : List ℕ) where
+  lines-last : firstAt lf rest ≡ length rest
+      → readLines whole k r (parts lf rest) ≡ (if whole and r .started and eqb (length rest) 0 then answered r else refused (fault 1 k))
+  unfolding readLines
+  lines-last h = rw (parts-last lf rest h)
+
+  lines-line : firstAt lf rest < length rest
+      → readLines whole k r (parts lf rest)
+      ≡ onOption (withLine r (take (firstAt lf rest) rest)) (refused (fault 1 k))
+      (λ more. readLines whole (k + 1) more (parts lf (drop (suc (firstAt lf rest)) rest)))
+  unfolding readLines
+  lines-line h =
+      let (ps, s) = parts-first lf (drop (suc (firstAt lf rest)) rest) in
+      rw (parts-more lf rest h, s)
+
+-- how far a text has been read: what was read up to an index, and that the rest decides
+pub record Reached (text : List ℕ) (whole : Bool) (from line : ℕ) (s : Scan) (sy tc wt hs bx : List ℕ) : Type 0 where
+  pub inside : from ≤ length text
+  pub lines : line ≤ from + 1
+  pub so-far : Read
+  pub held : Holds so-far s from sy tc wt hs bx
+  pub decides : readLines whole 1 nothing (parts lf text) ≡ readLines whole line so-far (parts lf (drop from text))
+
+pub reached-none : (text : List ℕ) (whole : Bool) (sy tc wt hs bx : List ℕ)
+    → Reached text whole 0 1 (record { started = false; hours = 0; capacity = 0; calendars = 0; even = true; symbols = 0; tasks = 0 }) sy tc wt hs bx
+unfolding planIn boxesIn joined allOf
+reached-none text whole sy tc wt hs bx =
+    record {
+      inside = omega arith;
+      lines = omega arith;
+      so-far = nothing;
+      held =
+          record {
+            started = refl;
+            hours = refl;
+            capacity = refl;
+            calendars = refl;
+            even = refl;
+            symbol-count = refl;
+            tasks = refl;
+            few = omega arith;
+            kept-symbols = kept-none sy;
+            kept-calendars = kept-none tc;
+            kept-work-times = kept-none wt;
+            kept-heights = kept-none hs;
+            kept-boxes = kept-none bx;
+          };
+      decides = refl;
+    }
+
+-- a turn of the loop: the text from an index on, and the end of its first line
+module _ {text : List ℕ} {whole : Bool} {from line : ℕ} {s : Scan} {sy tc wt hs bx : List ℕ}
+    (at : Reached text whole from line s sy tc wt hs bx) (rest : List ℕ) (e : ℕ) (q : rest ≡ drop from text) (p : e ≡ firstAt lf rest)
+    where
+  pub text-ends : length text ≤ mostBytes → e ≡ length rest → (whole and s .started and eqb e 0) ≡ true
+      → Scans (readLines whole 1 nothing (parts lf text)) (Whole s) sy tc wt hs bx
+  unfolding Scans
+  text-ends m h t =
+      let t′ : (whole and at .so-far .started and eqb (length rest) 0) ≡ true = rw (at .held .started, h) at t in
+      (at .so-far,
+      at .decides ∙ ap (λ (l : List ℕ). readLines whole line (at .so-far) (parts lf l)) (sym q)
+      ∙ lines-last whole line (at .so-far) rest (sym p ∙ h)
+      ∙ if-true _ _ _ t′,
+      holds-later (at .held) mostBytes (omega (arith, at .inside)))
+
+  pub text-stops : e ≡ length rest → (whole and s .started and eqb e 0) ≡ false
+      → Scans (readLines whole 1 nothing (parts lf text)) (Malformed line) sy tc wt hs bx
+  unfolding Scans
+  text-stops h t =
+      let t′ : (whole and at .so-far .started and eqb (length rest) 0) ≡ false = rw (at .held .started, h) at t in
+      at .decides ∙ ap (λ (l : List ℕ). readLines whole line (at .so-far) (parts lf l)) (sym q)
+      ∙ lines-last whole line (at .so-far) rest (sym p ∙ h)
+      ∙ if-false _ _ _ t′
+
+  pub line-broken : (x : MaybeScan) (m : ℕ) (sy′ tc′ wt′ hs′ bx′ : List ℕ) → e < length rest → x ≡ Broken
+      → Follows (withLine (at .so-far) (take e rest)) x m sy′ tc′ wt′ hs′ bx′
+      → Scans (readLines whole 1 nothing (parts lf text)) (Malformed line) sy′ tc′ wt′ hs′ bx′
+  unfolding Scans Follows onOption
+  line-broken x m sy′ tc′ wt′ hs′ bx′ h k f =
+      let f′ : withLine (at .so-far) (take (firstAt lf rest) rest) ≡ none = rw (k, p) at f in
+      at .decides ∙ ap (λ (l : List ℕ). readLines whole line (at .so-far) (parts lf l)) (sym q)
+      ∙ lines-line whole line (at .so-far) rest (omega arith)
+      ∙ rw f′
+
+  line-next : (more : Scan) (sy′ tc′ wt′ hs′ bx′ : List ℕ) → e < length rest → from + (e + 1) ≤ length text → length (take e rest) ≡ e
+      → Follows (withLine (at .so-far) (take e rest)) (Next more) (from + (length (take e rest) + 1)) sy′ tc′ wt′ hs′ bx′
+      → Reached text whole (from + (e + 1)) (line + 1) more sy′ tc′ wt′ hs′ bx′
+  unfolding Follows onOption
+  line-next more sy′ tc′ wt′ hs′ bx′ h l len (r, f, held) =
+      let f′ : withLine (at .so-far) (take (firstAt lf rest) rest) ≡ some r = rw p at f in
+      let d : drop (suc (firstAt lf rest)) rest ≡ drop (from + (e + 1)) text = rw (q, drop-drop, p, q, add-one) in
+      record {
+        inside = l;
+        lines = omega (arith, at .lines);
+        so-far = r;
+        held = rw len at held;
+        decides =
+            at .decides ∙ ap (λ (l : List ℕ). readLines whole line (at .so-far) (parts lf l)) (sym q)
+            ∙ lines-line whole line (at .so-far) rest (omega arith)
+            ∙ rw (f′, d);
+      }
+
+  pub line-read : (x : MaybeScan) (more : Scan) (sy′ tc′ wt′ hs′ bx′ : List ℕ) → e < length rest → from + (e + 1) ≤ length text
+      → length (take e rest) ≡ e → x ≡ Next more
+      → Follows (withLine (at .so-far) (take e rest)) x (from + (length (take e rest) + 1)) sy′ tc′ wt′ hs′ bx′
+      → Reached text whole (from + (e + 1)) (line + 1) more sy′ tc′ wt′ hs′ bx′
+  line-read x more sy′ tc′ wt′ hs′ bx′ h l len k f = line-next more sy′ tc′ wt′ hs′ bx′ h l len (rw k at f)
+
+-- memory is lent at one length
+pub record SameSizes (sy₀ tc₀ wt₀ hs₀ bx₀ sy tc wt hs bx : List ℕ) : Type 0 where
+  pub of-symbols : length sy ≡ length sy₀
+  pub of-calendars : length tc ≡ length tc₀
+  pub of-work-times : length wt ≡ length wt₀
+  pub of-heights : length hs ≡ length hs₀
+  pub of-boxes : length bx ≡ length bx₀
+
+pub sized-still : {sy₀ tc₀ wt₀ hs₀ bx₀ sy tc wt hs bx : List ℕ} → SameSizes sy₀ tc₀ wt₀ hs₀ bx₀ sy tc wt hs bx → Sized tc₀ wt₀ hs₀ bx₀
+    → Sized tc wt hs bx
+sized-still same size =
+    record {
+      one-work-time = omega (arith, same .of-work-times, same .of-calendars, size .one-work-time);
+      one-height = omega (arith, same .of-heights, same .of-calendars, size .one-height);
+      one-box = omega (arith, same .of-boxes, same .of-calendars, size .one-box);
+    }
