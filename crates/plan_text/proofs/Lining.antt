@@ -8,16 +8,18 @@ use native.Mathlib.Numerals.{add-one}
 use native.Mathlib.Omega.{arith}
 use lib.Dec.{eqb, leb}
 use lib.ListN.{length, take, drop}
-use lib.Seq.{drop-drop}
+use lib.Seq.{drop-drop, take-all}
+use borrow.Author.Tests.{le-leb, lt-leb}
 use Rattle.units.specs.Choice.{_and_, if_then_else_, onOption}
 use Rattle.units.proofs.Choices.{if-true, if-false}
 use Rattle.plan.specs.Refusals.{fault, Answer, refused, answered}
 use Rattle.plan_text.specs.declared.Scan.{Scan}
 use Rattle.plan_text.specs.declared.MaybeScan.{MaybeScan}
 use Rattle.plan_text.specs.declared.MaybeScan.the-variants.{Broken, Next}
+use Rattle.plan_text.specs.declared.Scanned.{Scanned}
 use Rattle.plan_text.specs.declared.Scanned.the-variants.{Malformed, Whole}
 use Rattle.plan_text.specs.Fields.{lf, parts}
-use Rattle.plan_text.specs.Text.{Read, mostBytes, nothing, withLine, readLines}
+use Rattle.plan_text.specs.Text.{Read, mostBytes, nothing, withLine, readLines, readText}
 use Rattle.plan_text.specs.Entry.{joined, planIn, boxesIn, allOf}
 use Rattle.plan_text.specs.Lines.{firstAt}
 use Rattle.plan_text.specs.Scanning.{Sized, Holds, Follows, Scans}
@@ -149,3 +151,16 @@ sized-still same size =
       one-height = omega (arith, same .of-heights, same .of-calendars, size .one-height);
       one-box = omega (arith, same .of-boxes, same .of-calendars, size .one-box);
     }
+
+-- ---- the whole text, or as much of it as is looked at
+
+pub text-short : (text : List ℕ) → length text ≤ mostBytes → readText text ≡ readLines true 1 nothing (parts lf text)
+unfolding readText
+text-short text h = rw (le-leb (length text) mostBytes h, take-all mostBytes text h)
+
+pub text-long : (text : List ℕ) → mostBytes < length text → readText text ≡ readLines false 1 nothing (parts lf (take mostBytes text))
+unfolding readText
+text-long text h = rw (lt-leb (length text) mostBytes h)
+
+pub scans : {a a′ : Answer Read} (x : Scanned) (sy tc wt hs bx : List ℕ) → a ≡ a′ → Scans a′ x sy tc wt hs bx → Scans a x sy tc wt hs bx
+scans x sy tc wt hs bx e f = rw e f
