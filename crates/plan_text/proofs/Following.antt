@@ -175,6 +175,23 @@ module _ {r : Read} {s : Scan} {n : ℕ} {sy tc wt hs bx : List ℕ} (held : Hol
         cal-next sy
         (kept-past (joined (r .calendars) ++ l) sy (omega (arith, held .symbol-count, length-append (joined (r .calendars)) l)))
 
+  -- as many as there are tasks
+  pub count-calendars : s .tasks ≡ length (planIn r .taskCalendars)
+  unfolding planIn
+  count-calendars = held .tasks ∙ sym (length-map (r .tasks) (λ t. getD t 0 0))
+
+  pub count-work-times : s .tasks ≡ length (planIn r .workTimes)
+  unfolding planIn
+  count-work-times = held .tasks ∙ sym (length-map (r .tasks) (λ t. getD t 1 0))
+
+  pub count-heights : s .tasks ≡ length (planIn r .heights)
+  unfolding planIn
+  count-heights = held .tasks ∙ sym (length-map (r .tasks) (λ t. getD t 2 0))
+
+  pub count-boxes : 6 * s .tasks ≡ length (boxesIn r)
+  unfolding boxesIn
+  count-boxes = omega (arith, held .tasks, boxes-length (r .hours) (r .tasks))
+
   pub task-unstarted : (ns : List ℕ) → s .started ≡ false → Follows (withRecord r (taskRecord ns)) Broken (n + 1) sy tc wt hs bx
   unfolding withRecord Follows
   task-unstarted ns e = none-if _ _ (sym (held .started) ∙ e)
@@ -217,22 +234,6 @@ module _ {r : Read} {s : Scan} {n : ℕ} {sy tc wt hs bx : List ℕ} (held : Hol
           kept-heights = rw (map-more (λ t. getD t 2 0) (r .tasks) ns) u;
           kept-boxes = rw (map-more (boxOf (r .hours)) (r .tasks) ns, joined-more) (rw (held .hours) at v);
         })
-
-    count-calendars : s .tasks ≡ length (planIn r .taskCalendars)
-    unfolding planIn
-    count-calendars = held .tasks ∙ sym (length-map (r .tasks) (λ t. getD t 0 0))
-
-    count-work-times : s .tasks ≡ length (planIn r .workTimes)
-    unfolding planIn
-    count-work-times = held .tasks ∙ sym (length-map (r .tasks) (λ t. getD t 1 0))
-
-    count-heights : s .tasks ≡ length (planIn r .heights)
-    unfolding planIn
-    count-heights = held .tasks ∙ sym (length-map (r .tasks) (λ t. getD t 2 0))
-
-    count-boxes : 6 * s .tasks ≡ length (boxesIn r)
-    unfolding boxesIn
-    count-boxes = omega (arith, held .tasks, boxes-length (r .hours) (r .tasks))
 
     pub task-stored : (tc′ wt′ hs′ bx′ : List ℕ) → tc′ ≡ set tc (s .tasks) (getD ns 0 0) → wt′ ≡ set wt (s .tasks) (getD ns 1 0)
         → hs′ ≡ set hs (s .tasks) (getD ns 2 0) → bx′ ≡ writtenAt (6 * s .tasks) (boxOf (s .hours) ns) bx

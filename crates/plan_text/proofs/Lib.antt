@@ -5,3 +5,5 @@ pub mod Recording
 pub mod Storing
 pub mod Following
 pub mod Lining
+pub mod Judging
+pub mod Ending

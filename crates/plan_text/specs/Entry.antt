@@ -3,6 +3,7 @@
 use mathlib.Core.Bool.{Bool, true, false}
 use mathlib.Core.Option.{Option, none, some}
 use mathlib.Core.List.{List, [], _∷_, _++_, map}
+use mathlib.Core.Path.{_≡_}
 use Prim.Native.Nat.{ℕ, _-_, _*_}
 use lib.Dec.{leb, eqb}
 use lib.ListN.{length, getD, drop}
@@ -12,6 +13,8 @@ use Rattle.units.specs.Limits.{mostHours, mostCalendars, mostTasks, isPlanLengt
 use Rattle.plan.specs.Plan.{Plan, plan}
 use Rattle.plan.specs.Refusals.{Fault, unless, Answer, refused, answered, faultOf, onAnswer}
 use Rattle.plan.specs.Faults.{planFault}
+use Rattle.plan_text.specs.declared.PlanReading.{PlanReading}
+use Rattle.plan_text.specs.declared.PlanReading.the-variants as reading
 use Rattle.plan_text.specs.Text.{Read, readText}
 
 -- lists joined
@@ -109,3 +112,17 @@ module _ (calendars taskCalendars workTimes heights boxes : List ℕ) where
   readPlan text =
       onAnswer (readText text) unread
       (λ r. onOption (readFault (isEnough calendars taskCalendars workTimes heights boxes) r) (stored r) unread)
+
+-- an answer and the contents of the memory lent are those of an end, number for number
+pub record Leaves (e : ReadEnd) (answer : Answer PlanRead) (calendars taskCalendars workTimes heights boxes : List ℕ) : Type 0 where
+  pub answers : answer ≡ e .answer
+  pub leaves-calendars : calendars ≡ e .calendars
+  pub leaves-task-calendars : taskCalendars ≡ e .taskCalendars
+  pub leaves-work-times : workTimes ≡ e .workTimes
+  pub leaves-heights : heights ≡ e .heights
+  pub leaves-boxes : boxes ≡ e .boxes
+
+-- the number and the values of each case of the answer
+abbrev pub readingAnswer : PlanReading → Answer PlanRead
+readingAnswer (reading.Refused r) = refused (faultOf r)
+readingAnswer (reading.Read h c n m) = answered (record { hours = h; capacity = c; calendars = n; tasks = m })

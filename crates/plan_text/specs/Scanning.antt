@@ -5,6 +5,8 @@ use mathlib.Core.List.{List, _++_}
 use mathlib.Core.Path.{_≡_}
 use Prim.Native.Nat.{ℕ, _+_, _*_, _≤_}
 use lib.ListN.{length, take, drop}
+use Rattle.units.specs.Choice.{onOption}
+use Rattle.units.specs.Limits.{mostHours, mostCalendars, mostTasks}
 use Rattle.plan.specs.Refusals.{fault, Answer, refused, answered}
 use Rattle.plan_text.specs.declared.Scan.{Scan}
 use Rattle.plan_text.specs.declared.MaybeScan.{MaybeScan}
@@ -12,7 +14,7 @@ use Rattle.plan_text.specs.declared.MaybeScan.the-variants.{Broken, Next
 use Rattle.plan_text.specs.declared.Scanned.{Scanned}
 use Rattle.plan_text.specs.declared.Scanned.the-variants.{Malformed, Whole}
 use Rattle.plan_text.specs.Text.{Read, mostBytes}
-use Rattle.plan_text.specs.Entry.{joined, allOf, planIn, boxesIn}
+use Rattle.plan_text.specs.Entry.{joined, allOf, planIn, boxesIn, isEnough, readFault, ReadEnd, unread, stored}
 
 -- the cells from an index on become xs
 unfoldable pub writtenAt : ℕ → List ℕ → List ℕ → List ℕ
@@ -59,3 +61,17 @@ unfoldable pub Scans : Answer Read → Scanned → List ℕ → List ℕ → Lis
 Scans a (Malformed line) symbols taskCalendars workTimes heights boxes = a ≡ refused (fault 1 line)
 Scans a (Whole s) symbols taskCalendars workTimes heights boxes =
     (r : Read) × (a ≡ answered r) × Holds r s mostBytes symbols taskCalendars workTimes heights boxes
+
+-- a whole text as it is stored in memory for the most that a plan can hold
+pub record Stored (s : Scan) (symbols taskCalendars workTimes heights boxes : List ℕ) : Type 0 where
+  pub text : Read
+  pub held : Holds text s mostBytes symbols taskCalendars workTimes heights boxes
+  pub room : length symbols ≡ mostCalendars * mostHours
+  pub task-room : length taskCalendars ≡ mostTasks
+  pub size : Sized taskCalendars workTimes heights boxes
+
+-- what reading leaves of a text that keeps to the rules
+unfoldable pub tested : List ℕ → List ℕ → List ℕ → List ℕ → List ℕ → Read → ReadEnd
+tested calendars taskCalendars workTimes heights boxes r =
+    onOption (readFault (isEnough calendars taskCalendars workTimes heights boxes) r) (stored calendars taskCalendars workTimes heights boxes r)
+    (unread calendars taskCalendars workTimes heights boxes)

@@ -1,0 +1,33 @@
+use mathlib.Core.Path.{sym, _∙_}
+use native.Mathlib.Omega.{arith}
+use lib.ListN.{length}
+use borrow.Author.Tests.{le-leb, lt-leb}
+use Rattle.units.specs.Limits.{mostHours, mostCalendars, mostTasks}
+use Rattle.units.proofs.Choices.{not-left, not-right}
+use Rattle.plan.proofs.Refusing.{and-rest}
+use Rattle.plan_text.specs.Entry.{isEnough}
+use Rattle.plan_text.proofs.is_enough.Statement.{statement}
+use Rattle.plan_text.proofs.is_enough.Tie as tie
+
+returns : tie.Need-returns
+unfolding isEnough
+returns c = sym (not-left _ _ (lt-leb _ _ (c .if1 .taken)))
+
+returns-2 : tie.Need-returns-2
+unfolding isEnough
+returns-2 c = sym (not-right _ _ (not-left _ _ (lt-leb _ _ (c .if2 .taken))))
+
+returns-3 : tie.Need-returns-3
+unfolding isEnough
+returns-3 c = sym (not-right _ _ (not-right _ _ (not-left _ _ (lt-leb _ _ (c .if3 .taken)))))
+
+returns-4 : tie.Need-returns-4
+unfolding isEnough
+returns-4 c = sym (not-right _ _ (not-right _ _ (not-right _ _ (not-left _ _ (lt-leb _ _ (c .if4 .taken))))))
+
+returns-5 : tie.Need-returns-5
+unfolding isEnough
+returns-5 c = sym (and-rest _ _ (le-leb _ _ (c .before .before .before .if1 .left)) ∙ and-rest _ _ (le-leb _ _ (c .before .before .if2 .left)) ∙ and-rest _ _ (le-leb _ _ (c .before .if3 .left)) ∙ and-rest _ _ (le-leb _ _ (c .if4 .left)))
+
+pub is-enough-spec : {M : Type 1} → statement M
+is-enough-spec = tie.close (tie.spec returns returns-2 returns-3 returns-4 returns-5)
