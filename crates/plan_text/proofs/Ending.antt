@@ -6,9 +6,11 @@ use mathlib.Core.List.{List}
 use Prim.Native.Nat.{ℕ, _*_, _≤_}
 use native.Mathlib.Omega.{arith}
 use lib.ListN.{length, take}
+use borrow.Author.Tests.{leb-true}
 use Rattle.units.specs.Cells.{written}
 use Rattle.units.specs.Choice.{onOption}
 use Rattle.units.specs.Limits.{mostHours, mostCalendars, mostTasks}
+use Rattle.units.proofs.Choices.{and-left, and-right}
 use Rattle.plan.specs.Refusals.{Fault, fault, Answer, refused, answered, onAnswer}
 use Rattle.plan.proofs.Refusing.{refuse}
 use Rattle.plan_text.specs.declared.Scan.{Scan}
@@ -21,7 +23,7 @@ use Rattle.plan_text.proofs.Following.{count-calendars, count-work-time
 use Rattle.plan_text.proofs.Judging.{kept-take, read-passed}
 
 -- what a whole text comes to, once it is known which
-module _ {a : Answer Read} {sy tc wt hs bx : List ℕ} where
+module _ (a : Answer Read) (sy tc wt hs bx : List ℕ) where
   pub scans-malformed : (x : Scanned) (line : ℕ) → x ≡ Malformed line → Scans a x sy tc wt hs bx → a ≡ refused (fault 1 line)
   unfolding Scans
   scans-malformed x line e f = rw e at f
@@ -33,6 +35,25 @@ module _ {a : Answer Read} {sy tc wt hs bx : List ℕ} where
 
 -- the memory lent
 module _ (cs ts ws ks bs : List ℕ) where
+  -- enough of it
+  pub enough : isEnough cs ts ws ks bs ≡ true
+      → (mostCalendars * mostHours ≤ length cs)
+      × (mostTasks ≤ length ts)
+      × (mostTasks ≤ length ws)
+      × (mostTasks ≤ length ks)
+      × (6 * mostTasks ≤ length bs)
+  unfolding isEnough
+  enough e =
+      let after-calendars = and-right _ _ e in
+      let after-tasks = and-right _ _ after-calendars in
+      let after-work-times = and-right _ _ after-tasks in (
+        leb-true _ _ (and-left _ _ e),
+        leb-true _ _ (and-left _ _ after-calendars),
+        leb-true _ _ (and-left _ _ after-tasks),
+        leb-true _ _ (and-left _ _ after-work-times),
+        leb-true _ _ (and-right _ _ after-work-times),
+      )
+
   leaves-unread : (f : Fault) → Leaves (unread cs ts ws ks bs f) (refused f) cs ts ws ks bs
   unfolding unread
   leaves-unread f =

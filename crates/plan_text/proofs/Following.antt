@@ -99,24 +99,25 @@ module _ {r : Read} {s : Scan} {n : ℕ} {sy tc wt hs bx : List ℕ} (held : Hol
       → Follows (withRecord r (planRecord h c))
       (Next (record { started = true; hours = h; capacity = c; calendars = 0; even = true; symbols = 0; tasks = 0 })) n sy tc wt hs bx
   unfolding withRecord planIn boxesIn joined allOf Follows
-  plan-next h c e =
-      (_,
-      some-if _ _ (if-false _ _ _ (sym (held .started) ∙ e)),
-      record {
-        started = refl;
-        hours = refl;
-        capacity = refl;
-        calendars = refl;
-        even = refl;
-        symbol-count = refl;
-        tasks = refl;
-        few = omega arith;
-        kept-symbols = kept-none sy;
-        kept-calendars = kept-none tc;
-        kept-work-times = kept-none wt;
-        kept-heights = kept-none hs;
-        kept-boxes = kept-none bx;
-      })
+  plan-next h c e = (
+    _,
+    some-if _ _ (if-false _ _ _ (sym (held .started) ∙ e)),
+    record {
+      started = refl;
+      hours = refl;
+      capacity = refl;
+      calendars = refl;
+      even = refl;
+      symbol-count = refl;
+      tasks = refl;
+      few = omega arith;
+      kept-symbols = kept-none sy;
+      kept-calendars = kept-none tc;
+      kept-work-times = kept-none wt;
+      kept-heights = kept-none hs;
+      kept-boxes = kept-none bx;
+    },
+  )
 
   pub cal-unstarted : (l : List ℕ) → s .started ≡ false → Follows (withRecord r (calRecord l)) Broken (n + (length l + 1)) sy tc wt hs bx
   unfolding withRecord Follows
@@ -143,25 +144,26 @@ module _ {r : Read} {s : Scan} {n : ℕ} {sy tc wt hs bx : List ℕ} (held : Hol
         → Follows (withRecord r (calRecord l))
         (Next cal-scan) (n + (length l + 1)) sy′ tc wt hs bx
     unfolding withRecord planIn boxesIn joined Follows
-    cal-next sy′ kept =
-        (_,
-        some-if _ _ (and-both _ _ (sym (held .started) ∙ e) (eq-eqb (length (r .tasks)) 0 (omega (arith, held .tasks)))),
-        record {
-          started = refl;
-          hours = held .hours;
-          capacity = held .capacity;
-          calendars = omega (arith, held .calendars, length-append (r .calendars) (l ∷ []));
-          even = q ∙ ap₂ (λ a h. a and eqb (length l) h) (held .even) (held .hours) ∙ sym (all-more (r .hours) (r .calendars) l);
-          symbol-count =
-              omega (arith, held .symbol-count, ap length (joined-more (r .calendars) l), length-append (joined (r .calendars)) l);
-          tasks = refl;
-          few = omega (arith, held .few);
-          kept-symbols = rw (joined-more (r .calendars) l) kept;
-          kept-calendars = kept-none tc;
-          kept-work-times = kept-none wt;
-          kept-heights = kept-none hs;
-          kept-boxes = kept-none bx;
-        })
+    cal-next sy′ kept = (
+      _,
+      some-if _ _ (and-both _ _ (sym (held .started) ∙ e) (eq-eqb (length (r .tasks)) 0 (omega (arith, held .tasks)))),
+      record {
+        started = refl;
+        hours = held .hours;
+        capacity = held .capacity;
+        calendars = omega (arith, held .calendars, length-append (r .calendars) (l ∷ []));
+        even = q ∙ ap₂ (λ a h. a and eqb (length l) h) (held .even) (held .hours) ∙ sym (all-more (r .hours) (r .calendars) l);
+        symbol-count =
+            omega (arith, held .symbol-count, ap length (joined-more (r .calendars) l), length-append (joined (r .calendars)) l);
+        tasks = refl;
+        few = omega (arith, held .few);
+        kept-symbols = rw (joined-more (r .calendars) l) kept;
+        kept-calendars = kept-none tc;
+        kept-work-times = kept-none wt;
+        kept-heights = kept-none hs;
+        kept-boxes = kept-none bx;
+      },
+    )
 
     pub cal-stored : (sy′ : List ℕ) → sy′ ≡ writtenAt (s .symbols) l sy → s .symbols + length l ≤ length sy
         → Follows (withRecord r (calRecord l)) (Next cal-scan) (n + (length l + 1)) sy′ tc wt hs bx
@@ -216,24 +218,25 @@ module _ {r : Read} {s : Scan} {n : ℕ} {sy tc wt hs bx : List ℕ} (held : Hol
         → Kept (boxesIn r ++ boxOf (s .hours) ns) bx′
         → Follows (withRecord r (taskRecord ns)) (Next task-scan) (n + 1) sy tc′ wt′ hs′ bx′
     unfolding withRecord planIn boxesIn Follows
-    task-next tc′ wt′ hs′ bx′ p q u v =
-        (_,
-        some-if _ _ (sym (held .started) ∙ e),
-        record {
-          started = refl;
-          hours = held .hours;
-          capacity = held .capacity;
-          calendars = held .calendars;
-          even = held .even;
-          symbol-count = held .symbol-count;
-          tasks = omega (arith, held .tasks, length-append (r .tasks) (ns ∷ []));
-          few = omega (arith, held .few);
-          kept-symbols = held .kept-symbols;
-          kept-calendars = rw (map-more (λ t. getD t 0 0) (r .tasks) ns) p;
-          kept-work-times = rw (map-more (λ t. getD t 1 0) (r .tasks) ns) q;
-          kept-heights = rw (map-more (λ t. getD t 2 0) (r .tasks) ns) u;
-          kept-boxes = rw (map-more (boxOf (r .hours)) (r .tasks) ns, joined-more) (rw (held .hours) at v);
-        })
+    task-next tc′ wt′ hs′ bx′ p q u v = (
+      _,
+      some-if _ _ (sym (held .started) ∙ e),
+      record {
+        started = refl;
+        hours = held .hours;
+        capacity = held .capacity;
+        calendars = held .calendars;
+        even = held .even;
+        symbol-count = held .symbol-count;
+        tasks = omega (arith, held .tasks, length-append (r .tasks) (ns ∷ []));
+        few = omega (arith, held .few);
+        kept-symbols = held .kept-symbols;
+        kept-calendars = rw (map-more (λ t. getD t 0 0) (r .tasks) ns) p;
+        kept-work-times = rw (map-more (λ t. getD t 1 0) (r .tasks) ns) q;
+        kept-heights = rw (map-more (λ t. getD t 2 0) (r .tasks) ns) u;
+        kept-boxes = rw (map-more (boxOf (r .hours)) (r .tasks) ns, joined-more) (rw (held .hours) at v);
+      },
+    )
 
     pub task-stored : (tc′ wt′ hs′ bx′ : List ℕ) → tc′ ≡ set tc (s .tasks) (getD ns 0 0) → wt′ ≡ set wt (s .tasks) (getD ns 1 0)
         → hs′ ≡ set hs (s .tasks) (getD ns 2 0) → bx′ ≡ writtenAt (6 * s .tasks) (boxOf (s .hours) ns) bx

@@ -29,12 +29,13 @@ joined-length : (h : ℕ) (ls : List (List ℕ)) → allOf h ls ≡ true → len
 unfolding joined allOf
 joined-length h [] e = omega arith
 joined-length h (l ∷ ls) e =
-    omega
-    (arith,
-    length-append l (joined ls),
-    eqb-true (length l) h (and-left _ _ e),
-    joined-length h ls (and-right _ _ e),
-    suc-mul (length ls) h)
+    omega (
+      arith,
+      length-append l (joined ls),
+      eqb-true (length l) h (and-left _ _ e),
+      joined-length h ls (and-right _ _ e),
+      suc-mul (length ls) h,
+    )
 
 pub kept-take : (xs cells : List ℕ) (n : ℕ) → n ≡ length xs → n ≤ length cells → Kept xs cells → take n cells ≡ xs
 unfolding Kept
@@ -96,9 +97,9 @@ module _ {r : Read} {s : Scan} {n : ℕ} {sy tc wt hs bx : List ℕ} (held : Hol
     symbols-fit =
         let even : allOf (r .hours) (r .calendars) ≡ true = sym (held .even) ∙ e in
         let most : length (r .calendars) * r .hours ≤ mostCalendars * mostHours =
-            mul-le-mul {n₁ = length (r .calendars)} {m₁ = r .hours} {n₂ = mostCalendars} {m₂ = mostHours}
-            (omega (arith, held .calendars, to-most 1 mostCalendars (s .calendars) c))
-            (omega (arith, held .hours, to-most 1 mostHours (s .hours) h))
+        mul-le-mul {n₁ = length (r .calendars)} {m₁ = r .hours} {n₂ = mostCalendars} {m₂ = mostHours}
+        (omega (arith, held .calendars, to-most 1 mostCalendars (s .calendars) c))
+        (omega (arith, held .hours, to-most 1 mostHours (s .hours) h))
         in
         omega (arith, held .symbol-count, joined-length (r .hours) (r .calendars) even)
 
@@ -148,9 +149,10 @@ module _ {r : Read} {s : Scan} {n : ℕ} {sy tc wt hs bx : List ℕ} (held : Hol
       let of-plan-5 = neither _ _ (of-plan-4 .1) in
       let h : isPlanLength (s .hours) ≡ true = rw (held .hours) (unless-none _ 2 0 (after-2 .0)) in
       let three = unless-none _ 3 0 (after-3 .0) in
-      let c : isCalendarCount (s .calendars) ≡ true = rw (held .calendars) (and-left _ _ three) in
-      (symbols-fit h c (held .even ∙ and-right _ _ three),
-      omega (arith, count-calendars held, leb-true (length (planIn r .taskCalendars)) mostTasks (unless-none _ 5 0 (of-plan-5 .0))))
+      let c : isCalendarCount (s .calendars) ≡ true = rw (held .calendars) (and-left _ _ three) in (
+        symbols-fit h c (held .even ∙ and-right _ _ three),
+        omega (arith, count-calendars held, leb-true (length (planIn r .taskCalendars)) mostTasks (unless-none _ 5 0 (of-plan-5 .0))),
+      )
 
 -- parts for as many tasks
 pub parts-each : (n : ℕ) (tc wt hs bx : List ℕ) → n ≤ length tc → Sized tc wt hs bx

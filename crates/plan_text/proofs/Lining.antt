@@ -80,60 +80,61 @@ reached-none text whole sy tc wt hs bx =
 -- a turn of the loop: the text from an index on, and the end of its first line
 module _ {text : List ℕ} {whole : Bool} {from line : ℕ} {s : Scan} {sy tc wt hs bx : List ℕ}
     (at : Reached text whole from line s sy tc wt hs bx) (rest : List ℕ) (e : ℕ) (q : rest ≡ drop from text) (p : e ≡ firstAt lf rest)
-    where
-  pub text-ends : length text ≤ mostBytes → e ≡ length rest → (whole and s .started and eqb e 0) ≡ true
-      → Scans (readLines whole 1 nothing (parts lf text)) (Whole s) sy tc wt hs bx
-  unfolding Scans
-  text-ends m h t =
-      let t′ : (whole and at .so-far .started and eqb (length rest) 0) ≡ true = rw (at .held .started, h) at t in
-      (at .so-far,
-      at .decides ∙ ap (λ (l : List ℕ). readLines whole line (at .so-far) (parts lf l)) (sym q)
-      ∙ lines-last whole line (at .so-far) rest (sym p ∙ h)
-      ∙ if-true _ _ _ t′,
-      holds-later (at .held) mostBytes (omega (arith, at .inside)))
+  where
+    pub text-ends : length text ≤ mostBytes → e ≡ length rest → (whole and s .started and eqb e 0) ≡ true
+        → Scans (readLines whole 1 nothing (parts lf text)) (Whole s) sy tc wt hs bx
+    unfolding Scans
+    text-ends m h t =
+        let t′ : (whole and at .so-far .started and eqb (length rest) 0) ≡ true = rw (at .held .started, h) at t in (
+          at .so-far,
+          at .decides ∙ ap (λ (l : List ℕ). readLines whole line (at .so-far) (parts lf l)) (sym q)
+              ∙ lines-last whole line (at .so-far) rest (sym p ∙ h)
+              ∙ if-true _ _ _ t′,
+          holds-later (at .held) mostBytes (omega (arith, at .inside)),
+        )
 
-  pub text-stops : e ≡ length rest → (whole and s .started and eqb e 0) ≡ false
-      → Scans (readLines whole 1 nothing (parts lf text)) (Malformed line) sy tc wt hs bx
-  unfolding Scans
-  text-stops h t =
-      let t′ : (whole and at .so-far .started and eqb (length rest) 0) ≡ false = rw (at .held .started, h) at t in
-      at .decides ∙ ap (λ (l : List ℕ). readLines whole line (at .so-far) (parts lf l)) (sym q)
-      ∙ lines-last whole line (at .so-far) rest (sym p ∙ h)
-      ∙ if-false _ _ _ t′
+    pub text-stops : e ≡ length rest → (whole and s .started and eqb e 0) ≡ false
+        → Scans (readLines whole 1 nothing (parts lf text)) (Malformed line) sy tc wt hs bx
+    unfolding Scans
+    text-stops h t =
+        let t′ : (whole and at .so-far .started and eqb (length rest) 0) ≡ false = rw (at .held .started, h) at t in
+        at .decides ∙ ap (λ (l : List ℕ). readLines whole line (at .so-far) (parts lf l)) (sym q)
+        ∙ lines-last whole line (at .so-far) rest (sym p ∙ h)
+        ∙ if-false _ _ _ t′
 
-  pub line-broken : (x : MaybeScan) (m : ℕ) (sy′ tc′ wt′ hs′ bx′ : List ℕ) → e < length rest → x ≡ Broken
-      → Follows (withLine (at .so-far) (take e rest)) x m sy′ tc′ wt′ hs′ bx′
-      → Scans (readLines whole 1 nothing (parts lf text)) (Malformed line) sy′ tc′ wt′ hs′ bx′
-  unfolding Scans Follows onOption
-  line-broken x m sy′ tc′ wt′ hs′ bx′ h k f =
-      let f′ : withLine (at .so-far) (take (firstAt lf rest) rest) ≡ none = rw (k, p) at f in
-      at .decides ∙ ap (λ (l : List ℕ). readLines whole line (at .so-far) (parts lf l)) (sym q)
-      ∙ lines-line whole line (at .so-far) rest (omega arith)
-      ∙ rw f′
+    pub line-broken : (x : MaybeScan) (m : ℕ) (sy′ tc′ wt′ hs′ bx′ : List ℕ) → e < length rest → x ≡ Broken
+        → Follows (withLine (at .so-far) (take e rest)) x m sy′ tc′ wt′ hs′ bx′
+        → Scans (readLines whole 1 nothing (parts lf text)) (Malformed line) sy′ tc′ wt′ hs′ bx′
+    unfolding Scans Follows onOption
+    line-broken x m sy′ tc′ wt′ hs′ bx′ h k f =
+        let f′ : withLine (at .so-far) (take (firstAt lf rest) rest) ≡ none = rw (k, p) at f in
+        at .decides ∙ ap (λ (l : List ℕ). readLines whole line (at .so-far) (parts lf l)) (sym q)
+        ∙ lines-line whole line (at .so-far) rest (omega arith)
+        ∙ rw f′
 
-  line-next : (more : Scan) (sy′ tc′ wt′ hs′ bx′ : List ℕ) → e < length rest → from + (e + 1) ≤ length text → length (take e rest) ≡ e
-      → Follows (withLine (at .so-far) (take e rest)) (Next more) (from + (length (take e rest) + 1)) sy′ tc′ wt′ hs′ bx′
-      → Reached text whole (from + (e + 1)) (line + 1) more sy′ tc′ wt′ hs′ bx′
-  unfolding Follows onOption
-  line-next more sy′ tc′ wt′ hs′ bx′ h l len (r, f, held) =
-      let f′ : withLine (at .so-far) (take (firstAt lf rest) rest) ≡ some r = rw p at f in
-      let d : drop (suc (firstAt lf rest)) rest ≡ drop (from + (e + 1)) text = rw (q, drop-drop, p, q, add-one) in
-      record {
-        inside = l;
-        lines = omega (arith, at .lines);
-        so-far = r;
-        held = rw len at held;
-        decides =
-            at .decides ∙ ap (λ (l : List ℕ). readLines whole line (at .so-far) (parts lf l)) (sym q)
-            ∙ lines-line whole line (at .so-far) rest (omega arith)
-            ∙ rw (f′, d);
-      }
+    line-next : (more : Scan) (sy′ tc′ wt′ hs′ bx′ : List ℕ) → e < length rest → from + (e + 1) ≤ length text → length (take e rest) ≡ e
+        → Follows (withLine (at .so-far) (take e rest)) (Next more) (from + (length (take e rest) + 1)) sy′ tc′ wt′ hs′ bx′
+        → Reached text whole (from + (e + 1)) (line + 1) more sy′ tc′ wt′ hs′ bx′
+    unfolding Follows onOption
+    line-next more sy′ tc′ wt′ hs′ bx′ h l len (r, f, held) =
+        let f′ : withLine (at .so-far) (take (firstAt lf rest) rest) ≡ some r = rw p at f in
+        let d : drop (suc (firstAt lf rest)) rest ≡ drop (from + (e + 1)) text = rw (q, drop-drop, p, q, add-one) in
+        record {
+          inside = l;
+          lines = omega (arith, at .lines);
+          so-far = r;
+          held = rw len at held;
+          decides =
+              at .decides ∙ ap (λ (l : List ℕ). readLines whole line (at .so-far) (parts lf l)) (sym q)
+              ∙ lines-line whole line (at .so-far) rest (omega arith)
+              ∙ rw (f′, d);
+        }
 
-  pub line-read : (x : MaybeScan) (more : Scan) (sy′ tc′ wt′ hs′ bx′ : List ℕ) → e < length rest → from + (e + 1) ≤ length text
-      → length (take e rest) ≡ e → x ≡ Next more
-      → Follows (withLine (at .so-far) (take e rest)) x (from + (length (take e rest) + 1)) sy′ tc′ wt′ hs′ bx′
-      → Reached text whole (from + (e + 1)) (line + 1) more sy′ tc′ wt′ hs′ bx′
-  line-read x more sy′ tc′ wt′ hs′ bx′ h l len k f = line-next more sy′ tc′ wt′ hs′ bx′ h l len (rw k at f)
+    pub line-read : (x : MaybeScan) (more : Scan) (sy′ tc′ wt′ hs′ bx′ : List ℕ) → e < length rest → from + (e + 1) ≤ length text
+        → length (take e rest) ≡ e → x ≡ Next more
+        → Follows (withLine (at .so-far) (take e rest)) x (from + (length (take e rest) + 1)) sy′ tc′ wt′ hs′ bx′
+        → Reached text whole (from + (e + 1)) (line + 1) more sy′ tc′ wt′ hs′ bx′
+    line-read x more sy′ tc′ wt′ hs′ bx′ h l len k f = line-next more sy′ tc′ wt′ hs′ bx′ h l len (rw k at f)
 
 -- memory is lent at one length
 pub record SameSizes (sy₀ tc₀ wt₀ hs₀ bx₀ sy tc wt hs bx : List ℕ) : Type 0 where

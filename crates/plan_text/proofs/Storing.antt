@@ -23,12 +23,13 @@ module _ (cells : List ℕ) (at : ℕ) (xs : List ℕ) where
   pub length-written : at + length xs ≤ length cells → length (writtenAt at xs cells) ≡ length cells
   unfolding writtenAt
   length-written h =
-      omega
-      (arith,
-      length-append (take at cells ++ xs) (drop (at + length xs) cells),
-      length-append (take at cells) xs,
-      length-take-le at cells (omega arith),
-      length-drop (at + length xs) cells)
+      omega (
+        arith,
+        length-append (take at cells ++ xs) (drop (at + length xs) cells),
+        length-append (take at cells) xs,
+        length-take-le at cells (omega arith),
+        length-drop (at + length xs) cells,
+      )
 
 -- from the first cell on
 pub written-first : (xs cells : List ℕ) → writtenAt 0 xs cells ≡ written xs cells

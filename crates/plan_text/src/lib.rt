@@ -204,8 +204,8 @@ fn keep_plan(
     ensures { λ x. ⌜ ((r : Read)
         → Holds r scan mostBytes (now (symbols .entry)) (now («read_calendars» .entry)) (now («read_work_times» .entry)) (now («read_heights» .entry)) (now («read_boxes» .entry))
         → Leaves (tested (now (calendars .entry)) (now («task_calendars» .entry)) (now («work_times» .entry)) (now (heights .entry)) (now (boxes .entry)) r)
-            (readingAnswer x)
-            (now (calendars .exit)) (now («task_calendars» .exit)) (now («work_times» .exit)) (now (heights .exit)) (now (boxes .exit))) ⌝ }
+        (readingAnswer x)
+        (now (calendars .exit)) (now («task_calendars» .exit)) (now («work_times» .exit)) (now (heights .exit)) (now (boxes .exit))) ⌝ }
 {
     if !is_enough(calendars, task_calendars, work_times, heights, boxes) {
         return PlanReading::Refused(Refusal::MemorySize);

@@ -121,7 +121,7 @@ fn with_calendar(scan: Scan, calendar: &[u8], symbols: &mut [u8]) -> MaybeScan
     ensures { λ x. ⌜ ((r : Read) (n : ℕ) (taskCalendars workTimes heights boxes : List ℕ)
         → Holds r scan n (now (symbols .entry)) taskCalendars workTimes heights boxes
         → Follows (withRecord r (calRecord (now (calendar .entry)))) x (n + (length (now (calendar .entry)) + 1))
-            (now (symbols .exit)) taskCalendars workTimes heights boxes) ⌝ }
+        (now (symbols .exit)) taskCalendars workTimes heights boxes) ⌝ }
 {
     if !scan.started {
         return MaybeScan::Broken;
@@ -169,7 +169,7 @@ fn with_task(
     ensures { λ x. ⌜ ((r : Read) (n : ℕ) (symbols : List ℕ)
         → Holds r scan n symbols (now («task_calendars» .entry)) (now («work_times» .entry)) (now (heights .entry)) (now (boxes .entry))
         → Follows (withRecord r (taskRecord (now (numbers .entry)))) x (n + 1)
-            symbols (now («task_calendars» .exit)) (now («work_times» .exit)) (now (heights .exit)) (now (boxes .exit))) ⌝ }
+        symbols (now («task_calendars» .exit)) (now («work_times» .exit)) (now (heights .exit)) (now (boxes .exit))) ⌝ }
 {
     if !scan.started {
         return MaybeScan::Broken;
@@ -213,7 +213,7 @@ fn with_line(
     ensures { λ x. ⌜ ((r : Read) (n : ℕ)
         → Holds r scan n (now (symbols .entry)) (now («task_calendars» .entry)) (now («work_times» .entry)) (now (heights .entry)) (now (boxes .entry))
         → Follows (withLine r (now (line .entry))) x (n + (length (now (line .entry)) + 1))
-            (now (symbols .exit)) (now («task_calendars» .exit)) (now («work_times» .exit)) (now (heights .exit)) (now (boxes .exit))) ⌝ }
+        (now (symbols .exit)) (now («task_calendars» .exit)) (now («work_times» .exit)) (now (heights .exit)) (now (boxes .exit))) ⌝ }
 {
     let mut numbers = [0u16; MOST_NUMBERS];
     let found = records::record_of(line, &mut numbers);

@@ -98,18 +98,18 @@ returns-5 : tie.Need-returns-5
 unfolding isTaskCount
 returns-5 c =
     λ r held.
-        let told = ap testedFault (c .enum-told4 .given .1) in
-        told
-        ∙ sym (else-some _ _ _ (sym (c .before .before .test-input2 .ensures) ∙ told))
-        ∙ read-crowded held (if-some _ _ _ (sym (c .before .before .before .before .before .before .before .before .before .before .before .before .before .before .before .before .of-plan .ensures) ∙ ap durationMade (c .before .before .before .before .before .before .before .before .before .before .before .before .before .before .enum-told .given .1)) .0) (sym (c .before .before .before .before .before .before .before .before .before .before .before .before .before .is-count .ensures) ∙ not-false _ (c .before .before .before .before .before .before .before .before .before .before .before .before .if1 .left)) (not-false _ (c .before .before .before .before .before .before .before .before .before .before .if2 .left)) (c .before .before .before .before .before .before .before .before .before .before .before .before .before .before .before .before .before .before .before .before .before .before .before .pre .room) (c .before .before .before .before .before .before .before .before .before .before .before .before .before .before .before .before .before .before .before .before .before .before .before .pre .task-room) (c .before .before .before .before .before .before .before .before .before .before .before .before .before .before .before .before .before .before .before .before .before .before .before .pre .size) (leb-false (c .before .before .before .before .before .before .before .before .before .before .before .before .before .before .before .before .before .before .before .before .before .before .before .args .scan .tasks) mostTasks (sym (c .before .before .before .before .before .before .before .before .is-count2 .ensures) ∙ c .before .before .before .before .before .before .before .if3 .left))
+    let told = ap testedFault (c .enum-told4 .given .1) in
+    told
+    ∙ sym (else-some _ _ _ (sym (c .before .before .test-input2 .ensures) ∙ told))
+    ∙ read-crowded held (if-some _ _ _ (sym (c .before .before .before .before .before .before .before .before .before .before .before .before .before .before .before .before .of-plan .ensures) ∙ ap durationMade (c .before .before .before .before .before .before .before .before .before .before .before .before .before .before .enum-told .given .1)) .0) (sym (c .before .before .before .before .before .before .before .before .before .before .before .before .before .is-count .ensures) ∙ not-false _ (c .before .before .before .before .before .before .before .before .before .before .before .before .if1 .left)) (not-false _ (c .before .before .before .before .before .before .before .before .before .before .if2 .left)) (c .before .before .before .before .before .before .before .before .before .before .before .before .before .before .before .before .before .before .before .before .before .before .before .pre .room) (c .before .before .before .before .before .before .before .before .before .before .before .before .before .before .before .before .before .before .before .before .before .before .before .pre .task-room) (c .before .before .before .before .before .before .before .before .before .before .before .before .before .before .before .before .before .before .before .before .before .before .before .pre .size) (leb-false (c .before .before .before .before .before .before .before .before .before .before .before .before .before .before .before .before .before .before .before .before .before .before .before .args .scan .tasks) mostTasks (sym (c .before .before .before .before .before .before .before .before .is-count2 .ensures) ∙ c .before .before .before .before .before .before .before .if3 .left))
 
 returns-6 : tie.Need-returns-6
 unfolding isTaskCount
 returns-6 c =
     λ r held.
-        let told = ap testedFault (c .enum-told3 .given .1) in
-        sym (else-none _ _ (sym (c .before .before .test-input2 .ensures) ∙ told))
-        ∙ read-crowded held (if-some _ _ _ (sym (c .before .before .before .before .before .before .before .before .before .before .before .before .before .before .before .before .of-plan .ensures) ∙ ap durationMade (c .before .before .before .before .before .before .before .before .before .before .before .before .before .before .enum-told .given .1)) .0) (sym (c .before .before .before .before .before .before .before .before .before .before .before .before .before .is-count .ensures) ∙ not-false _ (c .before .before .before .before .before .before .before .before .before .before .before .before .if1 .left)) (not-false _ (c .before .before .before .before .before .before .before .before .before .before .if2 .left)) (c .before .before .before .before .before .before .before .before .before .before .before .before .before .before .before .before .before .before .before .before .before .before .before .pre .room) (c .before .before .before .before .before .before .before .before .before .before .before .before .before .before .before .before .before .before .before .before .before .before .before .pre .task-room) (c .before .before .before .before .before .before .before .before .before .before .before .before .before .before .before .before .before .before .before .before .before .before .before .pre .size) (leb-false (c .before .before .before .before .before .before .before .before .before .before .before .before .before .before .before .before .before .before .before .before .before .before .before .args .scan .tasks) mostTasks (sym (c .before .before .before .before .before .before .before .before .is-count2 .ensures) ∙ c .before .before .before .before .before .before .before .if3 .left))
+    let told = ap testedFault (c .enum-told3 .given .1) in
+    sym (else-none _ _ (sym (c .before .before .test-input2 .ensures) ∙ told))
+    ∙ read-crowded held (if-some _ _ _ (sym (c .before .before .before .before .before .before .before .before .before .before .before .before .before .before .before .before .of-plan .ensures) ∙ ap durationMade (c .before .before .before .before .before .before .before .before .before .before .before .before .before .before .enum-told .given .1)) .0) (sym (c .before .before .before .before .before .before .before .before .before .before .before .before .before .is-count .ensures) ∙ not-false _ (c .before .before .before .before .before .before .before .before .before .before .before .before .if1 .left)) (not-false _ (c .before .before .before .before .before .before .before .before .before .before .if2 .left)) (c .before .before .before .before .before .before .before .before .before .before .before .before .before .before .before .before .before .before .before .before .before .before .before .pre .room) (c .before .before .before .before .before .before .before .before .before .before .before .before .before .before .before .before .before .before .before .before .before .before .before .pre .task-room) (c .before .before .before .before .before .before .before .before .before .before .before .before .before .before .before .before .before .before .before .before .before .before .before .pre .size) (leb-false (c .before .before .before .before .before .before .before .before .before .before .before .before .before .before .before .before .before .before .before .before .before .before .before .args .scan .tasks) mostTasks (sym (c .before .before .before .before .before .before .before .before .is-count2 .ensures) ∙ c .before .before .before .before .before .before .before .if3 .left))
 
 pub test-read-spec : {M : Type 1} → statement M
 test-read-spec =
