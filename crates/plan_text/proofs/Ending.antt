@@ -1,7 +1,7 @@
 -- Laws of what reading a plan leaves. Assumes nothing.
 use mathlib.Core.Path.{_≡_, refl, sym, ap, _∙_}
-use mathlib.Core.Bool.{Bool, true, false}
-use mathlib.Core.Option.{Option, none, some}
+use mathlib.Core.Bool.{true, false}
+use mathlib.Core.Option.{none, some}
 use mathlib.Core.List.{List}
 use Prim.Native.Nat.{ℕ, _*_, _≤_}
 use native.Mathlib.Omega.{arith}
@@ -17,7 +17,7 @@ use Rattle.plan_text.specs.declared.Scan.{Scan}
 use Rattle.plan_text.specs.declared.Scanned.{Scanned}
 use Rattle.plan_text.specs.declared.Scanned.the-variants.{Malformed, Whole}
 use Rattle.plan_text.specs.Text.{Read, mostBytes, readText}
-use Rattle.plan_text.specs.Entry.{planIn, boxesIn, isEnough, readFault, PlanRead, ReadEnd, unread, stored, readPlan, Leaves}
+use Rattle.plan_text.specs.Entry.{planIn, boxesIn, isEnough, readFault, PlanRead, unread, stored, readPlan, Leaves}
 use Rattle.plan_text.specs.Scanning.{Sized, Holds, Scans, tested}
 use Rattle.plan_text.proofs.Following.{count-calendars, count-work-times, count-heights, count-boxes}
 use Rattle.plan_text.proofs.Judging.{kept-take, read-passed}

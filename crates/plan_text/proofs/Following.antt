@@ -3,13 +3,13 @@ use mathlib.Core.Path.{_≡_, refl, sym, ap, ap₂, _∙_}
 use mathlib.Core.Bool.{Bool, true, false}
 use mathlib.Core.Option.{Option, none, some}
 use mathlib.Core.List.{List, [], _∷_, _++_, map, append-assoc, append-nil}
-use Prim.Native.Nat.{ℕ, suc, _+_, _-_, _*_, _≤_, _<_}
+use Prim.Native.Nat.{ℕ, _+_, _-_, _*_, _≤_, _<_}
 use native.Mathlib.Nat.{mul-suc}
 use native.Mathlib.Omega.{arith}
 use lib.Dec.{eqb}
-use lib.ListN.{length, getD, take, drop, set, length-append, length-drop, length-map}
+use lib.ListN.{length, getD, drop, set, length-append, length-drop, length-map}
 use borrow.Author.Tests.{eq-eqb, ne-eqb, eqb-true}
-use Rattle.units.specs.Choice.{_and_, if_then_else_, someIf, onOption}
+use Rattle.units.specs.Choice.{_and_, onOption}
 use Rattle.units.proofs.Choices.{some-if, none-if, and-both, not-left, not-right, if-true, if-false, if-all}
 use Rattle.plan_text.specs.declared.Scan.{Scan}
 use Rattle.plan_text.specs.declared.MaybeScan.{MaybeScan}
@@ -17,7 +17,7 @@ use Rattle.plan_text.specs.declared.MaybeScan.the-variants.{Broken, Next
 use Rattle.plan_text.specs.Records.{Record, planRecord, calRecord, taskRecord, recordOf}
 use Rattle.plan_text.specs.Text.{Read, withRecord, withLine}
 use Rattle.plan_text.specs.Entry.{joined, boxOf, planIn, boxesIn, allOf}
-use Rattle.plan_text.specs.Scanning.{Kept, counted, writtenAt, Sized, Holds, Follows}
+use Rattle.plan_text.specs.Scanning.{Kept, writtenAt, Sized, Holds, Follows}
 use Rattle.plan_text.proofs.Storing.{kept-none, kept-past, kept-more, kept-one}
 
 -- ---- lists that grow at their end

@@ -1,13 +1,12 @@
 -- Laws of fields that are numbers, as a loop over a record's fields gathers them. Assumes nothing.
-use mathlib.Core.Path.{_≡_, refl, sym, ap, _∙_}
-use mathlib.Core.Bool.{Bool, true, false}
+use mathlib.Core.Path.{_≡_, refl}
 use mathlib.Core.Option.{Option, none, some}
-use mathlib.Core.List.{List, [], _∷_, _++_, append-assoc, append-nil}
+use mathlib.Core.List.{List, [], _∷_, _++_, append-assoc}
 use Prim.Native.Nat.{ℕ, suc, _+_, _-_, _≤_, _<_}
 use native.Mathlib.Numerals.{add-one}
 use native.Mathlib.Omega.{arith}
-use lib.Dec.{eqb, leb}
-use lib.ListN.{length, getD, take, drop, set, length-append, length-set, length-take}
+use lib.Dec.{leb}
+use lib.ListN.{length, take, drop, set, length-append, length-set, length-take}
 use lib.Seq.{drop-drop, take-all, take-suc-set}
 use borrow.Author.Tests.{lt-leb, le-leb}
 use Rattle.units.specs.Choice.{someIf, onOption}

@@ -1,27 +1,26 @@
 -- Laws of the tests of a plan that was read, from what is stored of it. Assumes nothing.
 use mathlib.Core.Path.{_≡_, refl, sym, ap, ap₂, _∙_}
-use mathlib.Core.Bool.{Bool, true, false}
+use mathlib.Core.Bool.{true, false}
 use mathlib.Core.Option.{Option, none, some}
-use mathlib.Core.List.{List, [], _∷_, _++_, map}
-use Prim.Native.Nat.{ℕ, suc, _+_, _*_, _≤_, _<_}
+use mathlib.Core.List.{List, [], _∷_}
+use Prim.Native.Nat.{ℕ, _*_, _≤_, _<_}
 use native.Mathlib.Nat.{suc-mul, mul-le-mul}
 use native.Mathlib.Omega.{arith}
-use lib.Dec.{eqb}
-use lib.ListN.{length, getD, take, length-append, length-map}
+use lib.ListN.{length, take, length-append}
 use lib.Seq.{length-take-le}
 use borrow.Author.Tests.{eqb-true, eq-eqb, leb-true, lt-leb}
-use Rattle.units.specs.Choice.{_and_, _orElse_, firstOf}
+use Rattle.units.specs.Choice.{_orElse_, firstOf}
 use Rattle.units.specs.Limits.{mostHours, mostCalendars, mostTasks, isPlanLength, isCalendarCount, isTaskCount, isCapacity}
-use Rattle.units.proofs.Choices.{and-both, and-left, and-right, not-left, not-right, neither, else-none, else-some}
+use Rattle.units.proofs.Choices.{and-both, and-left, and-right, not-left, not-right, neither}
 use Rattle.units.proofs.Ranges.{to-most}
 use Rattle.plan.specs.Plan.{Plan, plan, taskCount, calendarCount}
-use Rattle.plan.specs.Refusals.{Fault, fault, unless}
-use Rattle.plan.specs.Faults.{oneForEachTask, isCalendars, isSymbol, planFault}
-use Rattle.plan.proofs.Refusing.{unless-true, unless-none, go-on, refuse}
+use Rattle.plan.specs.Refusals.{Fault, fault}
+use Rattle.plan.specs.Faults.{oneForEachTask, isCalendars, planFault}
+use Rattle.plan.proofs.Refusing.{unless-none, go-on, refuse}
 use Rattle.plan_text.specs.declared.Scan.{Scan}
 use Rattle.plan_text.specs.Text.{Read}
 use Rattle.plan_text.specs.Entry.{joined, planIn, boxesIn, allOf, readFault}
-use Rattle.plan_text.specs.Scanning.{Kept, Sized, Holds, Stored}
+use Rattle.plan_text.specs.Scanning.{Kept, Sized, Holds}
 use Rattle.plan_text.proofs.Following.{count-calendars, count-work-times, count-heights, count-boxes}
 
 -- calendar lines of H symbols each have as many times H symbols as there are lines

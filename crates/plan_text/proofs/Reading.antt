@@ -1,20 +1,18 @@
 -- Laws of words and numbers, as loops over a field's bytes read them. Assumes nothing.
-use mathlib.Core.Path.{_≡_, refl, sym, ap, _∙_}
-use mathlib.Core.Bool.{Bool, true, false}
-use mathlib.Core.Option.{Option, none, some}
-use mathlib.Core.List.{List, [], _∷_, _++_, append-assoc}
-use Prim.Native.Nat.{ℕ, suc, _+_, _-_, _*_, _≤_, _<_}
+use mathlib.Core.Path.{_≡_, refl}
+use mathlib.Core.Bool.{true, false}
+use mathlib.Core.Option.{none, some}
+use mathlib.Core.List.{List, [], _∷_}
+use Prim.Native.Nat.{ℕ, _+_, _-_, _*_, _≤_, _<_}
 use native.Mathlib.Numerals.{add-one}
 use native.Mathlib.Omega.{arith}
-use lib.Dec.{eqb, leb}
-use lib.ListN.{length, getD, take, drop, length-append, drop-of-length-le}
+use lib.ListN.{length, getD, drop, drop-of-length-le}
 use lib.Seq.{drop-cons}
 use borrow.Author.Tests.{lt-leb, le-leb, eq-eqb, ne-eqb}
-use Rattle.units.specs.Choice.{_and_, if_then_else_, someIf, onOption}
+use Rattle.units.specs.Choice.{_and_}
 use Rattle.units.specs.Limits.{within}
 use Rattle.units.proofs.Choices.{not-left, not-right, none-if, some-if, and-both}
-use Rattle.plan_text.specs.Fields.{same, isDigits, decimal, isPlain, isNumber, mostNumber, numberOf, numbersOf}
-use Rattle.plan_text.specs.Lines.{atMost}
+use Rattle.plan_text.specs.Fields.{same, isDigits, decimal, isPlain, isNumber, mostNumber, numberOf}
 
 -- ---- words
 

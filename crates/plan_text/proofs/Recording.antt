@@ -1,17 +1,17 @@
 -- Laws of a line's record: what the fields after its first word come to. Assumes nothing.
-use mathlib.Core.Path.{_≡_, refl, sym, ap, ap₂, _∙_}
+use mathlib.Core.Path.{_≡_, refl, ap, ap₂, _∙_}
 use mathlib.Core.Bool.{Bool, true, false}
 use mathlib.Core.Option.{Option, none, some}
-use mathlib.Core.List.{List, [], _∷_}
+use mathlib.Core.List.{List, _∷_}
 use Prim.Native.Nat.{ℕ, suc, _+_, _-_, _≤_, _<_}
 use native.Mathlib.Numerals.{add-one}
 use native.Mathlib.Omega.{arith}
-use lib.Dec.{eqb, leb, ltb}
+use lib.Dec.{eqb, leb}
 use lib.ListN.{length, getD, take, drop}
 use lib.Seq.{length-take-le, getD-take}
-use borrow.Author.Tests.{lt-leb, le-leb, eq-eqb, ne-eqb, leb-true, leb-false, ltb-true, ltb-false, eqb-true, eqb-false}
-use Rattle.units.specs.Choice.{_and_, if_then_else_, someIf, onOption}
-use Rattle.units.proofs.Choices.{and-both, not-left, not-right, none-if, some-if, if-true, if-false, if-all, if-none, if-some, none≢some}
+use borrow.Author.Tests.{lt-leb, le-leb, eq-eqb, ne-eqb, leb-true, leb-false}
+use Rattle.units.specs.Choice.{if_then_else_, someIf, onOption}
+use Rattle.units.proofs.Choices.{and-both, not-left, not-right, none-if, some-if, if-true, if-false, if-all}
 use Rattle.plan_text.specs.Fields.{tab, parts, same, numbersOf}
 use Rattle.plan_text.specs.Records.{Record, planRecord, calRecord, taskRecord, wordPlan, wordCal, wordTask, planOf, calOf, taskOf, byWord, recordOf}
 use Rattle.plan_text.specs.Lines.{firstAt, atMost, mostFields}

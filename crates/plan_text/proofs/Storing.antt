@@ -1,12 +1,12 @@
 -- Laws of what is stored from an index on, and of the first cells that it leaves. Assumes nothing.
-use mathlib.Core.Path.{_≡_, refl, sym, ap, _∙_}
+use mathlib.Core.Path.{_≡_, refl}
 use mathlib.Core.List.{List, [], _∷_, _++_}
 use Prim.Native.Nat.{ℕ, suc, _+_, _≤_, _<_}
 use native.Mathlib.Nat.{zero-add}
 use native.Mathlib.Numerals.{add-one}
 use native.Mathlib.Omega.{arith}
-use lib.ListN.{length, getD, take, drop, set, length-append, length-set, length-drop}
-use lib.Seq.{paste, paste-zero, paste-suc, take-length, take-all, take-at, take-suc-set, length-take-le}
+use lib.ListN.{length, getD, take, drop, set, length-append, length-drop}
+use lib.Seq.{paste, paste-suc, take-length, take-at, take-suc-set, length-take-le}
 use Rattle.units.specs.Cells.{written}
 use Rattle.plan_text.specs.Scanning.{writtenAt, Kept}
 

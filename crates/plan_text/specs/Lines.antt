@@ -1,5 +1,4 @@
 -- What the code finds and keeps on its way through a plan text. Only contracts of private functions cite this; 01 has no such terms.
-use mathlib.Core.Bool.{Bool, true, false}
 use mathlib.Core.Option.{Option, none, some}
 use mathlib.Core.List.{List, [], _∷_}
 use Prim.Native.Nat.{ℕ, suc, _≤_}

@@ -1,5 +1,4 @@
 -- What the code keeps of a plan text on its way through the lines. Only contracts of private functions cite this; 01 has no such terms.
-use mathlib.Core.Bool.{Bool}
 use mathlib.Core.Option.{Option, none, some}
 use mathlib.Core.List.{List, _++_}
 use mathlib.Core.Path.{_≡_}

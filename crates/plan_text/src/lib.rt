@@ -7,7 +7,7 @@ use units::Duration;
 use units::MaybeDuration;
 ghost use mathlib.Core.Bool.{true};
 ghost use mathlib.Core.Path.{_≡_};
-ghost use Prim.Native.Nat.{ℕ, _+_, _≤_};
+ghost use Prim.Native.Nat.{_≤_};
 ghost use lib.ListN.{length};
 ghost use Rattle.units.specs.Cells.{written};
 ghost use Rattle.plan.specs.Refusals.{testedFault};

@@ -1,8 +1,5 @@
 use mathlib.Core.Path.{sym, _∙_}
-use native.Mathlib.Omega.{arith}
-use lib.ListN.{length}
 use borrow.Author.Tests.{le-leb, lt-leb}
-use Rattle.units.specs.Limits.{mostHours, mostCalendars, mostTasks}
 use Rattle.units.proofs.Choices.{not-left, not-right}
 use Rattle.plan.proofs.Refusing.{and-rest}
 use Rattle.plan_text.specs.Entry.{isEnough}

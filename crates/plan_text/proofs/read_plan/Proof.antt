@@ -1,6 +1,5 @@
-use mathlib.Core.Path.{sym, ap, _∙_}
+use mathlib.Core.Path.{sym, _∙_}
 use native.Mathlib.Omega.{arith}
-use lib.ListN.{length, length-replicate}
 use borrow.Author.Needs.{needs}
 use Rattle.plan_text.proofs.Ending.{scans-malformed, scans-whole, read-malformed, read-whole}
 use Rattle.plan_text.proofs.read_plan.Statement.{statement}

@@ -1,8 +1,7 @@
-use mathlib.Core.Path.{_≡_, refl}
+use mathlib.Core.Path.{_≡_}
 use Prim.Native.Nat.{_+_, _-_, _≤_}
 use native.Mathlib.Omega.{arith}
-use lib.ListN.{length, drop, drop-of-length-le}
-use borrow.Author.Needs.{needs}
+use lib.ListN.{length, drop}
 use Rattle.plan_text.specs.Lines.{firstAt}
 use Rattle.plan_text.proofs.Parting.{first-here, first-later, first-end}
 use Rattle.plan_text.proofs.fields.end_of.Statement.{statement}

@@ -1,10 +1,7 @@
 use mathlib.Core.Path.{_≡_, refl, sym, _∙_}
-use Prim.Native.Nat.{_+_, _-_, _≤_}
+use Prim.Native.Nat.{_-_, _≤_}
 use native.Mathlib.Omega.{arith}
 use lib.ListN.{length, drop}
-use borrow.Author.Needs.{needs}
-use borrow.Author.Tests.{eq-eqb, ne-eqb}
-use Rattle.units.proofs.Choices.{not-left}
 use Rattle.plan_text.specs.Fields.{same}
 use Rattle.plan_text.proofs.Reading.{same-unequal, same-next, same-not, same-end}
 use Rattle.plan_text.proofs.fields.is_word.Statement.{statement}

@@ -1,11 +1,9 @@
 use mathlib.Core.Path.{_≡_, refl, sym, ap, _∙_}
 use mathlib.Core.Option.{some}
-use Prim.Native.Nat.{ℕ, _+_, _-_, _*_, _≤_}
+use Prim.Native.Nat.{_+_, _-_, _*_, _≤_}
 use native.Mathlib.Omega.{arith}
 use lib.ListN.{length, getD, drop}
-use borrow.Author.Needs.{needs}
 use borrow.Author.Tests.{not-true, not-false}
-use Rattle.units.proofs.Choices.{not-left}
 use Rattle.units.proofs.Ranges.{is-within, too-small, too-large}
 use Rattle.plan_text.specs.Fields.{isDigits, decimal, mostNumber}
 use Rattle.plan_text.proofs.Reading.{number-empty, number-digits, number-plain, number-large, number-is, digits-next, digits-not, digits-end, decimal-step, decimal-end, decimal-least}

@@ -2,8 +2,7 @@ use mathlib.Core.Path.{_≡_, refl, ap, _∙_}
 use Prim.Native.Nat.{_-_, _+_, _≤_}
 use native.Mathlib.Omega.{arith}
 use lib.ListN.{length, set, getD, length-set}
-use lib.Seq.{paste, paste-zero, length-paste}
-use borrow.Author.Needs.{needs}
+use lib.Seq.{paste, paste-zero}
 use Rattle.plan_text.proofs.Storing.{store-next, store-end}
 use Rattle.plan_text.proofs.lines.store_numbers.Statement.{statement}
 use Rattle.plan_text.proofs.lines.store_numbers.Tie as tie

@@ -1,4 +1,3 @@
-use native.Mathlib.Omega.{arith}
 use borrow.Author.Tests.{not-true, not-false}
 use Rattle.plan_text.proofs.Following.{cal-unstarted, cal-late, cal-stored, cal-full}
 use borrow.Author.Needs.{needs}

@@ -1,7 +1,7 @@
-use mathlib.Core.Path.{_≡_, sym, ap, _∙_}
+use mathlib.Core.Path.{sym, ap, _∙_}
 use Prim.Native.Nat.{_-_}
 use native.Mathlib.Omega.{arith}
-use lib.ListN.{length, take, drop, length-drop}
+use lib.ListN.{drop, length-drop}
 use Rattle.plan_text.specs.Fields.{tab}
 use Rattle.plan_text.specs.Lines.{firstAt}
 use Rattle.plan_text.proofs.Parting.{to-end}

@@ -1,6 +1,4 @@
-use mathlib.Core.Path.{_≡_, sym, ap, ap₂, _∙_}
-use native.Mathlib.Omega.{arith}
-use lib.ListN.{length}
+use mathlib.Core.Path.{sym, ap, ap₂, _∙_}
 use Rattle.plan_text.specs.Fields.{tab, parts, numbersOf}
 use Rattle.plan_text.specs.Lines.{numbersMade, atMost}
 use Rattle.plan_text.specs.declared.MaybeNumbers.{MaybeNumbers}

@@ -1,7 +1,5 @@
-use mathlib.Core.Path.{_≡_, sym, ap, _∙_}
+use mathlib.Core.Path.{sym, _∙_}
 use native.Mathlib.Omega.{arith}
-use Prim.Native.Nat.{_+_}
-use lib.ListN.{length}
 use lib.Seq.{length-take-le}
 use Rattle.plan_text.specs.Fields.{tab}
 use Rattle.plan_text.proofs.Parting.{first-within}
