@@ -7,3 +7,4 @@ pub mod Following
 pub mod Lining
 pub mod Judging
 pub mod Ending
+pub mod Holding

@@ -1,0 +1,77 @@
+-- What a plan that was read holds: within the limits of a plan. Assumes nothing.
+use mathlib.Core.Path.{_≡_, refl, sym, ap, _∙_, subst}
+use mathlib.Core.Bool.{Bool, true}
+use mathlib.Core.Option.{Option, none, some}
+use mathlib.Core.List.{List, map}
+use Prim.Native.Nat.{ℕ, _*_, _≤_}
+use native.Mathlib.Nat.{mul-le-mul}
+use native.Mathlib.Omega.{arith}
+use lib.ListN.{length, getD, length-map}
+use lib.Dec.{leb}
+use borrow.Author.Tests.{leb-true}
+use Rattle.units.specs.Choice.{onOption}
+use Rattle.units.specs.Limits.{mostHours, mostCalendars, mostTasks, isPlanLength, isCalendarCount, isTaskCount}
+use Rattle.units.proofs.Choices.{and-left, neither, option-case}
+use Rattle.units.proofs.Ranges.{to-most}
+use Rattle.plan.specs.Plan.{taskCount}
+use Rattle.plan.specs.Refusals.{Fault, Answer, refused, answered, onAnswer}
+use Rattle.plan.specs.Faults.{planFault}
+use Rattle.plan.proofs.Refusing.{unless-none}
+use Rattle.plan_text.specs.Text.{Read, readText}
+use Rattle.plan_text.specs.Entry.{planIn, readFault, isEnough, PlanRead, ReadEnd, unread, stored, readPlan}
+
+pub record Holds (a : PlanRead) : Type 0 where
+  pub hours : a .hours ≤ mostHours
+  pub calendars : a .calendars ≤ mostCalendars
+  pub tasks : a .tasks ≤ mostTasks
+  pub symbols : a .calendars * a .hours ≤ mostCalendars * mostHours
+
+fault-free : (enough : Bool) (r : Read) → readFault enough r ≡ none
+    → Holds (record { hours = r .hours; capacity = r .capacity; calendars = length (r .calendars); tasks = length (r .tasks) })
+unfolding readFault planFault planIn taskCount isPlanLength isCalendarCount isTaskCount
+fault-free enough r e =
+    let after-31 = neither _ _ e in
+    let after-2 = neither _ _ (after-31 .1) in
+    let after-3 = neither _ _ (after-2 .1) in
+    let again-2 = neither _ _ (after-3 .1) in
+    let again-3 = neither _ _ (again-2 .1) in
+    let after-4 = neither _ _ (again-3 .1) in
+    let after-5 = neither _ _ (after-4 .1) in
+    let h : r .hours ≤ mostHours = to-most 1 mostHours _ (unless-none _ 2 0 (after-2 .0)) in
+    let c : length (r .calendars) ≤ mostCalendars = to-most 1 mostCalendars _ (and-left _ _ (unless-none _ 3 0 (after-3 .0))) in
+    let n : ℕ = length (map (λ (t : List ℕ). getD t 0 0) (r .tasks)) in
+    let many : n ≤ mostTasks = leb-true n mostTasks (unless-none (leb n mostTasks) 5 0 (after-5 .0)) in
+    let few : length (r .tasks) ≤ mostTasks = omega (arith, length-map (r .tasks) (λ (t : List ℕ). getD t 0 0)) in
+    record {
+      hours = h;
+      calendars = c;
+      tasks = few;
+      symbols = mul-le-mul c h;
+    }
+
+refused≢answered : {A C : Type 0} {f : Fault} {a : A} → refused f ≡ answered a → C
+refused≢answered e = absurd (let z : _≡_ {A = ℕ} 0 1 = cc in omega arith)
+
+module _ (calendars taskCalendars workTimes heights boxes : List ℕ) where
+  abbrev end : Answer Read → ReadEnd
+  end o =
+      onAnswer o (unread calendars taskCalendars workTimes heights boxes)
+      (λ r. onOption (readFault (isEnough calendars taskCalendars workTimes heights boxes) r) (stored calendars taskCalendars workTimes heights boxes r)
+      (unread calendars taskCalendars workTimes heights boxes))
+
+  from-read : (o : Answer Read) (a : PlanRead) → end o .answer ≡ answered a → Holds a
+  unfolding onAnswer onOption unread stored
+  from-read (refused f) a e = refused≢answered e
+  from-read (answered r) a e = go (readFault (isEnough calendars taskCalendars workTimes heights boxes) r) refl e
+    where
+      go : (o : Option Fault) → readFault (isEnough calendars taskCalendars workTimes heights boxes) r ≡ o
+          → onOption o (stored calendars taskCalendars workTimes heights boxes r) (unread calendars taskCalendars workTimes heights boxes) .answer
+          ≡ answered a → Holds a
+      go none q s =
+          let is : record { hours = r .hours; capacity = r .capacity; calendars = length (r .calendars); tasks = length (r .tasks) } ≡ a = cc in
+          subst Holds is (fault-free _ r q)
+      go (some f) q s = refused≢answered s
+
+  pub read-holds : (text : List ℕ) (a : PlanRead) → answered a ≡ readPlan calendars taskCalendars workTimes heights boxes text .answer → Holds a
+  unfolding readPlan
+  read-holds text a e = from-read (readText text) a (sym e)
