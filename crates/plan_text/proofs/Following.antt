@@ -71,6 +71,28 @@ boxes-length h (t ∷ ts) =
 
 -- ---- a record more
 
+-- no calendars and no tasks
+pub holds-empty : (started : Bool) (h c n : ℕ) (sy tc wt hs bx : List ℕ)
+    → Holds (record { started = started; hours = h; capacity = c; calendars = []; tasks = [] })
+    (record { started = started; hours = h; capacity = c; calendars = 0; even = true; symbols = 0; tasks = 0 }) n sy tc wt hs bx
+unfolding planIn boxesIn joined allOf
+holds-empty started h c n sy tc wt hs bx =
+    record {
+      started = refl;
+      hours = refl;
+      capacity = refl;
+      calendars = refl;
+      even = refl;
+      symbol-count = refl;
+      tasks = refl;
+      few = omega arith;
+      kept-symbols = kept-none sy;
+      kept-calendars = kept-none tc;
+      kept-work-times = kept-none wt;
+      kept-heights = kept-none hs;
+      kept-boxes = kept-none bx;
+    }
+
 module _ {r : Read} {s : Scan} {n : ℕ} {sy tc wt hs bx : List ℕ} (held : Holds r s n sy tc wt hs bx) where
   -- read with more bytes
   pub holds-later : (m : ℕ) → n ≤ m → Holds r s m sy tc wt hs bx
@@ -98,26 +120,8 @@ module _ {r : Read} {s : Scan} {n : ℕ} {sy tc wt hs bx : List ℕ} (held : Hol
   pub plan-next : (h c : ℕ) → s .started ≡ false
       → Follows (withRecord r (planRecord h c))
       (Next (record { started = true; hours = h; capacity = c; calendars = 0; even = true; symbols = 0; tasks = 0 })) n sy tc wt hs bx
-  unfolding withRecord planIn boxesIn joined allOf Follows
-  plan-next h c e = (
-    _,
-    some-if _ _ (if-false _ _ _ (sym (held .started) ∙ e)),
-    record {
-      started = refl;
-      hours = refl;
-      capacity = refl;
-      calendars = refl;
-      even = refl;
-      symbol-count = refl;
-      tasks = refl;
-      few = omega arith;
-      kept-symbols = kept-none sy;
-      kept-calendars = kept-none tc;
-      kept-work-times = kept-none wt;
-      kept-heights = kept-none hs;
-      kept-boxes = kept-none bx;
-    },
-  )
+  unfolding withRecord Follows
+  plan-next h c e = (_, some-if _ _ (if-false _ _ _ (sym (held .started) ∙ e)), holds-empty true h c n sy tc wt hs bx)
 
   pub cal-unstarted : (l : List ℕ) → s .started ≡ false → Follows (withRecord r (calRecord l)) Broken (n + (length l + 1)) sy tc wt hs bx
   unfolding withRecord Follows

@@ -20,12 +20,10 @@ use Rattle.plan_text.specs.declared.Scanned.{Scanned}
 use Rattle.plan_text.specs.declared.Scanned.the-variants.{Malformed, Whole}
 use Rattle.plan_text.specs.Fields.{lf, parts}
 use Rattle.plan_text.specs.Text.{Read, mostBytes, nothing, withLine, readLines, readText}
-use Rattle.plan_text.specs.Entry.{joined, planIn, boxesIn, allOf}
 use Rattle.plan_text.specs.Lines.{firstAt}
 use Rattle.plan_text.specs.Scanning.{Sized, Holds, Follows, Scans}
 use Rattle.plan_text.proofs.Parting.{parts-more, parts-last, parts-first}
-use Rattle.plan_text.proofs.Storing.{kept-none}
-use Rattle.plan_text.proofs.Following.{holds-later}
+use Rattle.plan_text.proofs.Following.{holds-empty, holds-later}
 
 module _ (whole : Bool) (k : ℕ) (r : Read) (rest : List ℕ) where
   lines-last : firstAt lf rest ≡ length rest
@@ -52,28 +50,12 @@ pub record Reached (text : List ℕ) (whole : Bool) (from line : ℕ) (s : Scan)
 
 pub reached-none : (text : List ℕ) (whole : Bool) (sy tc wt hs bx : List ℕ)
     → Reached text whole 0 1 (record { started = false; hours = 0; capacity = 0; calendars = 0; even = true; symbols = 0; tasks = 0 }) sy tc wt hs bx
-unfolding planIn boxesIn joined allOf
 reached-none text whole sy tc wt hs bx =
     record {
       inside = omega arith;
       lines = omega arith;
       so-far = nothing;
-      held =
-          record {
-            started = refl;
-            hours = refl;
-            capacity = refl;
-            calendars = refl;
-            even = refl;
-            symbol-count = refl;
-            tasks = refl;
-            few = omega arith;
-            kept-symbols = kept-none sy;
-            kept-calendars = kept-none tc;
-            kept-work-times = kept-none wt;
-            kept-heights = kept-none hs;
-            kept-boxes = kept-none bx;
-          };
+      held = holds-empty false 0 0 0 sy tc wt hs bx;
       decides = refl;
     }
 

@@ -5,8 +5,8 @@ use Prim.Native.Nat.{ℕ, suc, _+_, _≤_, _<_}
 use native.Mathlib.Nat.{zero-add}
 use native.Mathlib.Numerals.{add-one}
 use native.Mathlib.Omega.{arith}
-use lib.ListN.{length, getD, take, drop, set, length-append, length-drop}
-use lib.Seq.{paste, paste-suc, take-length, take-at, take-suc-set, length-take-le}
+use lib.ListN.{length, getD, take, drop, set, length-append}
+use lib.Seq.{paste, paste-suc, take-length, take-at, take-suc-set}
 use Rattle.units.specs.Cells.{written}
 use Rattle.plan_text.specs.Scanning.{writtenAt, Kept}
 
@@ -19,17 +19,6 @@ module _ (cells : List ℕ) (at : ℕ) (xs : List ℕ) where
   pub store-end : paste cells at xs (length xs) ≡ writtenAt at xs cells
   unfolding writtenAt
   store-end = rw (take-length xs)
-
-  pub length-written : at + length xs ≤ length cells → length (writtenAt at xs cells) ≡ length cells
-  unfolding writtenAt
-  length-written h =
-      omega (
-        arith,
-        length-append (take at cells ++ xs) (drop (at + length xs) cells),
-        length-append (take at cells) xs,
-        length-take-le at cells (omega arith),
-        length-drop (at + length xs) cells,
-      )
 
 -- from the first cell on
 pub written-first : (xs cells : List ℕ) → writtenAt 0 xs cells ≡ written xs cells
