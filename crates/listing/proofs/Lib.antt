@@ -2,3 +2,4 @@ pub mod Parts
 pub mod Digits
 pub mod Lines
 pub mod Reading
+pub mod Room

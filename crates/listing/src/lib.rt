@@ -14,6 +14,8 @@ ghost use Rattle.listing.specs.Decimal.{digitsBy, decimalText};
 ghost use Rattle.listing.specs.Listing.{tab, lineOf, taskLines, taskLine, refusedLine, listing};
 ghost use Rattle.listing.specs.Putting.{Put, mostListing};
 
+pub mod text;
+
 // Bytes that hold every listing.
 pub const ROOM: usize = 4096;
 

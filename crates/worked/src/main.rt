@@ -121,8 +121,52 @@ fn schedule_that_ends_closed() {
     report(printed_week(&schedule));
 }
 
+// One byte more than the longest text has, so that a text that is too long shows.
+const BYTES: usize = 32769;
+
+// The name of a plan text of data/, and what the program prints for it.
+fn print_listing(name: &[u8]) {
+    let mut text = [0u8; BYTES];
+    let mut out = [0u8; listing::ROOM];
+    io::write_all(STDOUT_FILENO, name);
+    end_line();
+    let file = os::open_read(name);
+    let n = io::read_full(file, &mut text);
+    libc::close(file);
+    let k = listing::text::list_text(&text[..n], &mut out);
+    io::write_all(STDOUT_FILENO, &out[..k]);
+}
+
+// Every limit and every refusal of a plan text, the traps of 01, and a week of 40 tasks.
+fn print_listings() {
+    print_listing(b"no-tasks.plan");
+    print_listing(b"hours-1008.plan");
+    print_listing(b"hours-1009.plan");
+    print_listing(b"tasks-64.plan");
+    print_listing(b"tasks-65.plan");
+    print_listing(b"printed-week.plan");
+    print_listing(b"height-above-capacity.plan");
+    print_listing(b"calendar-a.plan");
+    print_listing(b"rests-before-closing.plan");
+    print_listing(b"one-hour-of-overtime.plan");
+    print_listing(b"two-hours-of-overtime.plan");
+    print_listing(b"own-part-does-not-crowd.plan");
+    print_listing(b"refused-1.plan");
+    print_listing(b"refused-1-no-lf.plan");
+    print_listing(b"refused-2.plan");
+    print_listing(b"refused-3.plan");
+    print_listing(b"refused-4.plan");
+    print_listing(b"refused-6.plan");
+    print_listing(b"refused-7.plan");
+    print_listing(b"refused-8.plan");
+    print_listing(b"refused-9.plan");
+    print_listing(b"refused-10.plan");
+    print_listing(b"bakery-week.plan");
+}
+
 fn main() {
     feasible_schedule();
     crowded_schedule();
     schedule_that_ends_closed();
+    print_listings();
 }

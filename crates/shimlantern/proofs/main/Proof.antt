@@ -1,5 +1,5 @@
 use mathlib.Core.Path.{refl}
-use Rattle.shimlantern.proofs.Room.{part-length}
+use Rattle.listing.proofs.Room.{part-length}
 use borrow.Author.Needs.{needs}
 use Rattle.shimlantern.proofs.main.Statement.{statement}
 use Rattle.shimlantern.proofs.main.Tie as tie

@@ -1,7 +1,7 @@
-use Rattle.shimlantern.proofs.Room.{within-room}
+use Rattle.listing.proofs.Room.{within-room}
 use borrow.Author.Needs.{needs}
-use Rattle.shimlantern.proofs.list_plan.Statement.{statement}
-use Rattle.shimlantern.proofs.list_plan.Tie as tie
+use Rattle.listing.proofs.text.list_plan.Statement.{statement}
+use Rattle.listing.proofs.text.list_plan.Tie as tie
 
 slice-aggregate-filter : tie.Need-slice-aggregate-filter
 slice-aggregate-filter c = search needs

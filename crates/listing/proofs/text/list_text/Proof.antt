@@ -1,15 +1,15 @@
-use Rattle.shimlantern.proofs.Room.{parts-ready}
+use Rattle.listing.proofs.Room.{parts-ready}
 use Prim.Native.Nat.{_*_}
-use Rattle.shimlantern.proofs.Room.{part-length}
+use Rattle.listing.proofs.Room.{part-length}
 use mathlib.Core.Path.{sym, ap, _∙_}
 use native.Mathlib.Omega.{arith}
 use lib.ListN.{length-take}
 use Rattle.plan_text.specs.Entry.{readingAnswer}
 use Rattle.plan_text.proofs.Holding.{read-holds}
-use Rattle.shimlantern.proofs.Room.{within-room}
+use Rattle.listing.proofs.Room.{within-room}
 use borrow.Author.Needs.{needs}
-use Rattle.shimlantern.proofs.list_text.Statement.{statement}
-use Rattle.shimlantern.proofs.list_text.Tie as tie
+use Rattle.listing.proofs.text.list_text.Statement.{statement}
+use Rattle.listing.proofs.text.list_text.Tie as tie
 
 slice-aggregate-read-plan : tie.Need-slice-aggregate-read-plan
 slice-aggregate-read-plan c = search needs

@@ -1,0 +1,66 @@
+use mathlib.Core.Path.{refl}
+use Rattle.listing.proofs.Room.{part-length}
+use borrow.Author.Needs.{needs}
+use Rattle.worked.proofs.print_listing.Statement.{statement}
+use Rattle.worked.proofs.print_listing.Tie as tie
+
+write-all-requires : tie.Need-write-all-requires
+write-all-requires c κs = search needs
+
+end-line-requires : tie.Need-end-line-requires
+end-line-requires c κs = search needs
+
+open-read-requires : tie.Need-open-read-requires
+open-read-requires c κs = search needs
+
+slice-aggregate-read-full : tie.Need-slice-aggregate-read-full
+slice-aggregate-read-full c = search needs
+
+read-full-requires : tie.Need-read-full-requires
+read-full-requires c κs = search needs
+
+close-requires : tie.Need-close-requires
+close-requires c κs = search needs
+
+array-share-prefix-text : tie.Need-array-share-prefix-text
+array-share-prefix-text c = search needs
+
+slice-aggregate-list-text : tie.Need-slice-aggregate-list-text
+slice-aggregate-list-text c = search needs
+
+slice-aggregate-list-text-2 : tie.Need-slice-aggregate-list-text-2
+slice-aggregate-list-text-2 c = search needs
+
+list-text-requires : tie.Need-list-text-requires
+list-text-requires c κs = search needs
+
+array-share-prefix-out : tie.Need-array-share-prefix-out
+array-share-prefix-out c = search needs
+
+slice-aggregate-write-all : tie.Need-slice-aggregate-write-all
+slice-aggregate-write-all c = part-length _ _ _ refl (c .before .before .list-text .ensures)
+
+write-all-requires-2 : tie.Need-write-all-requires-2
+write-all-requires-2 c κs = search needs
+
+returns : tie.Need-returns
+returns c = search needs
+
+pub print-listing-spec : {M : Type 1} → statement M
+print-listing-spec =
+    tie.close
+    (tie.spec
+    write-all-requires
+    end-line-requires
+    open-read-requires
+    slice-aggregate-read-full
+    read-full-requires
+    close-requires
+    array-share-prefix-text
+    slice-aggregate-list-text
+    slice-aggregate-list-text-2
+    list-text-requires
+    array-share-prefix-out
+    slice-aggregate-write-all
+    write-all-requires-2
+    returns)
