@@ -1,11 +1,11 @@
 -- What each test of a triple's validity decides. Assumes nothing.
-use mathlib.Core.Path.{_≡_, refl, sym, ap, _∙_}
-use mathlib.Core.Bool.{Bool, true, false, not}
+use mathlib.Core.Path.{_≡_, ap}
+use mathlib.Core.Bool.{true, false, not}
 use mathlib.Core.Logic.{_≢_}
 use mathlib.Core.List.{List}
 use Prim.Native.Nat.{ℕ, _+_, _-_, _≤_, _<_}
 use lib.ListN.{length, getD}
-use lib.Dec.{leb, eqb}
+use lib.Dec.{leb}
 use borrow.Author.Tests.{lt-leb, le-leb, ne-eqb, eq-eqb, leb-true, eqb-true}
 use Rattle.units.specs.Choice.{_and_}
 use Rattle.units.proofs.Choices.{and-left, and-right, not-left, not-right}

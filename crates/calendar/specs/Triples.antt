@@ -2,7 +2,6 @@
 use mathlib.Core.Bool.{Bool, true, false}
 use mathlib.Core.List.{List, [], _∷_, _++_}
 use Prim.Native.Nat.{ℕ, zero, suc, _+_, _-_}
-use lib.Dec.{leb}
 use Rattle.units.specs.Choice.{_and_}
 use Rattle.units.specs.Limits.{hour, duration, within}
 use Rattle.units.specs.declared.Bounds.{Bounds}

@@ -1,7 +1,6 @@
 -- What the program prints (01, "Plan text and listing"): fields parted by one tab, each line ended by LF.
 use mathlib.Core.List.{List, [], _∷_, _++_}
 use Prim.Native.Nat.{ℕ, zero, suc}
-use Rattle.units.specs.declared.Bounds.{Bounds}
 use Rattle.plan.specs.Boxes.{boundsAt}
 use Rattle.plan.specs.Refusals.{Fault}
 use Rattle.propagation.specs.Entry.{FilterAnswer, refusedBy, noRoomFor, settledAfter, impossibleAfter}

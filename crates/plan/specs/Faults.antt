@@ -1,5 +1,5 @@
 -- The plan's tests: the first fault, in 01's order (01, "Refused because of the input", "Refused because of the state").
-use mathlib.Core.Bool.{Bool, true, false}
+use mathlib.Core.Bool.{Bool, true}
 use mathlib.Core.Option.{Option, none}
 use mathlib.Core.List.{List}
 use mathlib.Core.Path.{_≡_}

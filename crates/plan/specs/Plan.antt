@@ -1,10 +1,8 @@
 -- A plan as it lies in memory (01, "A plan").
-use mathlib.Core.Bool.{Bool, true, false}
+use mathlib.Core.Bool.{Bool}
 use mathlib.Core.List.{List}
-use Prim.Native.Nat.{ℕ, _+_, _*_, _/_, _%_}
-use lib.Dec.{eqb}
+use Prim.Native.Nat.{ℕ, _*_, _/_}
 use lib.ListN.{length, getD, take, drop}
-use Rattle.units.specs.Choice.{if_then_else_}
 use Rattle.units.specs.Sums.{sumWhere}
 
 -- H, the capacity, the symbols of the calendars, joined, and one number a task for each of its calendar, its work time p and its height.

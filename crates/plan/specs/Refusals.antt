@@ -2,7 +2,7 @@
 use mathlib.Core.Bool.{Bool, not}
 use mathlib.Core.Option.{Option, none, some}
 use Prim.Native.Nat.{ℕ}
-use Rattle.units.specs.Choice.{someIf, onOption}
+use Rattle.units.specs.Choice.{someIf}
 use Rattle.plan.specs.declared.Refusal.{Refusal}
 use Rattle.plan.specs.declared.Refusal.the-variants.{Malformed, Hours, Calendars, Symbol, Tasks, NoCalendar, WorkTime, TaskHeight, TaskBounds, Capacity, UnknownStep, NotAdmitted, AfterImpossible, OutsideBounds, NotValid, OverCapacity, MemorySize}
 use Rattle.plan.specs.declared.Tested.{Tested}

@@ -1,6 +1,6 @@
 -- What a plan that was read holds: within the limits of a plan. Assumes nothing.
-use mathlib.Core.Path.{_≡_, refl, sym, ap, _∙_, subst}
-use mathlib.Core.Bool.{Bool, true}
+use mathlib.Core.Path.{_≡_, refl, sym, subst}
+use mathlib.Core.Bool.{Bool}
 use mathlib.Core.Option.{Option, none, some}
 use mathlib.Core.List.{List, map}
 use Prim.Native.Nat.{ℕ, _*_, _≤_}
@@ -11,7 +11,7 @@ use lib.Dec.{leb}
 use borrow.Author.Tests.{leb-true}
 use Rattle.units.specs.Choice.{onOption}
 use Rattle.units.specs.Limits.{mostHours, mostCalendars, mostTasks, isPlanLength, isCalendarCount, isTaskCount}
-use Rattle.units.proofs.Choices.{and-left, neither, option-case}
+use Rattle.units.proofs.Choices.{and-left, neither}
 use Rattle.units.proofs.Ranges.{to-most}
 use Rattle.plan.specs.Plan.{taskCount}
 use Rattle.plan.specs.Refusals.{Fault, Answer, refused, answered, onAnswer}

@@ -1,7 +1,7 @@
 -- Reading a plan as an entry point: the text's plan, its refusals in their order, and what lent memory holds after (01, "Plan text and
 -- listing", "Refused because of the state").
-use mathlib.Core.Bool.{Bool, true, false}
-use mathlib.Core.Option.{Option, none, some}
+use mathlib.Core.Bool.{Bool, true}
+use mathlib.Core.Option.{Option}
 use mathlib.Core.List.{List, [], _∷_, _++_, map}
 use mathlib.Core.Path.{_≡_}
 use Prim.Native.Nat.{ℕ, _-_, _*_}

@@ -3,16 +3,16 @@ use mathlib.Core.Path.{_≡_, refl, sym, ap, _∙_, subst}
 use mathlib.Core.Bool.{Bool, true, false, false≢true}
 use mathlib.Core.Option.{Option, none, some}
 use mathlib.Core.List.{List, [], _∷_, _++_, map}
-use Prim.Native.Nat.{ℕ, zero, suc, _+_, _*_, _≤_, _<_}
+use Prim.Native.Nat.{ℕ, zero, suc, _+_, _*_, _<_}
 use native.Mathlib.Numerals.{add-one}
 use native.Mathlib.Omega.{arith}
-use lib.ListN.{length, getD, drop}
+use lib.ListN.{length}
 use Rattle.units.specs.Cells.{written}
-use Rattle.units.specs.Choice.{onOption, _orElse_, firstOf}
+use Rattle.units.specs.Choice.{_orElse_, firstOf}
 use Rattle.units.proofs.Choices.{and-left, none≢some, option-all, if-some, else-case, neither, first-at}
 use Rattle.plan.specs.Plan.{Plan, taskCount}
 use Rattle.plan.specs.Boxes.{boundsAt}
-use Rattle.plan.specs.Refusals.{Fault, fault, unless, Answer, refused, answered, answerUnless}
+use Rattle.plan.specs.Refusals.{Fault, fault, unless, refused, answered, answerUnless}
 use Rattle.plan.specs.Faults.{taskFault, planFault}
 use Rattle.plan.proofs.Refusing.{unless-none}
 use Rattle.propagation.specs.declared.Step.{Step}
@@ -20,9 +20,9 @@ use Rattle.calendar.specs.declared.Triple.{Triple}
 use Rattle.calendar.specs.Triples.{inBounds}
 use Rattle.schedule.specs.Schedule.{Feasible}
 use Rattle.propagation.specs.Steps.{judge}
-use Rattle.propagation.specs.Log.{LogEnd, logEnd, replayFrom, replay}
+use Rattle.propagation.specs.Log.{LogEnd, replayFrom, replay}
 use Rattle.propagation.specs.Filter.{Ending, settled, impossible, noRoom, Run, count, run}
-use Rattle.propagation.specs.Entry.{stepAt, stepsFrom, stepsIn, entryFault, Accepted, checkLog, checkAnswer, FilterAnswer, refusedBy, settledAfter, impossibleAfter, noRoomFor, endingAnswer, FilterEnd, logged, filterPlan}
+use Rattle.propagation.specs.Entry.{stepAt, stepsFrom, stepsIn, entryFault, Accepted, checkLog, checkAnswer, refusedBy, endingAnswer, FilterEnd, logged, filterPlan}
 use Rattle.propagation.specs.Claim.{saidImpossible, CheckedHolds, FilterHolds}
 use Rattle.propagation.proofs.Judgements.{judgement-all}
 use Rattle.propagation.proofs.Replays.{accepted-admitted, admitted-accepted, replay-keeps, replay-possible}

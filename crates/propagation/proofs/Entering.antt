@@ -1,20 +1,20 @@
 -- Laws of the entry points' own tests: what each outcome makes of the log checker's contract and of the filter's. Assumes nothing.
-use mathlib.Core.Path.{_≡_, refl, sym, ap, _∙_, subst}
+use mathlib.Core.Path.{_≡_, refl}
 use mathlib.Core.Bool.{Bool, true, false}
 use mathlib.Core.Option.{none, some}
 use mathlib.Core.List.{List}
 use Prim.Native.Nat.{ℕ}
 use lib.ListN.{length}
-use Rattle.units.specs.Choice.{_and_, onOption}
+use Rattle.units.specs.Choice.{onOption}
 use Rattle.units.proofs.Choices.{and-both, and-left, and-right, not-left, not-right, neither}
 use Rattle.plan.specs.Plan.{Plan}
 use Rattle.plan.specs.Refusals.{Fault, fault, Answer, refused, answerUnless}
 use Rattle.plan.specs.Faults.{oneForEachTask, planFault}
 use Rattle.plan.proofs.Refusing.{unless-none, go-on, refuse}
 use Rattle.plan.proofs.Passed.{Passed, passed}
-use Rattle.propagation.specs.Log.{LogEnd, replay}
+use Rattle.propagation.specs.Log.{replay}
 use Rattle.propagation.specs.Filter.{run}
-use Rattle.propagation.specs.Entry.{stepsIn, oneForEachStep, entryFault, Accepted, checkLog, checkAnswer, FilterAnswer, refusedBy, FilterEnd, Leaves, logged, filterPlan}
+use Rattle.propagation.specs.Entry.{stepsIn, oneForEachStep, entryFault, Accepted, checkLog, checkAnswer, FilterAnswer, refusedBy, Leaves, logged, filterPlan}
 use Rattle.propagation.specs.Claim.{CheckedHolds, FilterHolds}
 use Rattle.propagation.proofs.Contracts.{check-holds, filter-holds}
 

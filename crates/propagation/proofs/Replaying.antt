@@ -1,11 +1,10 @@
 -- Laws of the log checker's loop: what holds at each turn, and what each case of a step makes of it. Assumes nothing.
 use mathlib.Core.Path.{_≡_, refl, sym, ap, _∙_}
 use mathlib.Core.Bool.{Bool, true, false}
-use mathlib.Core.Option.{none, some}
 use mathlib.Core.List.{List, []}
-use Prim.Native.Nat.{ℕ, _+_, _*_, _≤_, _<_}
+use Prim.Native.Nat.{ℕ, _+_, _≤_, _<_}
 use native.Mathlib.Omega.{arith}
-use lib.ListN.{length, getD, set, length-set}
+use lib.ListN.{length, set, length-set}
 use Rattle.units.specs.Limits.{mostTasks}
 use Rattle.units.specs.declared.Bounds.{Bounds}
 use Rattle.plan.specs.Plan.{Plan, plan, taskCount}
@@ -18,9 +17,9 @@ use Rattle.propagation.specs.declared.Step.{Step}
 use Rattle.propagation.specs.declared.Judged.{Judged}
 use Rattle.propagation.specs.declared.Judged.the-variants.{Unknown, NotAdmitted, Impossible, Moved}
 use Rattle.propagation.specs.Load.{fitAt}
-use Rattle.propagation.specs.Steps.{Kind, judge, Judgement, unknown, notAdmitted, moved}
+use Rattle.propagation.specs.Steps.{Kind, judge, unknown, notAdmitted, moved}
 use Rattle.propagation.specs.Steps as judged
-use Rattle.propagation.specs.Log.{LogEnd, logEnd, replay}
+use Rattle.propagation.specs.Log.{LogEnd, replay}
 use Rattle.propagation.specs.Entry.{stepAt, stepsIn, Accepted, checkAnswer}
 use Rattle.propagation.specs.Kept.{Kept, onJudged, judgeBy, judgementOf}
 use Rattle.propagation.proofs.Keeping.{judge-kept, moved-passes}

@@ -2,9 +2,9 @@
 use mathlib.Core.Path.{_≡_, refl, sym, ap, _∙_}
 use mathlib.Core.Bool.{Bool, true, false}
 use mathlib.Core.Logic.{_≢_}
-use mathlib.Core.Option.{Option, none, some}
+use mathlib.Core.Option.{none, some}
 use mathlib.Core.List.{List, [], _∷_, _++_, map, append-assoc, append-nil, map-append}
-use Prim.Native.Nat.{ℕ, zero, suc, _+_, _-_, _*_, _≤_, _<_}
+use Prim.Native.Nat.{ℕ, suc, _+_, _-_, _≤_, _<_}
 use native.Mathlib.Decide.{ℕ-discrete}
 use native.Mathlib.Omega.{arith}
 use lib.ListN.{length, getD, set, drop, length-map, length-append}
@@ -12,11 +12,10 @@ use lib.Seq.{getD-set-same, getD-set-other, drop-cons, set-at}
 use borrow.Author.Tests.{eqb-true}
 use Rattle.units.proofs.Choices.{and-left, and-right}
 use Rattle.units.specs.Cells.{written}
-use Rattle.units.specs.Choice.{onOption}
 use Rattle.units.specs.declared.Bounds.{Bounds}
-use Rattle.plan.specs.Plan.{Plan, plan, taskCount}
-use Rattle.plan.specs.Boxes.{boundsAt, withBounds}
-use Rattle.plan.specs.Refusals.{Fault, fault, Answer, refused, answered, answerUnless}
+use Rattle.plan.specs.Plan.{Plan, plan}
+use Rattle.plan.specs.Boxes.{withBounds}
+use Rattle.plan.specs.Refusals.{Fault, fault, refused, answered, answerUnless}
 use Rattle.plan.proofs.Cells.{bounds-other}
 use Rattle.calendar.specs.declared.Fit.{Fit}
 use Rattle.calendar.specs.declared.Fit.the-variants.{Never}

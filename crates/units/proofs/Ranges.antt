@@ -1,8 +1,8 @@
 -- Laws of ranges and boxes. Assumes nothing.
-use mathlib.Core.Path.{_≡_, refl, sym, _∙_}
+use mathlib.Core.Path.{_≡_}
 use mathlib.Core.Bool.{Bool, true, false}
 use Prim.Native.Nat.{ℕ, _≤_, _<_}
-use lib.Dec.{leb, ltb}
+use lib.Dec.{leb}
 use borrow.Author.Tests.{le-leb, lt-leb, leb-true, ltb-true}
 use Rattle.units.specs.Choice.{_and_}
 use Rattle.units.specs.Limits.{within, isHour, isWorkTime, isOvertime, isRange, isBox}
