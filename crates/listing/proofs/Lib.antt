@@ -3,3 +3,4 @@ pub mod Digits
 pub mod Lines
 pub mod Reading
 pub mod Room
+pub mod Programs

@@ -9,7 +9,10 @@ ghost use mathlib.Core.Path.{_≡_};
 ghost use Prim.Native.Nat.{_*_, _≤_};
 ghost use lib.ListN.{length};
 ghost use Rattle.units.specs.Limits.{mostTasks};
+ghost use Rattle.units.specs.Cells.{written};
+ghost use Rattle.plan.specs.Plan.{plan};
 ghost use Rattle.listing.specs.Putting.{mostListing};
+ghost use Rattle.listing.specs.Program.{planListing, textListing};
 
 // The most symbols of a plan, calendars joined.
 const SYMBOLS: usize = CalendarNumber::COUNT * Duration::MOST as usize;
@@ -32,7 +35,12 @@ fn list_plan(
     out: &mut [u8],
 ) -> usize
     requires { ⌜ (length (now «task_calendars») ≤ mostTasks) × (length (now boxes) ≡ 6 * length (now «task_calendars»)) × (mostListing ≤ length (now out)) ⌝ }
-    ensures { λ r. ⌜ r ≤ length (now (out .exit)) ⌝ }
+    ensures { λ r. ⌜ (r ≡ length (planListing
+        (plan hours capacity (now (calendars .entry)) (now («task_calendars» .entry)) (now («work_times» .entry)) (now (heights .entry)))
+        (now (boxes .entry))))
+        × (now (out .exit) ≡ written (planListing
+        (plan hours capacity (now (calendars .entry)) (now («task_calendars» .entry)) (now («work_times» .entry)) (now (heights .entry)))
+        (now (boxes .entry))) (now (out .entry))) ⌝ }
 {
     let mut log_kinds = [0u8; STEPS];
     let mut log_tasks = [0u16; STEPS];
@@ -55,7 +63,7 @@ fn list_plan(
 // The listing of a text.
 pub fn list_text(text: &[u8], out: &mut [u8]) -> usize
     requires { ⌜ mostListing ≤ length (now out) ⌝ }
-    ensures { λ r. ⌜ r ≤ length (now (out .exit)) ⌝ }
+    ensures { λ r. ⌜ (r ≡ length (textListing (now (text .entry)))) × (now (out .exit) ≡ written (textListing (now (text .entry))) (now (out .entry))) ⌝ }
 {
     let mut symbols = [0u8; SYMBOLS];
     let mut task_calendars = [0u16; Bounds::COUNT];

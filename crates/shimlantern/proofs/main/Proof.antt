@@ -1,5 +1,6 @@
+use native.Mathlib.Omega.{arith}
 use mathlib.Core.Path.{refl}
-use Rattle.listing.proofs.Room.{part-length}
+use Rattle.listing.proofs.Room.{within-room, part-length}
 use borrow.Author.Needs.{needs}
 use Rattle.shimlantern.proofs.main.Statement.{statement}
 use Rattle.shimlantern.proofs.main.Tie as tie
@@ -23,10 +24,10 @@ list-text-requires : tie.Need-list-text-requires
 list-text-requires c κs = search needs
 
 array-share-prefix-out : tie.Need-array-share-prefix-out
-array-share-prefix-out c = search needs
+array-share-prefix-out c = omega (arith, within-room _ _ _ _ (c .before .list-text .ensures .0) (c .before .list-text .ensures .1), c .before .list-text .kept .1 .0)
 
 slice-aggregate-write-all : tie.Need-slice-aggregate-write-all
-slice-aggregate-write-all c = part-length _ _ _ refl (c .before .before .list-text .ensures)
+slice-aggregate-write-all c = part-length _ _ _ refl (within-room _ _ _ _ (c .before .before .list-text .ensures .0) (c .before .before .list-text .ensures .1))
 
 write-all-requires : tie.Need-write-all-requires
 write-all-requires c κs = search needs

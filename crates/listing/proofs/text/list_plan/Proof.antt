@@ -1,3 +1,6 @@
+use Rattle.listing.proofs.Programs.{put-as, plan-listed}
+use Rattle.plan.specs.Plan.{taskCount}
+use Rattle.listing.specs.Program.{zeros}
 use Rattle.listing.proofs.Room.{within-room}
 use borrow.Author.Needs.{needs}
 use Rattle.listing.proofs.text.list_plan.Statement.{statement}
@@ -25,7 +28,8 @@ same-length-2 : tie.Need-same-length-2
 same-length-2 c = search needs
 
 returns : tie.Need-returns
-returns c = within-room _ _ _ _ (c .before .before .list-run .ensures .0) (c .before .before .list-run .ensures .1)
+unfolding taskCount zeros
+returns c = put-as _ (plan-listed _ _ _ _ _ _ _ (c .before .before .before .before .before .before .before .before .before .before .filter .ensures .0)) (c .before .before .list-run .ensures .0) (c .before .before .list-run .ensures .1)
 
 pub list-plan-spec : {M : Type 1} → statement M
 list-plan-spec =

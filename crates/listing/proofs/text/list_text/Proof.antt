@@ -1,3 +1,6 @@
+use Rattle.listing.proofs.Programs.{leaves-as}
+use Rattle.listing.proofs.Programs.{put-as, text-refused, text-read}
+use Rattle.listing.specs.Program.{zeros, readEnd}
 use Rattle.listing.proofs.Room.{parts-ready}
 use Prim.Native.Nat.{_*_}
 use Rattle.listing.proofs.Room.{part-length}
@@ -96,13 +99,15 @@ same-length : tie.Need-same-length
 same-length c = search needs
 
 returns : tie.Need-returns
-returns c = within-room _ _ _ _ (c .before .before .list-refusal .ensures .0) (c .before .before .list-refusal .ensures .1)
+unfolding zeros readEnd
+returns c = put-as _ (text-refused _ _ (sym (ap readingAnswer (c .before .before .before .before .before .reading .given .1)) ∙ c .before .before .before .before .before .before .before .before .before .before .before .before .read-plan .ensures .answers)) (c .before .before .list-refusal .ensures .0) (c .before .before .list-refusal .ensures .1)
 
 same-length-2 : tie.Need-same-length-2
 same-length-2 c = search needs
 
 returns-2 : tie.Need-returns-2
-returns-2 c = search needs
+unfolding zeros readEnd
+returns-2 c = put-as _ (text-read _ _ _ _ _ _ _ (leaves-as (c .before .before .before .before .before .before .before .before .before .before .before .before .before .before .before .before .before .before .read-plan .ensures) (ap readingAnswer (c .before .before .before .before .before .before .before .before .before .before .before .reading2 .given .1)))) (c .before .before .before .list-plan .ensures .0) (c .before .before .before .list-plan .ensures .1)
 
 pub list-text-spec : {M : Type 1} → statement M
 list-text-spec =
