@@ -20,7 +20,7 @@ use Rattle.calendar.specs.Rule.{lst, ect}
 use Rattle.propagation.specs.Load.{mustRun}
 use Rattle.propagation.specs.Kept.{loadOf}
 use Rattle.propagation.specs.Ready.{Ready}
-use Rattle.propagation.specs.Hunt.{partAt, Loaded}
+use Rattle.propagation.specs.Finding.{partAt, Loaded}
 
 -- ---- numbers that are set to 0 one after the other
 

@@ -8,7 +8,7 @@ pub mod Contracts
 pub mod Fits
 pub mod Deciding
 pub mod Keeping
-pub mod Hunting
+pub mod Findings
 pub mod Filling
 pub mod Turns
 pub mod Replaying

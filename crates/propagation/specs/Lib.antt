@@ -9,4 +9,4 @@ pub mod Fitting
 pub mod Kept
 pub mod Weeks
 pub mod Ready
-pub mod Hunt
+pub mod Finding

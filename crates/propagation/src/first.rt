@@ -1,4 +1,4 @@
-// The hunt for the first admitted step, in the filter's order, from the boxes and the answers of the calendar rule that are kept.
+// The search for the first admitted step, in the filter's order, from the boxes and the answers of the calendar rule that are kept.
 use crate::Found;
 use crate::Step;
 use crate::judge;
@@ -18,7 +18,7 @@ ghost use Rattle.units.specs.Limits.{mostHours, mostTasks};
 ghost use Rattle.propagation.specs.Steps.{step, letterO};
 ghost use Rattle.propagation.specs.Kept.{calendarBy, foundStep, nextBy};
 ghost use Rattle.propagation.specs.Ready.{Ready};
-ghost use Rattle.propagation.specs.Hunt.{admits, letterOf, firstHour, endHour, Loaded, firstCalendar, firstOverload, firstCrowded};
+ghost use Rattle.propagation.specs.Finding.{admits, letterOf, firstHour, endHour, Loaded, firstCalendar, firstOverload, firstCrowded};
 
 // Whether C is admitted: the task has no valid triple, or a bound changes.
 fn is_narrowed(fit: Fit, b: Bounds) -> bool
@@ -110,7 +110,7 @@ pub fn first_crowded(
 {
     let mut found = Found::Nothing;
     let kind = letter(lower);
-    'hunt: for i in 0..heights.len() {
+    'outer: for i in 0..heights.len() {
         let fit = fits[i];
         let Fit::Within(w) = fit else {
             continue;
@@ -124,7 +124,7 @@ pub fn first_crowded(
                     task: i as u16,
                     hour: t,
                 });
-                break 'hunt;
+                break 'outer;
             }
         }
     }

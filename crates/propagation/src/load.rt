@@ -7,7 +7,7 @@ ghost use Prim.Native.Nat.{ℕ, _+_, _≤_, _<_, min};
 ghost use lib.ListN.{length, getD};
 ghost use Rattle.units.specs.Limits.{mostHours, mostTasks, mostHeight};
 ghost use Rattle.propagation.specs.Kept.{loadOf};
-ghost use Rattle.propagation.specs.Hunt.{partAt};
+ghost use Rattle.propagation.specs.Finding.{partAt};
 
 // Where a stretch of hours ends in a plan of so many hours.
 pub fn clipped(end: u16, hours: usize) -> u16

@@ -1,7 +1,7 @@
 use mathlib.Core.Path.{ap, _∙_}
 use borrow.Author.Needs.{needs}
 use Rattle.propagation.specs.Kept.{foundStep}
-use Rattle.propagation.proofs.Hunting.{hunt-ends, hunt-goes-on, overload-plain}
+use Rattle.propagation.proofs.Findings.{outer-ends, outer-goes-on, overload-plain}
 use Rattle.propagation.proofs.first.first_by_load.Statement.{statement}
 use Rattle.propagation.proofs.first.first_by_load.Tie as tie
 
@@ -15,7 +15,7 @@ enum-told-2 : tie.Need-enum-told-2
 enum-told-2 c = search needs
 
 returns : tie.Need-returns
-returns c = hunt-ends _ _ (c .before .before .first-overload .ensures ∙ overload-plain (c .before .before .before .before .before .before .args .capacity) _ (c .before .before .before .before .before .before .args .boxes .now) _ (c .before .before .before .before .before .before .args .loads .now) (c .before .before .before .before .before .before .pre .1)) (ap foundStep (c .enum-told2 .given .1))
+returns c = outer-ends _ _ (c .before .before .first-overload .ensures ∙ overload-plain (c .before .before .before .before .before .before .args .capacity) _ (c .before .before .before .before .before .before .args .boxes .now) _ (c .before .before .before .before .before .before .args .loads .now) (c .before .before .before .before .before .before .pre .1)) (ap foundStep (c .enum-told2 .given .1))
 
 first-crowded-requires : tie.Need-first-crowded-requires
 first-crowded-requires c κs = c .before .before .before .before .before .before .pre
@@ -27,13 +27,13 @@ enum-told-4 : tie.Need-enum-told-4
 enum-told-4 c = search needs
 
 returns-2 : tie.Need-returns-2
-returns-2 c = hunt-goes-on _ _ (c .before .before .before .before .before .first-overload .ensures ∙ overload-plain (c .before .before .before .before .before .before .before .before .before .args .capacity) _ (c .before .before .before .before .before .before .before .before .before .args .boxes .now) _ (c .before .before .before .before .before .before .before .before .before .args .loads .now) (c .before .before .before .before .before .before .before .before .before .pre .1)) (ap foundStep (c .before .before .before .enum-told .given .1)) (hunt-ends _ _ (c .before .before .first-crowded .ensures) (ap foundStep (c .enum-told4 .given .1)))
+returns-2 c = outer-goes-on _ _ (c .before .before .before .before .before .first-overload .ensures ∙ overload-plain (c .before .before .before .before .before .before .before .before .before .args .capacity) _ (c .before .before .before .before .before .before .before .before .before .args .boxes .now) _ (c .before .before .before .before .before .before .before .before .before .args .loads .now) (c .before .before .before .before .before .before .before .before .before .pre .1)) (ap foundStep (c .before .before .before .enum-told .given .1)) (outer-ends _ _ (c .before .before .first-crowded .ensures) (ap foundStep (c .enum-told4 .given .1)))
 
 first-crowded-requires-2 : tie.Need-first-crowded-requires-2
 first-crowded-requires-2 c κs = c .before .before .before .before .before .before .before .before .before .pre
 
 returns-3 : tie.Need-returns-3
-returns-3 c = hunt-goes-on _ _ (c .before .before .before .before .before .before .first-overload .ensures ∙ overload-plain (c .before .before .before .before .before .before .before .before .before .before .args .capacity) _ (c .before .before .before .before .before .before .before .before .before .before .args .boxes .now) _ (c .before .before .before .before .before .before .before .before .before .before .args .loads .now) (c .before .before .before .before .before .before .before .before .before .before .pre .1)) (ap foundStep (c .before .before .before .before .enum-told .given .1)) (hunt-goes-on _ _ (c .before .before .before .first-crowded .ensures) (ap foundStep (c .before .enum-told3 .given .1)) (c .first-crowded2 .ensures))
+returns-3 c = outer-goes-on _ _ (c .before .before .before .before .before .before .first-overload .ensures ∙ overload-plain (c .before .before .before .before .before .before .before .before .before .before .args .capacity) _ (c .before .before .before .before .before .before .before .before .before .before .args .boxes .now) _ (c .before .before .before .before .before .before .before .before .before .before .args .loads .now) (c .before .before .before .before .before .before .before .before .before .before .pre .1)) (ap foundStep (c .before .before .before .before .enum-told .given .1)) (outer-goes-on _ _ (c .before .before .before .first-crowded .ensures) (ap foundStep (c .before .enum-told3 .given .1)) (c .first-crowded2 .ensures))
 
 pub first-by-load-spec : {M : Type 1} → statement M
 first-by-load-spec =

@@ -9,8 +9,8 @@ use Rattle.units.proofs.Choices.{some-if, none-if, first-next}
 use Rattle.plan.proofs.Refusing.{first-end}
 use Rattle.propagation.specs.declared.Found.the-variants.{Nothing}
 use Rattle.propagation.specs.Kept.{foundStep}
-use Rattle.propagation.specs.Hunt.{firstCrowded}
-use Rattle.propagation.proofs.Hunting.{atHour, ofTask, skip-never, skip-before, skip-after, test-hour, found-at, ends-soon}
+use Rattle.propagation.specs.Finding.{firstCrowded}
+use Rattle.propagation.proofs.Findings.{atHour, ofTask, skip-never, skip-before, skip-after, test-hour, found-at, ends-soon}
 use Rattle.propagation.proofs.Filling.{loaded-fits}
 use Rattle.propagation.proofs.first.first_crowded.Statement.{statement}
 use Rattle.propagation.proofs.first.first_crowded.Tie as tie
@@ -24,107 +24,107 @@ Inv-loop lower capacity heights boxes loads fits found₀ kind i w end t₀ i-en
 abbrev μ-loop : tie.MeasureT-loop
 μ-loop lower capacity heights boxes loads fits found₀ kind i w end t₀ i-end found t = end - t
 
-abbrev Inv-hunt : tie.InvT-hunt
-Inv-hunt lower capacity heights boxes loads fits found₀ kind i₀ i-end found i =
+abbrev Inv-outer : tie.InvT-outer
+Inv-outer lower capacity heights boxes loads fits found₀ kind i₀ i-end found i =
     (i ≤ length heights)
     × (found ≡ Nothing)
     × (firstOf (ofTask (length loads) capacity heights boxes fits lower) i ≡ none)
 
-abbrev μ-hunt : tie.MeasureT-hunt
-μ-hunt lower capacity heights boxes loads fits found₀ kind i₀ i-end found i = i-end - i
+abbrev μ-outer : tie.MeasureT-outer
+μ-outer lower capacity heights boxes loads fits found₀ kind i₀ i-end found i = i-end - i
 
-letter-requires : tie.Need-letter-requires Inv-loop μ-loop Inv-hunt μ-hunt
+letter-requires : tie.Need-letter-requires Inv-loop μ-loop Inv-outer μ-outer
 letter-requires c κs = search needs
 
-hunt-holds : tie.Need-hunt-holds Inv-loop μ-loop Inv-hunt μ-hunt
+outer-holds : tie.Need-outer-holds Inv-loop μ-loop Inv-outer μ-outer
 unfolding firstOf
-hunt-holds c = (omega arith, refl, refl)
+outer-holds c = (omega arith, refl, refl)
 
-mul-fit : tie.Need-mul-fit Inv-loop μ-loop Inv-hunt μ-hunt
+mul-fit : tie.Need-mul-fit Inv-loop μ-loop Inv-outer μ-outer
 mul-fit c = search needs
 
-array-copy-out-fit : tie.Need-array-copy-out-fit Inv-loop μ-loop Inv-hunt μ-hunt
+array-copy-out-fit : tie.Need-array-copy-out-fit Inv-loop μ-loop Inv-outer μ-outer
 array-copy-out-fit c = search needs
 
-enum-known-fit : tie.Need-enum-known-fit Inv-loop μ-loop Inv-hunt μ-hunt
+enum-known-fit : tie.Need-enum-known-fit Inv-loop μ-loop Inv-outer μ-outer
 enum-known-fit c = search needs
 
-enum-told : tie.Need-enum-told Inv-loop μ-loop Inv-hunt μ-hunt
+enum-told : tie.Need-enum-told Inv-loop μ-loop Inv-outer μ-outer
 enum-told c = search needs
 
-add-i : tie.Need-add-i Inv-loop μ-loop Inv-hunt μ-hunt
+add-i : tie.Need-add-i Inv-loop μ-loop Inv-outer μ-outer
 add-i c = search needs
 
-hunt-less : tie.Need-hunt-less Inv-loop μ-loop Inv-hunt μ-hunt
-hunt-less c = search needs
+outer-less : tie.Need-outer-less Inv-loop μ-loop Inv-outer μ-outer
+outer-less c = search needs
 
-hunt-again : tie.Need-hunt-again Inv-loop μ-loop Inv-hunt μ-hunt
-hunt-again c = let inv = c .before .before .before .before .hunt .inv in (omega arith, inv .1, skip-never _ _ _ _ _ _ _ (c .enum-told .given .1) (inv .2))
+outer-again : tie.Need-outer-again Inv-loop μ-loop Inv-outer μ-outer
+outer-again c = let inv = c .before .before .before .before .outer .inv in (omega arith, inv .1, skip-never _ _ _ _ _ _ _ (c .enum-told .given .1) (inv .2))
 
-bounds-at-requires : tie.Need-bounds-at-requires Inv-loop μ-loop Inv-hunt μ-hunt
+bounds-at-requires : tie.Need-bounds-at-requires Inv-loop μ-loop Inv-outer μ-outer
 bounds-at-requires c κs = omega (arith, c .before .before .before .before .before .before .before .before .before .before .pre .0)
 
-end-hour-requires : tie.Need-end-hour-requires Inv-loop μ-loop Inv-hunt μ-hunt
-end-hour-requires c κs = ends-soon _ _ _ _ _ (c .before .before .before .before .before .before .before .before .before .before .before .pre .0) (c .before .before .before .before .before .hunt-test .taken) (c .bounds-at .ensures)
+end-hour-requires : tie.Need-end-hour-requires Inv-loop μ-loop Inv-outer μ-outer
+end-hour-requires c κs = ends-soon _ _ _ _ _ (c .before .before .before .before .before .before .before .before .before .before .before .pre .0) (c .before .before .before .before .before .outer-test .taken) (c .bounds-at .ensures)
 
-clipped-requires : tie.Need-clipped-requires Inv-loop μ-loop Inv-hunt μ-hunt
+clipped-requires : tie.Need-clipped-requires Inv-loop μ-loop Inv-outer μ-outer
 clipped-requires c κs = omega (arith, c .before .before .before .before .before .before .before .before .before .before .before .before .pre .0)
 
-first-hour-requires : tie.Need-first-hour-requires Inv-loop μ-loop Inv-hunt μ-hunt
+first-hour-requires : tie.Need-first-hour-requires Inv-loop μ-loop Inv-outer μ-outer
 first-hour-requires c κs = search needs
 
-loop-holds : tie.Need-loop-holds Inv-loop μ-loop Inv-hunt μ-hunt
-loop-holds c = (c .before .before .before .before .before .before .before .before .before .hunt .inv .1, omega arith, skip-before _ _ _ _ _ _ _ _ _ (c .before .before .before .before .before .fit2 .given .1) (c .before .before .before .bounds-at .ensures) _ (c .first-hour .ensures))
+loop-holds : tie.Need-loop-holds Inv-loop μ-loop Inv-outer μ-outer
+loop-holds c = (c .before .before .before .before .before .before .before .before .before .outer .inv .1, omega arith, skip-before _ _ _ _ _ _ _ _ _ (c .before .before .before .before .before .fit2 .given .1) (c .before .before .before .bounds-at .ensures) _ (c .first-hour .ensures))
 
-mul-is-crowded : tie.Need-mul-is-crowded Inv-loop μ-loop Inv-hunt μ-hunt
-mul-is-crowded c = omega (arith, c .before .before .before .before .before .before .before .before .before .before .before .before .before .before .before .before .pre .0 .tasks, c .before .before .before .before .before .before .before .before .before .before .hunt-test .taken)
+mul-is-crowded : tie.Need-mul-is-crowded Inv-loop μ-loop Inv-outer μ-outer
+mul-is-crowded c = omega (arith, c .before .before .before .before .before .before .before .before .before .before .before .before .before .before .before .before .pre .0 .tasks, c .before .before .before .before .before .before .before .before .before .before .outer-test .taken)
 
 shared-slice-read-is-crowded :
-    tie.Need-shared-slice-read-is-crowded Inv-loop μ-loop Inv-hunt μ-hunt
-shared-slice-read-is-crowded c = c .before .before .before .before .before .before .before .before .before .before .before .hunt-test .taken
+    tie.Need-shared-slice-read-is-crowded Inv-loop μ-loop Inv-outer μ-outer
+shared-slice-read-is-crowded c = c .before .before .before .before .before .before .before .before .before .before .before .outer-test .taken
 
-cast-is-crowded : tie.Need-cast-is-crowded Inv-loop μ-loop Inv-hunt μ-hunt
+cast-is-crowded : tie.Need-cast-is-crowded Inv-loop μ-loop Inv-outer μ-outer
 cast-is-crowded c = search needs
 
-mul-is-crowded-2 : tie.Need-mul-is-crowded-2 Inv-loop μ-loop Inv-hunt μ-hunt
+mul-is-crowded-2 : tie.Need-mul-is-crowded-2 Inv-loop μ-loop Inv-outer μ-outer
 mul-is-crowded-2 c = search needs
 
 shared-slice-read-is-crowded-2 :
-    tie.Need-shared-slice-read-is-crowded-2 Inv-loop μ-loop Inv-hunt μ-hunt
+    tie.Need-shared-slice-read-is-crowded-2 Inv-loop μ-loop Inv-outer μ-outer
 shared-slice-read-is-crowded-2 c = omega (arith, c .before .before .before .before .before .clipped .ensures)
 
-is-crowded-requires : tie.Need-is-crowded-requires Inv-loop μ-loop Inv-hunt μ-hunt
-is-crowded-requires c κs = loaded-fits (c .before .before .before .before .before .before .before .before .before .before .before .before .before .before .before .before .before .before .args .loads .now) _ _ _ (c .before .before .before .before .before .before .before .before .before .before .before .before .before .hunt .i) (c .before .before .before .loop .t) (c .before .before .before .before .before .before .before .before .before .before .before .before .before .before .before .before .before .before .pre .0) (c .before .before .before .before .before .before .before .before .before .before .before .before .before .before .before .before .before .before .pre .1) (c .before .before .before .before .before .before .before .before .before .before .before .before .hunt-test .taken) (omega (arith, c .before .before .before .before .before .clipped .ensures))
+is-crowded-requires : tie.Need-is-crowded-requires Inv-loop μ-loop Inv-outer μ-outer
+is-crowded-requires c κs = loaded-fits (c .before .before .before .before .before .before .before .before .before .before .before .before .before .before .before .before .before .before .args .loads .now) _ _ _ (c .before .before .before .before .before .before .before .before .before .before .before .before .before .outer .i) (c .before .before .before .loop .t) (c .before .before .before .before .before .before .before .before .before .before .before .before .before .before .before .before .before .before .pre .0) (c .before .before .before .before .before .before .before .before .before .before .before .before .before .before .before .before .before .before .pre .1) (c .before .before .before .before .before .before .before .before .before .before .before .before .outer-test .taken) (omega (arith, c .before .before .before .before .before .clipped .ensures))
 
-cast-t32 : tie.Need-cast-t32 Inv-loop μ-loop Inv-hunt μ-hunt
-cast-t32 c = omega (arith, c .before .before .before .before .before .before .before .before .before .before .before .before .before .before .before .before .before .before .before .before .pre .0 .tasks, c .before .before .before .before .before .before .before .before .before .before .before .before .before .before .hunt-test .taken)
+cast-t32 : tie.Need-cast-t32 Inv-loop μ-loop Inv-outer μ-outer
+cast-t32 c = omega (arith, c .before .before .before .before .before .before .before .before .before .before .before .before .before .before .before .before .before .before .before .before .pre .0 .tasks, c .before .before .before .before .before .before .before .before .before .before .before .before .before .before .outer-test .taken)
 
-add-t : tie.Need-add-t Inv-loop μ-loop Inv-hunt μ-hunt
+add-t : tie.Need-add-t Inv-loop μ-loop Inv-outer μ-outer
 add-t c = search needs
 
-loop-less : tie.Need-loop-less Inv-loop μ-loop Inv-hunt μ-hunt
+loop-less : tie.Need-loop-less Inv-loop μ-loop Inv-outer μ-outer
 loop-less c = search needs
 
-loop-again : tie.Need-loop-again Inv-loop μ-loop Inv-hunt μ-hunt
-loop-again c = let inv = c .before .before .before .before .before .loop .inv in (inv .0, omega arith, first-next _ _ (inv .2) ∙ test-hour _ _ _ _ _ _ _ _ _ (c .before .before .before .before .before .before .before .before .before .before .before .fit2 .given .1) (c .before .before .before .before .before .before .before .before .before .bounds-at .ensures) _ _ _ _ _ _ (c .before .before .before .before .before .before .first-hour .ensures) (c .before .before .before .before .before .before .before .before .end-hour .ensures) (c .before .before .before .before .before .before .before .clipped .ensures) (inv .1) (c .before .before .before .before .loop-test .taken) (c .before .before .before .before .before .before .before .before .before .before .before .before .before .before .hunt-test .taken) (c .before .before .before .before .before .before .before .before .before .before .before .before .before .before .before .before .before .before .before .before .pre .1 (c .before .before .before .before .before .loop .t) (omega (arith, c .before .before .before .before .before .before .before .clipped .ensures))) (c .before .is-crowded .ensures) ∙ none-if _ _ (c .if1 .left))
+loop-again : tie.Need-loop-again Inv-loop μ-loop Inv-outer μ-outer
+loop-again c = let inv = c .before .before .before .before .before .loop .inv in (inv .0, omega arith, first-next _ _ (inv .2) ∙ test-hour _ _ _ _ _ _ _ _ _ (c .before .before .before .before .before .before .before .before .before .before .before .fit2 .given .1) (c .before .before .before .before .before .before .before .before .before .bounds-at .ensures) _ _ _ _ _ _ (c .before .before .before .before .before .before .first-hour .ensures) (c .before .before .before .before .before .before .before .before .end-hour .ensures) (c .before .before .before .before .before .before .before .clipped .ensures) (inv .1) (c .before .before .before .before .loop-test .taken) (c .before .before .before .before .before .before .before .before .before .before .before .before .before .before .outer-test .taken) (c .before .before .before .before .before .before .before .before .before .before .before .before .before .before .before .before .before .before .before .before .pre .1 (c .before .before .before .before .before .loop .t) (omega (arith, c .before .before .before .before .before .before .before .clipped .ensures))) (c .before .is-crowded .ensures) ∙ none-if _ _ (c .if1 .left))
 
-add-i-2 : tie.Need-add-i-2 Inv-loop μ-loop Inv-hunt μ-hunt
-add-i-2 c = omega (arith, c .before .before .before .before .before .before .before .before .before .before .before .before .before .before .before .before .pre .0 .tasks, c .before .before .before .before .before .before .before .before .before .before .hunt-test .taken)
+add-i-2 : tie.Need-add-i-2 Inv-loop μ-loop Inv-outer μ-outer
+add-i-2 c = omega (arith, c .before .before .before .before .before .before .before .before .before .before .before .before .before .before .before .before .pre .0 .tasks, c .before .before .before .before .before .before .before .before .before .before .outer-test .taken)
 
-hunt-less-2 : tie.Need-hunt-less-2 Inv-loop μ-loop Inv-hunt μ-hunt
-hunt-less-2 c = search needs
+outer-less-2 : tie.Need-outer-less-2 Inv-loop μ-loop Inv-outer μ-outer
+outer-less-2 c = search needs
 
-hunt-again-2 : tie.Need-hunt-again-2 Inv-loop μ-loop Inv-hunt μ-hunt
-hunt-again-2 c = let inv = c .before .loop .inv in (omega arith, inv .0, skip-after _ _ _ _ _ _ _ _ _ (c .before .before .before .before .before .before .before .fit2 .given .1) (c .before .before .before .before .before .bounds-at .ensures) _ _ _ (c .before .before .before .before .end-hour .ensures) (c .before .before .before .clipped .ensures) (c .loop-test .left) (inv .2) (c .before .before .before .before .before .before .before .before .before .before .before .hunt .inv .2))
+outer-again-2 : tie.Need-outer-again-2 Inv-loop μ-loop Inv-outer μ-outer
+outer-again-2 c = let inv = c .before .loop .inv in (omega arith, inv .0, skip-after _ _ _ _ _ _ _ _ _ (c .before .before .before .before .before .before .before .fit2 .given .1) (c .before .before .before .before .before .bounds-at .ensures) _ _ _ (c .before .before .before .before .end-hour .ensures) (c .before .before .before .clipped .ensures) (c .loop-test .left) (inv .2) (c .before .before .before .before .before .before .before .before .before .before .before .outer .inv .2))
 
-returns : tie.Need-returns Inv-loop μ-loop Inv-hunt μ-hunt
+returns : tie.Need-returns Inv-loop μ-loop Inv-outer μ-outer
 unfolding firstCrowded
-returns c = ap foundStep (c .before .hunt .inv .1) ∙ sym (first-end _ _ _ (c .before .hunt .inv .0) (c .hunt-test .left) (c .before .hunt .inv .2))
+returns c = ap foundStep (c .before .outer .inv .1) ∙ sym (first-end _ _ _ (c .before .outer .inv .0) (c .outer-test .left) (c .before .outer .inv .2))
 
-returns-2 : tie.Need-returns-2 Inv-loop μ-loop Inv-hunt μ-hunt
+returns-2 : tie.Need-returns-2 Inv-loop μ-loop Inv-outer μ-outer
 returns-2 c =
     let inv = c .before .before .before .before .before .loop .inv in
-    found-at _ _ _ _ _ _ _ _ _ (c .before .before .before .before .before .before .before .before .before .before .before .before .before .before .before .before .letter .ensures) (c .before .before .before .before .before .before .before .before .before .before .before .before .before .before .hunt-test .taken) (omega (arith, c .before .before .before .before .before .before .before .clipped .ensures)) (c .before .before .before .before .before .before .before .before .before .before .before .before .before .before .before .hunt .inv .2) (inv .2) (test-hour _ _ _ _ _ _ _ _ _ (c .before .before .before .before .before .before .before .before .before .before .before .fit2 .given .1) (c .before .before .before .before .before .before .before .before .before .bounds-at .ensures) _ _ _ _ _ _ (c .before .before .before .before .before .before .first-hour .ensures) (c .before .before .before .before .before .before .before .before .end-hour .ensures) (c .before .before .before .before .before .before .before .clipped .ensures) (inv .1) (c .before .before .before .before .loop-test .taken) (c .before .before .before .before .before .before .before .before .before .before .before .before .before .before .hunt-test .taken) (c .before .before .before .before .before .before .before .before .before .before .before .before .before .before .before .before .before .before .before .before .pre .1 (c .before .before .before .before .before .loop .t) (omega (arith, c .before .before .before .before .before .before .before .clipped .ensures))) (c .before .is-crowded .ensures) ∙ some-if _ _ (c .if1 .taken))
+    found-at _ _ _ _ _ _ _ _ _ (c .before .before .before .before .before .before .before .before .before .before .before .before .before .before .before .before .letter .ensures) (c .before .before .before .before .before .before .before .before .before .before .before .before .before .before .outer-test .taken) (omega (arith, c .before .before .before .before .before .before .before .clipped .ensures)) (c .before .before .before .before .before .before .before .before .before .before .before .before .before .before .before .outer .inv .2) (inv .2) (test-hour _ _ _ _ _ _ _ _ _ (c .before .before .before .before .before .before .before .before .before .before .before .fit2 .given .1) (c .before .before .before .before .before .before .before .before .before .bounds-at .ensures) _ _ _ _ _ _ (c .before .before .before .before .before .before .first-hour .ensures) (c .before .before .before .before .before .before .before .before .end-hour .ensures) (c .before .before .before .before .before .before .before .clipped .ensures) (inv .1) (c .before .before .before .before .loop-test .taken) (c .before .before .before .before .before .before .before .before .before .before .before .before .before .before .outer-test .taken) (c .before .before .before .before .before .before .before .before .before .before .before .before .before .before .before .before .before .before .before .before .pre .1 (c .before .before .before .before .before .loop .t) (omega (arith, c .before .before .before .before .before .before .before .clipped .ensures))) (c .before .is-crowded .ensures) ∙ some-if _ _ (c .if1 .taken))
 
 pub first-crowded-spec : {M : Type 1} → statement M
 first-crowded-spec =
@@ -132,17 +132,17 @@ first-crowded-spec =
     (tie.spec
     Inv-loop
     μ-loop
-    Inv-hunt
-    μ-hunt
+    Inv-outer
+    μ-outer
     letter-requires
-    hunt-holds
+    outer-holds
     mul-fit
     array-copy-out-fit
     enum-known-fit
     enum-told
     add-i
-    hunt-less
-    hunt-again
+    outer-less
+    outer-again
     bounds-at-requires
     end-hour-requires
     clipped-requires
@@ -159,7 +159,7 @@ first-crowded-spec =
     loop-less
     loop-again
     add-i-2
-    hunt-less-2
-    hunt-again-2
+    outer-less-2
+    outer-again-2
     returns
     returns-2)

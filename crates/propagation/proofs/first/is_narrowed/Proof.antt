@@ -1,7 +1,7 @@
 use mathlib.Core.Path.{sym, ap, _∙_}
 use mathlib.Core.Bool.{not}
 use borrow.Author.Needs.{needs}
-use Rattle.propagation.proofs.Hunting.{never-narrowed, narrowed}
+use Rattle.propagation.proofs.Findings.{never-narrowed, narrowed}
 use Rattle.propagation.proofs.first.is_narrowed.Statement.{statement}
 use Rattle.propagation.proofs.first.is_narrowed.Tie as tie
 

@@ -1,4 +1,4 @@
--- The words of the hunt for the first admitted step. Only contracts of private functions cite this; 01 has no such terms.
+-- The words of the search for the first admitted step. Only contracts of private functions cite this; 01 has no such terms.
 use mathlib.Core.Bool.{Bool, true, false}
 use mathlib.Core.Option.{Option}
 use mathlib.Core.Path.{_≡_}

@@ -1,4 +1,4 @@
--- Laws of the hunt for the first admitted step: where a step of each kind is admitted, and what the hunt finds once it has passed over the
+-- Laws of the search for the first admitted step: where a step of each kind is admitted, and what the search finds once it has passed over the
 -- tasks and the hours in which none is. Assumes nothing.
 use mathlib.Core.Path.{_≡_, refl, sym, ap, ap₂, _∙_}
 use mathlib.Core.Bool.{Bool, true, false, not}
@@ -25,7 +25,7 @@ use Rattle.propagation.specs.declared.Judged.the-variants.{Unknown, NotA
 use Rattle.propagation.specs.Steps.{step, letterC, letterO, Kind, kindC, kindO, kindL, kindU, kindOf, isStep, onFit, sameBounds}
 use Rattle.propagation.specs.Kept.{loadOf, crowded, onJudged, calendarBy, lowerBy, upperBy, judgeKindBy, judgeBy, admittedBy, nextBy}
 use Rattle.propagation.specs.Ready.{Ready}
-use Rattle.propagation.specs.Hunt.{admits, letterOf, firstHour, endHour, Loaded, firstCalendar, firstOverload, firstCrowded}
+use Rattle.propagation.specs.Finding.{admits, letterOf, firstHour, endHour, Loaded, firstCalendar, firstOverload, firstCrowded}
 
 -- ---- the first of several
 
@@ -42,13 +42,13 @@ first-rest f n m e h = first-all-none f m (λ i l. go i l (ltb i n) refl)
     go i l true q = first-none f n e i (ltb-true _ _ q)
     go i l false q = h i (ltb-false _ _ q) l
 
--- one hunt after another: a hit of the first ends them, and where it finds nothing the rest decides
+-- one search after another: a hit of the first ends them, and where it finds nothing the rest decides
 module _ {A : Type 0} (x y : Option A) {r : Option A} (e : r ≡ x) where
-  pub hunt-ends : {a : A} → r ≡ some a → r ≡ (x orElse y)
-  hunt-ends {a} q = q ∙ sym (else-some x y a (sym e ∙ q))
+  pub outer-ends : {a : A} → r ≡ some a → r ≡ (x orElse y)
+  outer-ends {a} q = q ∙ sym (else-some x y a (sym e ∙ q))
 
-  pub hunt-goes-on : {s : Option A} → r ≡ none → s ≡ y → s ≡ (x orElse y)
-  hunt-goes-on q k = k ∙ sym (else-none x y (sym e ∙ q))
+  pub outer-goes-on : {s : Option A} → r ≡ none → s ≡ y → s ≡ (x orElse y)
+  outer-goes-on q k = k ∙ sym (else-none x y (sym e ∙ q))
 
 -- ---- what is admitted
 
@@ -214,7 +214,7 @@ module _ (hours capacity : ℕ) (heights boxes : List ℕ) (fits : List Fit) whe
       test-hour from end clip t load r p q s k l m g h =
           crowded-is i t w b e f lower m (omega arith) (omega arith) (omega arith) ∙ rw (h, g)
 
-    -- the hunt is left at the first hit
+    -- the search is left at the first hit
     pub found-at : (kind i t : ℕ) → kind ≡ letterOf lower → i < length heights → t < hours → firstOf ofTask i ≡ none → firstOf (atHour i) t ≡ none
         → atHour i t ≡ some (step (letterOf lower) i t) → some (step kind i t) ≡ firstCrowded hours capacity heights boxes fits lower
     unfolding firstCrowded
@@ -244,7 +244,7 @@ pub ends-soon : (hours : ℕ) (heights boxes : List ℕ) (i : ℕ) (b : Bounds) 
     → b .latest .0 + b .shortest .0 < 65536
 ends-soon hours heights boxes i b r l e = rw e (omega (arith, r .hours, r .latest i l, r .shortest i l))
 
--- ---- the first of all, from the hunts for each kind
+-- ---- the first of all, from the searches for each kind
 
 module _ (hours capacity : ℕ) (heights boxes : List ℕ) (fits : List Fit) where
   next-is : nextBy hours capacity heights boxes fits
@@ -257,7 +257,7 @@ module _ (hours capacity : ℕ) (heights boxes : List ℕ) (fits : List Fit) whe
 
   module _ {r : Option Step} (e : r ≡ firstCalendar 0 0 heights boxes fits) where
     pub next-calendar : {x : Step} → r ≡ some x → r ≡ nextBy hours capacity heights boxes fits
-    next-calendar q = hunt-ends _ _ (e ∙ calendar-plain hours capacity heights boxes fits) q ∙ sym next-is
+    next-calendar q = outer-ends _ _ (e ∙ calendar-plain hours capacity heights boxes fits) q ∙ sym next-is
 
     -- the loads number as many as the hours
     pub next-by-load : {s : Option Step} (count : ℕ) → hours ≡ count → r ≡ none
@@ -267,4 +267,4 @@ module _ (hours capacity : ℕ) (heights boxes : List ℕ) (fits : List Fit) whe
         orElse firstCrowded count capacity heights boxes fits false)
         → s ≡ nextBy hours capacity heights boxes fits
     next-by-load count n q k =
-        hunt-goes-on _ _ (e ∙ calendar-plain hours capacity heights boxes fits) q (rw (← n) at k) ∙ sym next-is
+        outer-goes-on _ _ (e ∙ calendar-plain hours capacity heights boxes fits) q (rw (← n) at k) ∙ sym next-is
