@@ -1,16 +1,18 @@
 -- Laws of an answer to which further triples are added. Assumes nothing.
-use mathlib.Core.Path.{_≡_, refl, sym, ap}
+use mathlib.Core.Path.{_≡_, refl, sym, ap, _∙_}
 use mathlib.Core.List.{List, [], _∷_, _++_}
 use Prim.Native.Nat.{ℕ, _+_, _≤_}
-use Rattle.calendar.specs.Triples.{over}
+use native.Mathlib.Omega.{arith}
+use Rattle.units.specs.Limits.{hour, duration}
+use Rattle.calendar.specs.Triples.{startOf, elapsedOf, overtimeOf, endOf, over}
 use Rattle.calendar.specs.Rule.{least, greatest, alone, spread, fitOf}
-use Rattle.calendar.specs.Scan.{after}
+use Rattle.calendar.specs.Scan.{join, joined, after}
 use Rattle.calendar.specs.declared.Triple.{Triple}
 use Rattle.calendar.specs.declared.Window.{Window}
 use Rattle.calendar.specs.declared.Fit.{Fit}
 use Rattle.calendar.specs.declared.Fit.the-variants.{Never, Within}
 use Rattle.calendar.proofs.Collected.{over-step}
-use Rattle.calendar.proofs.Extremes.{least-append, greatest-append}
+use Rattle.calendar.proofs.Extremes.{least-append, greatest-append, least-join, greatest-join}
 
 spread-append : (w : Window) (ts us : List Triple) → spread w (ts ++ us) ≡ spread (spread w ts) us
 unfolding spread
@@ -34,3 +36,27 @@ after-step fit lower upper f h = rw (over-step lower upper f h) (after-append fi
 
 pub unmoved : (fit : Fit) {ts : List Triple} → ts ≡ [] → fit ≡ after fit ts
 unmoved fit h = rw h (sym (after-none fit))
+
+-- an answer with the triples of a list whose window is known
+spread-join : (w : Window) (t : Triple) (ts : List Triple) → spread w (t ∷ ts) ≡ join w (spread (alone t) ts)
+unfolding spread least greatest
+spread-join w t ts =
+    λ i. record {
+      bounds =
+          record {
+            earliest = hour (least-join startOf (w .bounds .earliest .0) (startOf t) ts i);
+            latest = hour (greatest-join startOf (w .bounds .latest .0) (startOf t) ts i);
+            shortest = duration (least-join elapsedOf (w .bounds .shortest .0) (elapsedOf t) ts i);
+            longest = duration (greatest-join elapsedOf (w .bounds .longest .0) (elapsedOf t) ts i);
+            fewest = duration (least-join overtimeOf (w .bounds .fewest .0) (overtimeOf t) ts i);
+            most = duration (greatest-join overtimeOf (w .bounds .most .0) (overtimeOf t) ts i);
+          };
+      ect = hour (least-join endOf (w .ect .0) (endOf t) ts i);
+      lct = hour (greatest-join endOf (w .lct .0) (endOf t) ts i);
+    }
+
+pub after-joined : (fit : Fit) (ts : List Triple) (v : Window) → fitOf ts ≡ Within v → after fit ts ≡ joined fit v
+unfolding after fitOf
+after-joined Never ts v e = e
+after-joined (Within w) [] v e = absurd (let z : _≡_ {A = ℕ} 0 1 = cc in omega arith)
+after-joined (Within w) (t ∷ ts) v e = let q : spread (alone t) ts ≡ v = cc in ap Within (spread-join w t ts ∙ ap (join w) q)

@@ -3,6 +3,7 @@ use mathlib.Core.Path.{_≡_, refl, ap}
 use mathlib.Core.Bool.{Bool, true, false}
 use mathlib.Core.List.{List}
 use Prim.Native.Nat.{ℕ, zero, suc, _+_, _≤_, _<_}
+use native.Mathlib.Nat.{add-zero}
 use native.Mathlib.Numerals.{add-one}
 use native.Mathlib.Decide.{le-ind}
 use native.Mathlib.Omega.{arith}
@@ -41,6 +42,17 @@ module _ (kind : ℕ) (cal : List ℕ) (s : ℕ) where
   pub hours-mono : (m n : ℕ) → m ≤ n → hoursOf kind cal s m ≤ hoursOf kind cal s n
   unfolding hoursOf countWhere sumTo
   hours-mono m = le-ind (λ n. hoursOf kind cal s m ≤ hoursOf kind cal s n) (omega arith) (λ n h ih. omega arith)
+
+-- the first hour, and the hours after it
+pub hours-first : (kind : ℕ) (cal : List ℕ) (s n : ℕ) → hoursOf kind cal s (n + 1) ≡ oneIf (isKind kind cal s) + hoursOf kind cal (s + 1) n
+hours-first kind cal s zero =
+    let first = ap (λ (t : ℕ). oneIf (isKind kind cal t)) (add-zero s) in
+    omega (arith, hours-more kind cal s 0, hours-none kind cal s, hours-none kind cal (s + 1), first)
+hours-first kind cal s (suc n) =
+    let q : s + (n + 1) ≡ s + 1 + n = omega arith in
+    let last = ap (λ (t : ℕ). oneIf (isKind kind cal t)) q in
+    let m : suc n ≡ n + 1 = omega arith in
+    rw m (omega (arith, hours-more kind cal s (n + 1), hours-more kind cal (s + 1) n, hours-first kind cal s n, last))
 
 -- counts that are those of [s, s + k)
 module _ (cal : List ℕ) (s k : ℕ) (n : Counts) (is : n ≡ countsOf cal s k) where

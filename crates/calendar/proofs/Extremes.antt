@@ -30,6 +30,18 @@ module _ {A : Type 0} (key : A → ℕ) where
   greatest-append m [] ys = refl
   greatest-append m (x ∷ xs) ys = greatest-append (max m (key x)) xs ys
 
+  -- ---- a number before the list
+
+  pub least-join : (m k : ℕ) (xs : List A) → least key (min m k) xs ≡ min m (least key k xs)
+  unfolding least
+  least-join m k [] = refl
+  least-join m k (x ∷ xs) = let q : min (min m k) (key x) ≡ min m (min k (key x)) = omega arith in rw q (least-join m (min k (key x)) xs)
+
+  pub greatest-join : (m k : ℕ) (xs : List A) → greatest key (max m k) xs ≡ max m (greatest key k xs)
+  unfolding greatest
+  greatest-join m k [] = refl
+  greatest-join m k (x ∷ xs) = let q : max (max m k) (key x) ≡ max m (max k (key x)) = omega arith in rw q (greatest-join m (max k (key x)) xs)
+
   -- ---- bounds every member
 
   least-first : (m : ℕ) (xs : List A) → least key m xs ≤ m

@@ -87,22 +87,55 @@ kept true t u h = (refl, List·Memᴰ·eq-of-singleton h)
 kept false t u h = absurd (List·Memᴰ·not-nil h)
 
 module _ (cal : List ℕ) (p : ℕ) (b : Bounds) where
-  -- the list has exactly the valid triples of the box
-  pub has-valid : (t : Triple) → InBounds b t → validTriple cal p t ≡ true → List·Memᴰ t (validTriples cal p b)
-  unfolding validTriples starting lasting
-  has-valid t h v =
-      into-over t _ _ _ (startOf t) (h .earliest) (h .latest)
-      (into-over t _ _ _ (elapsedOf t) (h .shortest) (h .longest)
-      (into-over t _ _ _ (overtimeOf t) (h .fewest) (h .most) (rw v (List·Memᴰ·head refl))))
+  -- the valid triples of the box that start at s
+  pub record Starting (s : ℕ) (t : Triple) : Type 0 where
+    pub start : startOf t ≡ s
+    pub shortest : b .shortest .0 ≤ elapsedOf t
+    pub longest : elapsedOf t ≤ b .longest .0
+    pub fewest : b .fewest .0 ≤ overtimeOf t
+    pub most : overtimeOf t ≤ b .most .0
+    pub is-valid : validTriple cal p t ≡ true
 
-  pub only-valid : (t : Triple) → List·Memᴰ t (validTriples cal p b) → InBounds b t × (validTriple cal p t ≡ true)
-  unfolding validTriples starting lasting
-  only-valid t m =
-      let (s, s1, s2, ms) = from-over t _ _ _ m in
-      let (e, e1, e2, me) = from-over t _ _ _ ms in
+  pub has-starting : (s : ℕ) (t : Triple) → Starting s t → List·Memᴰ t (starting cal p b s)
+  unfolding starting lasting
+  has-starting s t h =
+      into-over t _ _ _ (elapsedOf t) (h .shortest) (h .longest)
+      (into-over t _ _ _ (overtimeOf t) (h .fewest) (h .most) (rw (← h .start, h .is-valid) (List·Memᴰ·head refl)))
+
+  pub only-starting : (s : ℕ) (t : Triple) → List·Memᴰ t (starting cal p b s) → Starting s t
+  unfolding starting lasting
+  only-starting s t m =
+      let (e, e1, e2, me) = from-over t _ _ _ m in
       let (o, o1, o2, mo) = from-over t _ _ _ me in
       let (v, q) = kept (valid cal p s e o) t (triple s e o) mo in
-      rw q (record { earliest = s1; latest = s2; shortest = e1; longest = e2; fewest = o1; most = o2 }, v)
+      rw q (record { start = refl; shortest = e1; longest = e2; fewest = o1; most = o2; is-valid = v })
+
+  -- the list has exactly the valid triples of the box
+  pub has-valid : (t : Triple) → InBounds b t → validTriple cal p t ≡ true → List·Memᴰ t (validTriples cal p b)
+  unfolding validTriples
+  has-valid t h v =
+      into-over t _ _ _ (startOf t) (h .earliest) (h .latest)
+      (has-starting (startOf t) t
+      (record { start = refl; shortest = h .shortest; longest = h .longest; fewest = h .fewest; most = h .most; is-valid = v }))
+
+  pub only-valid : (t : Triple) → List·Memᴰ t (validTriples cal p b) → InBounds b t × (validTriple cal p t ≡ true)
+  unfolding validTriples
+  only-valid t m =
+      let (s, l, u, ms) = from-over t _ _ _ m in
+      let h = only-starting s t ms in
+      (record {
+        earliest = omega (arith, h .start);
+        latest = omega (arith, h .start);
+        shortest = h .shortest;
+        longest = h .longest;
+        fewest = h .fewest;
+        most = h .most;
+      }, h .is-valid)
+
+-- a list without members
+pub no-members : (ts : List Triple) → ((t : Triple) → List·Memᴰ t ts → ⊥) → ts ≡ []
+no-members [] h = refl
+no-members (t ∷ ts) h = absurd (h t (List·Memᴰ·head refl))
 
 -- ---- the window of a list of triples
 

@@ -18,6 +18,7 @@ use Rattle.plan.specs.Faults.{oneForEachTask, planFault, firstFault}
 use Rattle.plan.proofs.Refusing.{unless-true, unless-false}
 use Rattle.plan.proofs.Passed.{passed}
 use Rattle.calendar.specs.Rule.{ruleOf}
+use Rattle.calendar.specs.Scan.{AllSymbols}
 use Rattle.calendar.specs.Entry.{oneTask, oneBox, calendarRule}
 
 module _ (cal : List ℕ) (p : ℕ) (b : Bounds) where
@@ -50,10 +51,10 @@ module _ (cal : List ℕ) (p : ℕ) (b : Bounds) where
       (else-none _ _ (unless-true _ 31 0 one-each) ∙ else-some _ _ _ (unless-false _ 2 0 e)))
 
   -- what the core asks
-  pub ready : firstFault (oneTask cal p) (oneBox b) ≡ none → (1 ≤ b .shortest .0) × (b .latest .0 < length cal) × (length cal ≤ mostHours)
+  pub ready : firstFault (oneTask cal p) (oneBox b) ≡ none → (1 ≤ b .shortest .0) × (b .latest .0 < length cal) × (length cal ≤ mostHours) × AllSymbols cal
   unfolding firstFault oneTask oneBox boundsAt
   ready e =
       let faults = neither _ _ e in
       let P = passed (oneTask cal p) (oneBox b) one-each (faults .1) in
       let box = P .task 0 (unfold taskCount in (omega arith)) .box in
-      (box .shortest, box .latest, P .hours)
+      (box .shortest, box .latest, P .hours, P .symbols)

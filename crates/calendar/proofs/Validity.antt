@@ -6,9 +6,9 @@ use mathlib.Core.List.{List}
 use Prim.Native.Nat.{ℕ, _+_, _-_, _≤_, _<_}
 use lib.ListN.{length, getD}
 use lib.Dec.{leb}
-use borrow.Author.Tests.{lt-leb, le-leb, ne-eqb, eq-eqb, leb-true, eqb-true}
+use borrow.Author.Tests.{lt-leb, le-leb, ne-eqb, eq-eqb, leb-true, eqb-true, not-true}
 use Rattle.units.specs.Choice.{_and_}
-use Rattle.units.proofs.Choices.{and-left, and-right, not-left, not-right}
+use Rattle.units.proofs.Choices.{and-both, and-left, and-right, not-left, not-right}
 use Rattle.plan.specs.Plan.{regular, closed, overtime}
 use Rattle.calendar.specs.Valid.{isKind, hoursOf, overtimeEnds, valid}
 use Rattle.calendar.specs.Scan.{endsOf}
@@ -45,11 +45,15 @@ module _ (cal : List ℕ) (p s e o : ℕ) where
   by-ends h₁ h₂ h₃ h₄ h₅ h₆ =
       simp (le-leb _ _ h₁, le-leb _ _ h₂, ne-eqb _ _ h₃, ne-eqb _ _ h₄, eq-eqb _ _ h₅, le-leb _ _ h₆)
 
-  -- what validity says of the numbers
+  -- what validity says of the numbers and the hours
   pub record Valid : Type 0 where
     pub lasts : 1 ≤ e
     pub ends : s + e ≤ length cal
+    pub first-open : isKind closed cal s ≡ false
+    pub last-open : isKind closed cal (s + e - 1) ≡ false
     pub works : o + hoursOf regular cal s e ≡ p
+    pub in-overtime : o ≤ hoursOf overtime cal s e
+    pub ends-worked : overtimeEnds cal s e ≤ o
 
   pub valid-facts : valid cal p s e o ≡ true → Valid
   unfolding valid
@@ -58,8 +62,23 @@ module _ (cal : List ℕ) (p s e o : ℕ) where
       let r₂ = and-right _ _ r₁ in
       let r₃ = and-right _ _ r₂ in
       let r₄ = and-right _ _ r₃ in
+      let r₅ = and-right _ _ r₄ in
       record {
         lasts = leb-true _ _ (and-left _ _ v);
         ends = leb-true _ _ (and-left _ _ r₁);
+        first-open = not-true _ (and-left _ _ r₂);
+        last-open = not-true _ (and-left _ _ r₃);
         works = eqb-true _ _ (and-left _ _ r₄);
+        in-overtime = leb-true _ _ (and-left _ _ r₅);
+        ends-worked = leb-true _ _ (and-right _ _ r₅);
       }
+
+  pub facts-valid : Valid → valid cal p s e o ≡ true
+  unfolding valid
+  facts-valid v =
+      and-both _ _ (le-leb _ _ (v .lasts))
+      (and-both _ _ (le-leb _ _ (v .ends))
+      (and-both _ _ (ap not (v .first-open))
+      (and-both _ _ (ap not (v .last-open))
+      (and-both _ _ (eq-eqb _ _ (v .works))
+      (and-both _ _ (le-leb _ _ (v .in-overtime)) (le-leb _ _ (v .ends-worked)))))))

@@ -1,4 +1,7 @@
 // The calendar rule: the least and greatest start, elapsed time and overtime over the valid triples in a box.
+mod reach;
+mod widen;
+
 use plan::Refusal;
 use plan::Tested;
 use units::Bounds;
@@ -6,17 +9,15 @@ use units::Duration;
 use units::Hour;
 use units::MaybeDuration;
 ghost use mathlib.Core.Path.{_≡_};
-ghost use mathlib.Core.List.{[], _∷_};
-ghost use Prim.Native.Nat.{_+_, _-_, _≤_, _<_, min, max};
+ghost use Prim.Native.Nat.{_+_, _≤_, _<_};
 ghost use lib.ListN.{length};
 ghost use lib.Dec.{eqb};
 ghost use Rattle.units.specs.Limits.{mostHours};
 ghost use Rattle.units.specs.Sums.{oneIf};
-ghost use Rattle.plan.specs.Plan.{overtime};
-ghost use Rattle.calendar.specs.Triples.{endOf, validTriple, lasting, starting};
-ghost use Rattle.calendar.specs.Rule.{alone, spread, ruleOf};
+ghost use Rattle.calendar.specs.Triples.{endOf, validTriple, starting};
+ghost use Rattle.calendar.specs.Rule.{ruleOf};
 ghost use Rattle.calendar.specs.Entry.{calendarRule, ruleAnswer};
-ghost use Rattle.calendar.specs.Scan.{countsOf, counted, endsOf, after};
+ghost use Rattle.calendar.specs.Scan.{countsOf, counted, endsOf, AllSymbols, Reaches, after};
 
 // 01's (s, e, o): when a task starts, how long it lasts, and its overtime.
 pub struct Triple {
@@ -51,73 +52,18 @@ struct Counts {
     overtime: u16,
 }
 
-fn lesser(a: u16, b: u16) -> u16
-    ensures { λ r. ⌜ r ≡ min a b ⌝ }
-{
-    if a <= b { a } else { b }
+// So many hours from one start on, how many up to the last open one, and the counts.
+struct Stretch {
+    hours: u16,
+    last: u16,
+    counts: Counts,
 }
 
-fn greater(a: u16, b: u16) -> u16
-    ensures { λ r. ⌜ r ≡ max a b ⌝ }
+// 1 for an hour of the kind.
+fn one_if(symbol: u8, kind: u8) -> u16
+    ensures { λ r. ⌜ r ≡ oneIf (eqb symbol kind) ⌝ }
 {
-    if a <= b { b } else { a }
-}
-
-// The window of one triple.
-fn window_of(t: Triple) -> Window
-    requires { ⌜ endOf t ≤ mostHours ⌝ }
-    ensures { λ r. ⌜ r ≡ alone t ⌝ }
-{
-    let start = t.start;
-    let elapsed = t.elapsed;
-    let overtime = t.overtime;
-    let end = start.plus(elapsed);
-    Window {
-        bounds: Bounds {
-            earliest: start,
-            latest: start,
-            shortest: elapsed,
-            longest: elapsed,
-            fewest: overtime,
-            most: overtime,
-        },
-        ect: end,
-        lct: end,
-    }
-}
-
-// The window with one triple more.
-fn widened(w: Window, t: Triple) -> Window
-    requires { ⌜ endOf t ≤ mostHours ⌝ }
-    ensures { λ r. ⌜ r ≡ spread w (t ∷ []) ⌝ }
-{
-    let b = w.bounds;
-    let start = t.start;
-    let elapsed = t.elapsed;
-    let end = start.plus(elapsed);
-    Window {
-        bounds: Bounds {
-            earliest: Hour(lesser(b.earliest.0, start.0)),
-            latest: Hour(greater(b.latest.0, start.0)),
-            shortest: Duration(lesser(b.shortest.0, elapsed.0)),
-            longest: Duration(greater(b.longest.0, elapsed.0)),
-            fewest: Duration(lesser(b.fewest.0, t.overtime.0)),
-            most: Duration(greater(b.most.0, t.overtime.0)),
-        },
-        ect: Hour(lesser(w.ect.0, end.0)),
-        lct: Hour(greater(w.lct.0, end.0)),
-    }
-}
-
-// The answer with one triple more.
-fn with_triple(fit: Fit, t: Triple) -> Fit
-    requires { ⌜ endOf t ≤ mostHours ⌝ }
-    ensures { λ r. ⌜ r ≡ after fit (t ∷ []) ⌝ }
-{
-    let Fit::Within(w) = fit else {
-        return Fit::Within(window_of(t));
-    };
-    Fit::Within(widened(w, t))
+    if symbol == kind { 1 } else { 0 }
 }
 
 // The counts with one hour more.
@@ -125,16 +71,9 @@ fn with_hour(n: Counts, symbol: u8) -> Counts
     requires { ⌜ (n .regular < mostHours) × (n .overtime < mostHours) ⌝ }
     ensures { λ r. ⌜ r ≡ counted n symbol ⌝ }
 {
-    match symbol {
-        b'r' => Counts {
-            regular: n.regular + 1,
-            overtime: n.overtime,
-        },
-        b'o' => Counts {
-            regular: n.regular,
-            overtime: n.overtime + 1,
-        },
-        _ => n,
+    Counts {
+        regular: n.regular + one_if(symbol, b'r'),
+        overtime: n.overtime + one_if(symbol, b'o'),
     }
 }
 
@@ -155,21 +94,14 @@ fn count_hours(calendar: &[u8], start: Hour, hours: Duration) -> Counts
     n
 }
 
-// 1 for an overtime hour.
-fn one_if_overtime(symbol: u8) -> u16
-    ensures { λ r. ⌜ r ≡ oneIf (eqb symbol overtime) ⌝ }
-{
-    if symbol == b'o' { 1 } else { 0 }
-}
-
 // How many of the first and the last hour are overtime hours; where they are one hour, it counts once.
 fn overtime_ends(first: u8, last: u8, elapsed: u16) -> u16
     ensures { λ r. ⌜ r ≡ endsOf first last elapsed ⌝ }
 {
     if elapsed == 1 {
-        return one_if_overtime(first);
+        return one_if(first, b'o');
     }
-    one_if_overtime(first) + one_if_overtime(last)
+    one_if(first, b'o') + one_if(last, b'o')
 }
 
 // Whether a triple within the calendar is valid, from the counts of its hours.
@@ -221,86 +153,47 @@ pub fn is_valid(calendar: &[u8], work_time: Duration, t: Triple) -> bool
     is_valid_by(calendar, work_time, t, n)
 }
 
-// The answer with the valid triples in the box that start at s and last e hours: at most one, since p gives the overtime.
-fn with_length(
-    calendar: &[u8],
-    work_time: Duration,
-    b: Bounds,
-    s: Hour,
-    e: Duration,
-    n: Counts,
-    fit: Fit,
-) -> Fit
-    requires { ⌜ (1 ≤ e .0)
-        × (s .0 + e .0 ≤ length (now calendar))
-        × (length (now calendar) ≤ mostHours)
-        × (n ≡ countsOf (now calendar) (s .0) (e .0)) ⌝ }
-    ensures { λ r. ⌜ r ≡ after fit (lasting (now (calendar .entry)) («work_time» .0) b (s .0) (e .0)) ⌝ }
-{
-    if work_time.0 < n.regular {
-        return fit;
-    }
-    let o = work_time.0 - n.regular;
-    if o < b.fewest.0 {
-        return fit;
-    }
-    if b.most.0 < o {
-        return fit;
-    }
-    let t = Triple {
-        start: s,
-        elapsed: e,
-        overtime: Duration(o),
-    };
-    if is_valid_by(calendar, work_time, t, n) {
-        with_triple(fit, t)
-    } else {
-        fit
-    }
-}
-
-// The answer with the valid triples in the box that start at s. The counts grow with the length; once the regular hours exceed p, no longer
-// triple is valid.
-fn with_start(calendar: &[u8], work_time: Duration, b: Bounds, s: Hour, fit: Fit) -> Fit
+// The answer with the valid triples in the box that start at s. They end at the open hours from the shortest stretch to the longest.
+fn with_start(calendar: &[u8], work_time: Duration, b: Bounds, s: Hour, shortest: Stretch, longest: Stretch, fit: Fit) -> Fit
     requires { ⌜ (1 ≤ b .shortest .0)
         × (s .0 < length (now calendar))
-        × (length (now calendar) ≤ mostHours) ⌝ }
+        × (length (now calendar) ≤ mostHours)
+        × AllSymbols (now calendar)
+        × Reaches (now calendar) («work_time» .0) b (s .0) shortest longest ⌝ }
     ensures { λ r. ⌜ r ≡ after fit (starting (now (calendar .entry)) («work_time» .0) b (s .0)) ⌝ }
 {
-    let first = s.0 as usize;
-    let end = Hour(calendar.len() as u16);
-    let room = end.since(s);
-    let most = lesser(b.longest.0, room.0);
-    let mut e = b.shortest.0 - 1;
-    if most <= e {
+    if calendar[s.0 as usize] == b'c' {
         return fit;
     }
-    let mut n = count_hours(calendar, s, Duration(e));
-    let mut best = fit;
-    while e < most {
-        let at = first + (e as usize);
-        n = with_hour(n, calendar[at]);
-        if work_time.0 < n.regular {
-            break;
-        }
-        e += 1;
-        best = with_length(calendar, work_time, b, s, Duration(e), n, best);
+    if longest.last < shortest.hours {
+        return fit;
     }
-    best
+    if !reach::may_end(work_time, b, shortest) {
+        return fit;
+    }
+    widen::with_window(fit, widen::window_from(work_time, s, shortest, longest))
 }
 
-// The calendar rule for input that is tested.
+// The calendar rule for input that is tested. A later start ends no earlier, so both stretches only go forward.
 pub fn rule(calendar: &[u8], work_time: Duration, b: Bounds) -> Fit
     requires { ⌜ (1 ≤ b .shortest .0)
         × (b .latest .0 < length (now calendar))
-        × (length (now calendar) ≤ mostHours) ⌝ }
+        × (length (now calendar) ≤ mostHours)
+        × AllSymbols (now calendar) ⌝ }
     ensures { λ r. ⌜ r ≡ ruleOf (now (calendar .entry)) («work_time» .0) b ⌝ }
 {
     let last = b.latest.0;
     let mut s = b.earliest.0;
+    let mut shortest = reach::no_hours();
+    let mut longest = reach::no_hours();
     let mut best = Fit::Never;
     while s <= last {
-        best = with_start(calendar, work_time, b, Hour(s), best);
+        let start = Hour(s);
+        shortest = reach::lengthen(calendar, work_time, b, start, shortest, true);
+        longest = reach::lengthen(calendar, work_time, b, start, longest, false);
+        best = with_start(calendar, work_time, b, start, shortest, longest, best);
+        shortest = reach::without_first(calendar, start, shortest);
+        longest = reach::without_first(calendar, start, longest);
         s += 1;
     }
     best

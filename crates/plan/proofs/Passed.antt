@@ -13,7 +13,7 @@ use Rattle.units.proofs.Choices.{and-left, neither, first-none}
 use Rattle.units.proofs.Ranges.{Boxed, boxed, from-least, to-most}
 use Rattle.plan.specs.Plan.{Plan, taskCount, calendarCount, firstSymbol, calendarAt, calendarOf, workTimeOf, heightOf}
 use Rattle.plan.specs.Boxes.{boundsAt}
-use Rattle.plan.specs.Faults.{oneForEachTask, isCalendars, taskFault, planFault}
+use Rattle.plan.specs.Faults.{oneForEachTask, isCalendars, isSymbol, taskFault, planFault}
 use Rattle.plan.proofs.Refusing.{unless-none, sized}
 
 -- what it has of task i
@@ -28,6 +28,7 @@ pub record PassedTask (P : Plan) (boxes : List ℕ) (i : ℕ) : Type 0 where
 pub record Passed (P : Plan) (bs : List ℕ) : Type 0 where
   pub some-hours : 1 ≤ P .hours
   pub hours : P .hours ≤ mostHours
+  pub symbols : (k : ℕ) → k < length (P .calendars) → isSymbol (getD (P .calendars) k 0) ≡ true
   pub tasks : taskCount P ≤ mostTasks
   pub capacity : P .capacity ≤ mostCapacity
   pub work-times : length (P .workTimes) ≡ taskCount P
@@ -75,6 +76,7 @@ module _ (P : Plan) (boxes : List ℕ) where
       record {
         some-hours = from-least 1 mostHours _ long;
         hours = to-most 1 mostHours _ long;
+        symbols = λ k l. unless-none _ 4 k (first-none _ _ (after-4 .0) k l);
         tasks = leb-true _ _ (unless-none _ 5 0 (after-5 .0));
         capacity = leb-true _ _ (unless-none _ 10 0 (after-10 .0));
         work-times = size .work-times;

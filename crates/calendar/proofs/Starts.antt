@@ -1,0 +1,360 @@
+-- The valid triples from one start: they last from one length to another, and their window is known by those two. Assumes nothing.
+use mathlib.Core.Path.{_≡_, refl, sym, ap, _∙_}
+use mathlib.Core.Bool.{Bool, true, false, not}
+use mathlib.Core.List.{List, [], List·Memᴰ}
+use Prim.Native.Nat.{ℕ, zero, suc, _+_, _-_, _≤_, _<_, min}
+use native.Mathlib.Decide.{decLe}
+use native.Mathlib.Nat.{add-zero}
+use native.Mathlib.Omega.{arith}
+use lib.Dec.{eqb}
+use lib.ListN.{length, getD}
+use borrow.Author.Tests.{eqb-true, eq-eqb, ne-eqb, not-true, not-false}
+use Rattle.units.specs.Choice.{if_then_else_}
+use Rattle.units.specs.Limits.{mostHours}
+use Rattle.units.specs.Sums.{oneIf}
+use Rattle.units.specs.declared.Bounds.{Bounds}
+use Rattle.units.proofs.Choices.{if-true, if-false}
+use Rattle.plan.specs.Plan.{regular, closed, overtime}
+use Rattle.plan.specs.Faults.{isSymbol}
+use Rattle.calendar.specs.declared.Stretch.{Stretch}
+use Rattle.calendar.specs.declared.Triple.{Triple}
+use Rattle.calendar.specs.declared.Fit.the-variants.{Within}
+use Rattle.calendar.specs.Valid.{isKind, hoursOf, overtimeEnds}
+use Rattle.calendar.specs.Triples.{triple, elapsedOf, overtimeOf, endOf, starting}
+use Rattle.calendar.specs.Rule.{fitOf}
+use Rattle.calendar.specs.Scan.{empty, stopsAt, lengthened, AllSymbols, openLength, stretchOf, mayEnd, mayLast, Reaches, windowFrom}
+use Rattle.calendar.proofs.Counting.{hours-more, hours-none, hours-first, hours-mono, regulars}
+use Rattle.calendar.proofs.Validity.{Valid, valid-facts, facts-valid}
+use Rattle.calendar.proofs.Stretches.{true≢false, untrue, regular-le, overtime-le, open-le, open-regular, open-last, open-past, open-itself, last-is, counts-are, MayEnd, may-end, ends-may, MayLast, may-last, lasts-may, last-shorter, no-stretch, own-hours, own-stretch, long-least, long-inside, long-none, long-holds, end-next, last-next}
+use Rattle.calendar.proofs.Members.{Held, Tight, fit-is, Starting, has-starting, only-starting, no-members}
+
+-- ---- the hours at both ends
+
+-- an open hour is regular or overtime
+open-works : (n : ℕ) → isSymbol n ≡ true → eqb n closed ≡ false → oneIf (eqb n regular) + oneIf (eqb n overtime) ≡ 1
+unfolding isSymbol
+open-works n h c = go (eqb n regular) refl
+  where
+    go : (r : Bool) → eqb n regular ≡ r → oneIf (eqb n regular) + oneIf (eqb n overtime) ≡ 1
+    go true q = let m : n ≡ regular = eqb-true n regular q in rw m
+    go false q = let o : eqb n overtime ≡ true = sym (if-false _ _ _ c) ∙ sym (if-false _ _ _ q) ∙ h in rw (q, o)
+
+module _ (cal : List ℕ) (s : ℕ) (symbols : AllSymbols cal) where
+  hour-works : (t : ℕ) → t < length cal → isKind closed cal t ≡ false → oneIf (isKind regular cal t) + oneIf (isKind overtime cal t) ≡ 1
+  unfolding isKind
+  hour-works t l h = open-works (getD cal t 0) (symbols t l) h
+
+  -- the regular hours and the overtime hours at the ends are the regular hours between the ends, and the ends
+  ends-work : (e : ℕ) → 1 ≤ e → s + e ≤ length cal → isKind closed cal s ≡ false → isKind closed cal (s + e - 1) ≡ false
+      → overtimeEnds cal s e + hoursOf regular cal s e ≡ hoursOf regular cal (s + 1) (e - 2) + min e 2
+  unfolding overtimeEnds
+  ends-work e l u first last = go (decLe 2 e)
+    where
+      go : Dec (2 ≤ e) → oneIf (isKind overtime cal s) + (if eqb e 1 then 0 else oneIf (isKind overtime cal (s + e - 1))) + hoursOf regular cal s e
+          ≡ hoursOf regular cal (s + 1) (e - 2) + min e 2
+      go (no n) =
+          let q : e ≡ 1 = omega arith in
+          let m : e - 2 ≡ 0 = omega arith in
+          omega (
+            arith,
+            if-true (eqb e 1) 0 (oneIf (isKind overtime cal (s + e - 1))) (eq-eqb e 1 q),
+            ap (hoursOf regular cal s) q,
+            hours-first regular cal s 0,
+            hours-none regular cal (s + 1),
+            ap (hoursOf regular cal (s + 1)) m,
+            hour-works s (omega arith) first)
+      go (yes n) =
+          let q : e ≡ e - 2 + 1 + 1 = omega arith in
+          let t : s + e - 1 ≡ s + 1 + (e - 2) = omega arith in
+          omega (
+            arith,
+            if-false (eqb e 1) 0 (oneIf (isKind overtime cal (s + e - 1))) (ne-eqb e 1 (λ r. omega arith)),
+            ap (hoursOf regular cal s) q,
+            hours-first regular cal s (e - 2 + 1),
+            hours-more regular cal (s + 1) (e - 2),
+            ap (λ (x : ℕ). oneIf (isKind regular cal x)) t,
+            hour-works s (omega arith) first,
+            hour-works (s + e - 1) (omega arith) last)
+
+-- ---- validity and the two tests
+
+module _ (cal : List ℕ) (p : ℕ) (b : Bounds) (s : ℕ) (symbols : AllSymbols cal) where
+  valid-ends : (t : Triple) → Starting cal p b s t → Valid cal p s (elapsedOf t) (overtimeOf t) → MayEnd p b (stretchOf cal s (elapsedOf t))
+  valid-ends t h v =
+      record {
+        shortest = h .shortest;
+        works = omega (arith, v .works, v .in-overtime);
+        goes = open-itself cal s (elapsedOf t) (v .lasts) (v .last-open);
+        most = omega (arith, v .works, h .most);
+      }
+
+  valid-lasts : (t : Triple) → Starting cal p b s t → Valid cal p s (elapsedOf t) (overtimeOf t) → MayLast cal p b s (elapsedOf t)
+  valid-lasts t h v =
+      record {
+        longest = h .longest;
+        fewest = omega (arith, v .works, h .fewest);
+        worked = omega (
+          arith,
+          v .works,
+          v .ends-worked,
+          ends-work cal s symbols (elapsedOf t) (v .lasts) (v .ends) (v .first-open) (v .last-open));
+      }
+
+  tests-valid : (e : ℕ) → 1 ≤ e → s + e ≤ length cal → isKind closed cal s ≡ false → MayEnd p b (stretchOf cal s e) → MayLast cal p b s e
+      → Valid cal p s e (p - hoursOf regular cal s e)
+  tests-valid e l u first m n =
+      let last : isKind closed cal (s + e - 1) ≡ false = closed-at (m .goes) (open-last cal s e (omega (arith, m .goes))) in
+      record {
+        lasts = l;
+        ends = u;
+        first-open = first;
+        last-open = last;
+        works = omega (arith, n .fewest);
+        in-overtime = omega (arith, m .works);
+        ends-worked = omega (arith, n .worked, ends-work cal s symbols e l u first last);
+      }
+    where
+      closed-at : openLength cal s e ≡ e → isKind closed cal (s + openLength cal s e - 1) ≡ false → isKind closed cal (s + e - 1) ≡ false
+      closed-at q h = rw q at h
+
+-- ---- from the shortest to the longest
+
+module _ (cal : List ℕ) (p : ℕ) (b : Bounds) (s : ℕ) where
+  valid-start : (t : Triple) → Starting cal p b s t → Valid cal p s (elapsedOf t) (overtimeOf t)
+  valid-start t h = valid-facts cal p s (elapsedOf t) (overtimeOf t) (rw (h .start) at (h .is-valid))
+
+  -- none starts at a closed hour
+  pub none-closed : isKind closed cal s ≡ true → starting cal p b s ≡ []
+  none-closed c = no-members _ (λ t m. true≢false c (valid-start t (only-starting cal p b s t m) .first-open))
+
+  module _ (some : 1 ≤ b .shortest .0) (symbols : AllSymbols cal) (shortest longest : Stretch) (R : Reaches cal p b s shortest longest) where
+    -- each lasts from the one to the other
+    from-shortest : (t : Triple) → Starting cal p b s t → shortest .hours ≤ elapsedOf t
+    from-shortest t h = go (decLe (shortest .hours) (elapsedOf t))
+      where
+        go : Dec (shortest .hours ≤ elapsedOf t) → shortest .hours ≤ elapsedOf t
+        go (yes l) = l
+        go (no l) =
+            true≢false (ends-may _ _ _ (valid-ends cal p b s symbols t h (valid-start t h))) (R .none-before (elapsedOf t) (omega arith))
+
+    to-longest : (t : Triple) → Starting cal p b s t → elapsedOf t ≤ longest .last
+    to-longest t h =
+        let v = valid-start t h in
+        omega (arith, last-is cal s longest (R .is-longest), open-past cal s (elapsedOf t) (longest .hours) (v .lasts) (go v (decLe (elapsedOf t) (longest .hours))) (v .last-open))
+      where
+        go : Valid cal p s (elapsedOf t) (overtimeOf t) → Dec (elapsedOf t ≤ longest .hours) → elapsedOf t ≤ longest .hours
+        go v (yes l) = l
+        go v (no l) =
+            true≢false (lasts-may cal p b s (elapsedOf t) (valid-lasts cal p b s symbols t h v)) (R .none-after (elapsedOf t) (omega arith) (v .ends))
+
+    pub none-between : longest .last < shortest .hours → starting cal p b s ≡ []
+    none-between l = no-members _ (λ t m. let h = only-starting cal p b s t m in omega (arith, from-shortest t h, to-longest t h))
+
+    -- where the shortest is no end, the calendar ends with it, so that none lasts longer
+    pub none-ends : mayEnd p b shortest ≡ false → starting cal p b s ≡ []
+    none-ends n = no-members _ (λ t m. go t (only-starting cal p b s t m))
+      where
+        go : (t : Triple) → Starting cal p b s t → ⊥
+        go t h =
+            let v = valid-start t h in
+            let q : elapsedOf t ≡ shortest .hours = omega (arith, from-shortest t h, v .ends, R .at-the-end n) in
+            let ends = ends-may p b (stretchOf cal s (elapsedOf t)) (valid-ends cal p b s symbols t h v) in
+            true≢false (ap (mayEnd p b) (R .is-shortest ∙ ap (stretchOf cal s) (sym q)) ∙ ends) n
+
+    -- what the test of the shortest asks
+    pub end-asks : length cal ≤ mostHours → (shortest .counts .regular ≤ mostHours) × (shortest .counts .overtime ≤ mostHours)
+    end-asks l =
+        (omega (arith, regular-le cal s shortest (R .is-shortest), R .shortest-inside),
+        omega (arith, overtime-le cal s shortest (R .is-shortest), R .shortest-inside))
+
+    -- else both are valid, and the window is theirs
+    module _ (open-start : isKind closed cal s ≡ false) (ends : mayEnd p b shortest ≡ true) (between : shortest .hours ≤ longest .last) where
+      longest-in : longest .last ≤ longest .hours
+      longest-in = omega (arith, last-is cal s longest (R .is-longest), open-le cal s (longest .hours))
+
+      shortest-ends : MayEnd p b (stretchOf cal s (shortest .hours))
+      shortest-ends = may-end p b _ (ap (mayEnd p b) (sym (R .is-shortest)) ∙ ends)
+
+      some-hours : 1 ≤ shortest .hours
+      some-hours = omega (arith, shortest-ends .shortest)
+
+      longest-ends : MayEnd p b (stretchOf cal s (longest .last))
+      longest-ends =
+          record {
+            shortest = omega (arith, shortest-ends .shortest);
+            works =
+                omega (
+                  arith,
+                  shortest-ends .works,
+                  hours-mono regular cal s (shortest .hours) (longest .last) between,
+                  hours-mono overtime cal s (shortest .hours) (longest .last) between);
+            goes = open-itself cal s (longest .last) (omega (arith, some-hours)) (rw is-last (open-last cal s (longest .hours) (omega (arith, is-last, some-hours))));
+            most = omega (arith, shortest-ends .most, hours-mono regular cal s (shortest .hours) (longest .last) between);
+          }
+        where
+          is-last : longest .last ≡ openLength cal s (longest .hours)
+          is-last = last-is cal s longest (R .is-longest)
+
+      lasting-start : (e : ℕ) → 1 ≤ e → e ≤ longest .hours → MayEnd p b (stretchOf cal s e) → Starting cal p b s (triple s e (p - hoursOf regular cal s e))
+      lasting-start e l u m =
+          let n = may-last cal p b s e (R .lasts e l u) in
+          record {
+            start = refl;
+            shortest = m .shortest;
+            longest = n .longest;
+            fewest = omega (arith, n .fewest);
+            most = omega (arith, m .most);
+            is-valid = facts-valid cal p s e _ (tests-valid cal p b s symbols e l (omega (arith, R .longest-inside)) open-start m n);
+          }
+
+      shortest-start : Starting cal p b s (triple s (shortest .hours) (p - hoursOf regular cal s (shortest .hours)))
+      shortest-start = lasting-start (shortest .hours) some-hours (omega (arith, longest-in)) shortest-ends
+
+      longest-start : Starting cal p b s (triple s (longest .last) (p - hoursOf regular cal s (longest .last)))
+      longest-start = lasting-start (longest .last) (omega (arith, some-hours)) longest-in longest-ends
+
+      shortest-regular : shortest .counts .regular ≡ hoursOf regular cal s (shortest .hours)
+      shortest-regular = regulars cal s _ _ (counts-are cal s shortest (R .is-shortest))
+
+      longest-regular : longest .counts .regular ≡ hoursOf regular cal s (longest .last)
+      longest-regular =
+          regulars cal s _ _ (counts-are cal s longest (R .is-longest))
+          ∙ sym (open-regular cal s (longest .hours))
+          ∙ ap (hoursOf regular cal s) (sym (last-is cal s longest (R .is-longest)))
+
+      -- what the window's code asks
+      pub window-asks : length cal ≤ mostHours
+          → (s + shortest .hours ≤ mostHours) × (s + longest .last ≤ mostHours) × (shortest .counts .regular ≤ p) × (longest .counts .regular ≤ p)
+      window-asks l =
+          let short = may-last cal p b s (shortest .hours) (R .lasts _ some-hours (omega (arith, longest-in))) in
+          let long = may-last cal p b s (longest .last) (R .lasts _ (omega (arith, some-hours)) longest-in) in
+          (omega (arith, R .longest-inside, longest-in), omega (arith, R .longest-inside, longest-in), omega (arith, shortest-regular, short .fewest), omega (arith, longest-regular, long .fewest))
+
+      held : (t : Triple) → Starting cal p b s t → Held (windowFrom p s shortest longest) t
+      held t h =
+          let v = valid-start t h in
+          let low = from-shortest t h in
+          let high = to-longest t h in
+          record {
+            inside =
+                record {
+                  earliest = omega (arith, h .start);
+                  latest = omega (arith, h .start);
+                  shortest = low;
+                  longest = high;
+                  fewest = omega (arith, v .works, longest-regular, hours-mono regular cal s (elapsedOf t) (longest .last) high);
+                  most = omega (arith, v .works, shortest-regular, hours-mono regular cal s (shortest .hours) (elapsedOf t) low);
+                };
+            ect = omega (arith, h .start);
+            lct = omega (arith, h .start);
+          }
+
+      pub window-is : fitOf (starting cal p b s) ≡ Within (windowFrom p s shortest longest)
+      window-is =
+          let low = has-starting cal p b s _ shortest-start in
+          let high = has-starting cal p b s _ longest-start in
+          fit-is _ _ (λ t m. held t (only-starting cal p b s t m))
+          (record {
+            earliest = record { witness = _; member = low; value = refl };
+            latest = record { witness = _; member = low; value = refl };
+            shortest = record { witness = _; member = low; value = refl };
+            longest = record { witness = _; member = high; value = refl };
+            fewest = record { witness = _; member = high; value = ap (_-_ p) (sym longest-regular) };
+            most = record { witness = _; member = low; value = ap (_-_ p) (sym shortest-regular) };
+            ect = record { witness = _; member = low; value = refl };
+            lct = record { witness = _; member = high; value = refl };
+          })
+
+-- ---- from one start to the next
+
+module _ (cal : List ℕ) (p : ℕ) (b : Bounds) (s e : ℕ) where
+  at-stop-shortest : {x : Bool} → stopsAt cal p b s true e ≡ x → mayEnd p b (stretchOf cal s e) ≡ x
+  unfolding stopsAt
+  at-stop-shortest h = h
+
+  at-stop-longest : (x : Bool) → stopsAt cal p b s false e ≡ x → mayLast cal p b s (e + 1) ≡ not x
+  unfolding stopsAt
+  at-stop-longest true h = not-true _ h
+  at-stop-longest false h = not-false _ h
+
+-- what two stretches from s on hold before they are lengthened
+pub record Carried (cal : List ℕ) (p : ℕ) (b : Bounds) (s : ℕ) (shortest longest : Stretch) : Type 0 where
+  pub is-shortest : shortest ≡ stretchOf cal s (shortest .hours)
+  pub is-longest : longest ≡ stretchOf cal s (longest .hours)
+  pub shortest-inside : shortest .hours ≤ length cal - s
+  pub longest-inside : longest .hours ≤ length cal - s
+  pub none-before : (e : ℕ) → e < shortest .hours → mayEnd p b (stretchOf cal s e) ≡ false
+  pub lasts : (e : ℕ) → 1 ≤ e → e ≤ longest .hours → mayLast cal p b s e ≡ true
+
+module _ (cal : List ℕ) (p : ℕ) (b : Bounds) (s : ℕ) where
+  pub carried-first : (shortest longest : Stretch) → shortest ≡ empty → longest ≡ empty → Carried cal p b s shortest longest
+  carried-first shortest longest short long =
+      rw (short, long)
+      (record {
+        is-shortest = no-stretch cal s;
+        is-longest = no-stretch cal s;
+        shortest-inside = omega arith;
+        longest-inside = omega arith;
+        none-before = λ e l. absurd (omega arith);
+        lasts = λ e l u. absurd (omega arith);
+      })
+
+  -- lengthened, the one is the shortest end and the other the longest time
+  pub carried-on : s ≤ length cal → (shortest longest short long : Stretch) → Carried cal p b s shortest longest
+      → short ≡ stretchOf cal s (lengthened cal s (stopsAt cal p b s true) (shortest .hours))
+      → long ≡ stretchOf cal s (lengthened cal s (stopsAt cal p b s false) (longest .hours))
+      → Reaches cal p b s short long
+  carried-on start shortest longest short long c is-short is-long =
+      record {
+        is-shortest = own-stretch cal s _ short is-short;
+        is-longest = own-stretch cal s _ long is-long;
+        shortest-inside = omega (arith, short-hours, long-inside cal s (stopsAt cal p b s true) (shortest .hours) (omega (arith, c .shortest-inside)));
+        longest-inside = omega (arith, long-hours, long-inside cal s (stopsAt cal p b s false) (longest .hours) (omega (arith, c .longest-inside)));
+        none-before = λ e l. before e l (decLe (shortest .hours) e);
+        at-the-end = λ n. at-end n (decLe (length cal) (s + short .hours));
+        lasts = λ e l u. up-to e l u (decLe e (longest .hours));
+        none-after = past;
+      }
+    where
+      short-hours : short .hours ≡ lengthened cal s (stopsAt cal p b s true) (shortest .hours)
+      short-hours = own-hours cal s _ short is-short
+
+      long-hours : long .hours ≡ lengthened cal s (stopsAt cal p b s false) (longest .hours)
+      long-hours = own-hours cal s _ long is-long
+
+      before : (e : ℕ) → e < short .hours → Dec (shortest .hours ≤ e) → mayEnd p b (stretchOf cal s e) ≡ false
+      before e l (yes h) = at-stop-shortest cal p b s e (long-none cal s (stopsAt cal p b s true) (shortest .hours) e h (omega (arith, short-hours)))
+      before e l (no h) = c .none-before e (omega arith)
+
+      at-end : mayEnd p b short ≡ false → Dec (length cal ≤ s + short .hours) → length cal ≤ s + short .hours
+      at-end n (yes h) = h
+      at-end n (no h) =
+          let stop = long-holds cal s (stopsAt cal p b s true) (shortest .hours) (omega (arith, short-hours)) in
+          true≢false (ap (mayEnd p b) is-short ∙ at-stop-shortest cal p b s _ stop) n
+
+      up-to : (e : ℕ) → 1 ≤ e → e ≤ long .hours → Dec (e ≤ longest .hours) → mayLast cal p b s e ≡ true
+      up-to e l u (yes h) = c .lasts e l h
+      up-to e l u (no h) =
+          let q : e - 1 + 1 ≡ e = omega arith in
+          let none = long-none cal s (stopsAt cal p b s false) (longest .hours) (e - 1) (omega arith) (omega (arith, long-hours)) in
+          rw q at (at-stop-longest cal p b s (e - 1) false none)
+
+      past : (e : ℕ) → long .hours < e → s + e ≤ length cal → mayLast cal p b s e ≡ false
+      past e l u =
+          let stop = long-holds cal s (stopsAt cal p b s false) (longest .hours) (omega (arith, long-hours)) in
+          let next : mayLast cal p b s (long .hours + 1) ≡ false = rw (← long-hours) at (at-stop-longest cal p b s _ true stop) in
+          untrue _ _ (λ h. lasts-may cal p b s (long .hours + 1) (last-shorter cal p b s e (long .hours + 1) (omega arith) (may-last cal p b s e h))) next
+
+  -- and without their first hour they hold the same of the next start
+  pub carried-next : 1 ≤ b .shortest .0 → (shortest longest short long : Stretch) → Reaches cal p b s shortest longest
+      → short ≡ stretchOf cal (s + 1) (shortest .hours - 1) → long ≡ stretchOf cal (s + 1) (longest .hours - 1)
+      → Carried cal p b (s + 1) short long
+  carried-next some shortest longest short long R is-short is-long =
+      record {
+        is-shortest = own-stretch cal (s + 1) _ short is-short;
+        is-longest = own-stretch cal (s + 1) _ long is-long;
+        shortest-inside = omega (arith, own-hours cal (s + 1) _ short is-short, R .shortest-inside);
+        longest-inside = omega (arith, own-hours cal (s + 1) _ long is-long, R .longest-inside);
+        none-before = λ e l. end-next cal p b s e some (R .none-before (e + 1) (omega (arith, own-hours cal (s + 1) _ short is-short)));
+        lasts = λ e l u. last-next cal p b s e (R .lasts (e + 1) (omega arith) (omega (arith, own-hours cal (s + 1) _ long is-long)));
+      }

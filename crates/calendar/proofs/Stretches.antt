@@ -1,0 +1,408 @@
+-- Laws of stretches of hours from one start on: their last open hour, their first hour, and the tests of their ends. Assumes nothing.
+use mathlib.Core.Path.{_≡_, refl, sym, ap, _∙_}
+use mathlib.Core.Bool.{Bool, true, false, not}
+use mathlib.Core.List.{List}
+use Prim.Native.Nat.{ℕ, zero, suc, _+_, _-_, _≤_, _<_, min}
+use native.Mathlib.Decide.{decLe}
+use native.Mathlib.Numerals.{add-one}
+use native.Mathlib.Omega.{arith}
+use lib.ListN.{length, getD}
+use lib.Dec.{leb, eqb}
+use borrow.Author.Tests.{le-leb, lt-leb, leb-true, eqb-true, eq-eqb}
+use Rattle.units.specs.Choice.{_and_, if_then_else_}
+use Rattle.units.specs.Sums.{oneIf, countWhere, sumTo}
+use Rattle.units.specs.declared.Bounds.{Bounds}
+use Rattle.units.proofs.Choices.{and-both, and-left, and-right, not-left, not-right, if-true, if-false, if-case, if-all}
+use Rattle.plan.specs.Plan.{regular, closed, overtime}
+use Rattle.calendar.specs.declared.Counts.{Counts}
+use Rattle.calendar.specs.declared.Stretch.{Stretch}
+use Rattle.calendar.specs.Valid.{isKind, hoursOf}
+use Rattle.calendar.specs.Scan.{empty, countsOf, counted, uncounted, openLength, stretchOf, mayEnd, mayLast, stopsAt, firstFrom, lengthened}
+use Rattle.calendar.proofs.Counting.{hours-more, hours-none, hours-le, hours-mono, hours-first, regulars, overtimes, counts-more}
+
+-- ---- the last open hour
+
+pub true≢false : {C : Type 0} {x : Bool} → x ≡ true → x ≡ false → C
+true≢false {x = true} p q = absurd (let z : _≡_ {A = ℕ} 0 1 = cc in omega arith)
+true≢false {x = false} p q = absurd (let z : _≡_ {A = ℕ} 0 1 = cc in omega arith)
+
+-- a closed hour is no regular hour
+closed-rests : (cal : List ℕ) (t : ℕ) → isKind closed cal t ≡ true → isKind regular cal t ≡ false
+unfolding isKind
+closed-rests cal t h = let q : getD cal t 0 ≡ closed = eqb-true _ _ h in rw q
+
+module _ (cal : List ℕ) (s : ℕ) where
+  pub open-rests : (e : ℕ) → isKind closed cal (s + e) ≡ true → openLength cal s (e + 1) ≡ openLength cal s e
+  unfolding openLength
+  open-rests e h = rw add-one (if-true _ _ _ h)
+
+  pub open-goes : (e : ℕ) → isKind closed cal (s + e) ≡ false → openLength cal s (e + 1) ≡ e + 1
+  unfolding openLength
+  open-goes e h = rw add-one (if-false _ _ _ h)
+
+  pub open-none : openLength cal s 0 ≡ 0
+  unfolding openLength
+  open-none = refl
+
+  pub open-le : (e : ℕ) → openLength cal s e ≤ e
+  unfolding openLength
+  open-le zero = omega arith
+  open-le (suc e) = if-all (λ (k : ℕ). k ≤ suc e) (isKind closed cal (s + e)) _ _ (λ h. omega (arith, open-le e)) (λ h. omega arith)
+
+  -- the hours after it are closed, so none of them is regular
+  pub open-regular : (e : ℕ) → hoursOf regular cal s (openLength cal s e) ≡ hoursOf regular cal s e
+  unfolding openLength
+  open-regular zero = refl
+  open-regular (suc e) =
+      if-all (λ (k : ℕ). hoursOf regular cal s k ≡ hoursOf regular cal s (suc e)) (isKind closed cal (s + e)) _ _
+      (λ h. open-regular e ∙ sym (rest h)) (λ h. refl)
+    where
+      rest : isKind closed cal (s + e) ≡ true → hoursOf regular cal s (suc e) ≡ hoursOf regular cal s e
+      rest h =
+          let none = ap oneIf (closed-rests cal (s + e) h) in
+          let m : suc e ≡ e + 1 = omega arith in
+          rw m (omega (arith, hours-more regular cal s e, none))
+
+  pub open-last : (e : ℕ) → 1 ≤ openLength cal s e → isKind closed cal (s + openLength cal s e - 1) ≡ false
+  unfolding openLength
+  open-last zero = λ l. absurd (omega arith)
+  open-last (suc e) =
+      if-all (λ (k : ℕ). 1 ≤ k → isKind closed cal (s + k - 1) ≡ false) (isKind closed cal (s + e)) _ _
+      (λ h. open-last e) (λ h l. let q : s + suc e - 1 ≡ s + e = omega arith in rw q h)
+
+  -- no open hour is later
+  pub open-past : (k e : ℕ) → 1 ≤ k → k ≤ e → isKind closed cal (s + k - 1) ≡ false → k ≤ openLength cal s e
+  unfolding openLength
+  open-past k zero l u h = absurd (omega arith)
+  open-past k (suc e) l u h =
+      if-all (λ (m : ℕ). k ≤ m) (isKind closed cal (s + e)) _ _ (λ c. go c (λ v. open-past k e l v h) (decLe k e)) (λ c. u)
+    where
+      go : isKind closed cal (s + e) ≡ true → (k ≤ e → k ≤ openLength cal s e) → Dec (k ≤ e) → k ≤ openLength cal s e
+      go c below (yes v) = below v
+      go c below (no v) = let q : s + k - 1 ≡ s + e = omega arith in true≢false c (rw q at h)
+
+  pub open-itself : (e : ℕ) → 1 ≤ e → isKind closed cal (s + e - 1) ≡ false → openLength cal s e ≡ e
+  open-itself e l h = omega (arith, open-le e, open-past e e l (omega arith) h)
+
+-- without the first hour
+pub open-first : (cal : List ℕ) (s e : ℕ) → openLength cal (s + 1) e ≡ openLength cal s (e + 1) - 1
+open-first cal s zero = omega (arith, open-le cal s 1, open-none cal (s + 1))
+open-first cal s (suc e) = rw m (go (open-first cal s e) (isKind closed cal (s + 1 + e)) refl)
+  where
+    m : suc e ≡ e + 1
+    m = omega arith
+
+    same : s + 1 + e ≡ s + (e + 1)
+    same = omega arith
+
+    go : openLength cal (s + 1) e ≡ openLength cal s (e + 1) - 1 → (b : Bool) → isKind closed cal (s + 1 + e) ≡ b
+        → openLength cal (s + 1) (e + 1) ≡ openLength cal s (e + 1 + 1) - 1
+    go below true h = omega (arith, open-rests cal (s + 1) e h, open-rests cal s (e + 1) (rw same at h), below)
+    go below false h = omega (arith, open-goes cal (s + 1) e h, open-goes cal s (e + 1) (rw same at h))
+
+-- ---- one hour more, one hour less
+
+pub no-stretch : (cal : List ℕ) (s : ℕ) → empty ≡ stretchOf cal s 0
+unfolding openLength hoursOf countWhere sumTo
+no-stretch cal s = refl
+
+-- a stretch of n hours, by its own hours
+pub own-hours : (cal : List ℕ) (s n : ℕ) (a : Stretch) → a ≡ stretchOf cal s n → a .hours ≡ n
+own-hours cal s n a e = ap (λ (x : Stretch). x .hours) e
+
+pub own-stretch : (cal : List ℕ) (s n : ℕ) (a : Stretch) → a ≡ stretchOf cal s n → a ≡ stretchOf cal s (a .hours)
+own-stretch cal s n a e = e ∙ ap (stretchOf cal s) (sym (own-hours cal s n a e))
+
+-- a stretch that is that of e hours from s on
+module _ (cal : List ℕ) (s : ℕ) (a : Stretch) (is : a ≡ stretchOf cal s (a .hours)) where
+  pub last-is : a .last ≡ openLength cal s (a .hours)
+  last-is = ap (λ (x : Stretch). x .last) is
+
+  pub counts-are : a .counts ≡ countsOf cal s (a .hours)
+  counts-are = ap (λ (x : Stretch). x .counts) is
+
+  pub regular-le : a .counts .regular ≤ a .hours
+  regular-le = omega (arith, regulars cal s _ _ counts-are, hours-le regular cal s (a .hours))
+
+  pub overtime-le : a .counts .overtime ≤ a .hours
+  overtime-le = omega (arith, overtimes cal s _ _ counts-are, hours-le overtime cal s (a .hours))
+
+  -- with one hour more
+  next-last : (last : ℕ) → last ≡ (if eqb (getD cal (s + a .hours) 0) closed then a .last else a .hours + 1) → last ≡ openLength cal s (a .hours + 1)
+  unfolding isKind
+  next-last last q =
+      if-case (eqb (getD cal (s + a .hours) 0) closed) (a .last) (a .hours + 1) last (sym q)
+      (λ h e. sym e ∙ last-is ∙ sym (open-rests cal s (a .hours) h)) (λ h e. sym e ∙ sym (open-goes cal s (a .hours) h))
+
+  pub stretch-next : (last : ℕ) → last ≡ (if eqb (getD cal (s + a .hours) 0) closed then a .last else a .hours + 1)
+      → (r : Counts) → r ≡ counted (a .counts) (getD cal (s + a .hours) 0)
+      → _≡_ {A = Stretch} (record { hours = a .hours + 1; last = last; counts = r }) (stretchOf cal s (a .hours + 1))
+  stretch-next last is-last r is-r =
+      λ j. record { hours = a .hours + 1; last = next-last last is-last j; counts = (is-r ∙ counts-more cal s _ _ counts-are) j }
+
+  -- no hours are no hours from the next on
+  pub no-rest : a .hours < 1 → a ≡ stretchOf cal (s + 1) (a .hours - 1)
+  no-rest l =
+      let none : a .hours ≡ 0 = omega arith in
+      let rest : 0 ≡ a .hours - 1 = omega arith in
+      is ∙ ap (stretchOf cal s) none ∙ sym (no-stretch cal s) ∙ no-stretch cal (s + 1) ∙ ap (stretchOf cal (s + 1)) rest
+
+  -- the counts of the first hour are among those of a stretch of some hours; the stretch without it
+  module _ (k : ℕ) (some : a .hours ≡ k + 1) where
+    regular-is : a .counts .regular ≡ hoursOf regular cal s (k + 1)
+    regular-is = regulars cal s _ _ counts-are ∙ ap (hoursOf regular cal s) some
+
+    overtime-is : a .counts .overtime ≡ hoursOf overtime cal s (k + 1)
+    overtime-is = overtimes cal s _ _ counts-are ∙ ap (hoursOf overtime cal s) some
+
+    pub first-counted : (oneIf (eqb (getD cal s 0) regular) ≤ a .counts .regular) × (oneIf (eqb (getD cal s 0) overtime) ≤ a .counts .overtime)
+    unfolding isKind
+    first-counted = (omega (arith, regular-is, hours-first regular cal s k), omega (arith, overtime-is, hours-first overtime cal s k))
+
+    rest-regular : a .counts .regular - oneIf (eqb (getD cal s 0) regular) ≡ hoursOf regular cal (s + 1) k
+    unfolding isKind
+    rest-regular = omega (arith, regular-is, hours-first regular cal s k)
+
+    rest-overtime : a .counts .overtime - oneIf (eqb (getD cal s 0) overtime) ≡ hoursOf overtime cal (s + 1) k
+    unfolding isKind
+    rest-overtime = omega (arith, overtime-is, hours-first overtime cal s k)
+
+    rest-last : a .last - 1 ≡ openLength cal (s + 1) k
+    rest-last = ap (λ (x : ℕ). x - 1) (last-is ∙ ap (openLength cal s) some) ∙ sym (open-first cal s k)
+
+    pub stretch-rest : (n : ℕ) → n ≡ k → (last : ℕ) → last ≡ a .last - 1 → (r : Counts) → r ≡ uncounted (a .counts) (getD cal s 0)
+        → _≡_ {A = Stretch} (record { hours = n; last = last; counts = r }) (stretchOf cal (s + 1) k)
+    stretch-rest n is-n last is-last r is-r =
+        λ j. record { hours = is-n j; last = (is-last ∙ rest-last) j; counts = (is-r ∙ counts) j }
+      where
+        counts : uncounted (a .counts) (getD cal s 0) ≡ countsOf cal (s + 1) k
+        counts = λ j. record { regular = rest-regular j; overtime = rest-overtime j }
+
+-- ---- the first length at which a test holds
+
+module _ (test : ℕ → Bool) where
+  first-hit : (e n : ℕ) → test e ≡ true → firstFrom test e n ≡ e
+  unfolding firstFrom
+  first-hit e zero h = refl
+  first-hit e (suc n) h = if-true _ _ _ h
+
+  first-least : (e n : ℕ) → e ≤ firstFrom test e n
+  unfolding firstFrom
+  first-least e zero = omega arith
+  first-least e (suc n) = if-all (λ (k : ℕ). e ≤ k) (test e) _ _ (λ h. omega arith) (λ h. omega (arith, first-least (e + 1) n))
+
+  first-most : (e n : ℕ) → firstFrom test e n ≤ e + n
+  unfolding firstFrom
+  first-most e zero = omega arith
+  first-most e (suc n) = if-all (λ (k : ℕ). k ≤ e + suc n) (test e) _ _ (λ h. omega arith) (λ h. omega (arith, first-most (e + 1) n))
+
+  first-none : (e n k : ℕ) → e ≤ k → k < firstFrom test e n → test k ≡ false
+  unfolding firstFrom
+  first-none e zero k l = λ u. absurd (omega arith)
+  first-none e (suc n) k l =
+      if-all (λ (m : ℕ). k < m → test k ≡ false) (test e) _ _ (λ h u. absurd (omega arith)) (λ h u. go h (λ v. first-none (e + 1) n k v u) (decLe (e + 1) k))
+    where
+      go : test e ≡ false → (e + 1 ≤ k → test k ≡ false) → Dec (e + 1 ≤ k) → test k ≡ false
+      go h above (yes v) = above v
+      go h above (no v) = let q : k ≡ e = omega arith in rw q h
+
+  first-holds : (e n : ℕ) → firstFrom test e n < e + n → test (firstFrom test e n) ≡ true
+  unfolding firstFrom
+  first-holds e zero = λ u. absurd (omega arith)
+  first-holds e (suc n) =
+      if-all (λ (m : ℕ). m < e + suc n → test m ≡ true) (test e) _ _ (λ h u. h) (λ h u. first-holds (e + 1) n (omega arith))
+
+module _ (cal : List ℕ) (s : ℕ) (test : ℕ → Bool) (e : ℕ) where
+  pub long-end : length cal ≤ s + e → lengthened cal s test e ≡ e
+  unfolding lengthened firstFrom
+  long-end l = let q : length cal - (s + e) ≡ 0 = omega arith in rw q
+
+  pub long-hit : test e ≡ true → lengthened cal s test e ≡ e
+  unfolding lengthened
+  long-hit h = first-hit test e _ h
+
+  pub long-miss : s + e < length cal → test e ≡ false → lengthened cal s test e ≡ lengthened cal s test (e + 1)
+  unfolding lengthened firstFrom
+  long-miss l h =
+      let q : length cal - (s + e) ≡ suc (length cal - (s + (e + 1))) = omega arith in
+      rw q (if-false _ _ _ h)
+
+  pub long-least : e ≤ lengthened cal s test e
+  unfolding lengthened
+  long-least = first-least test e _
+
+  pub long-inside : s + e ≤ length cal → s + lengthened cal s test e ≤ length cal
+  unfolding lengthened
+  long-inside l = omega (arith, first-most test e (length cal - (s + e)))
+
+  pub long-none : (k : ℕ) → e ≤ k → k < lengthened cal s test e → test k ≡ false
+  unfolding lengthened
+  long-none k l u = first-none test e _ k l u
+
+  pub long-holds : s + lengthened cal s test e < length cal → test (lengthened cal s test e) ≡ true
+  unfolding lengthened
+  long-holds l = first-holds test e _ (omega (arith, first-least test e (length cal - (s + e))))
+
+-- ---- the tests of an end
+
+-- contraposed
+pub untrue : (x y : Bool) → (x ≡ true → y ≡ true) → y ≡ false → x ≡ false
+untrue true y h e = true≢false (h refl) e
+untrue false y h e = refl
+
+-- two tests that decide the same
+pub same-leb : (x y u v : ℕ) → (x ≤ y → u ≤ v) → (u ≤ v → x ≤ y) → leb x y ≡ leb u v
+same-leb x y u v f g = go (decLe x y)
+  where
+    go : Dec (x ≤ y) → leb x y ≡ leb u v
+    go (yes h) = le-leb x y h ∙ sym (le-leb u v (f h))
+    go (no h) = lt-leb x y (omega arith) ∙ sym (untrue (leb u v) (leb x y) (λ q. le-leb x y (g (leb-true u v q))) (lt-leb x y (omega arith)))
+
+pub record MayEnd (p : ℕ) (b : Bounds) (a : Stretch) : Type 0 where
+  pub shortest : b .shortest .0 ≤ a .hours
+  pub works : p ≤ a .counts .regular + a .counts .overtime
+  pub goes : a .last ≡ a .hours
+  pub most : p ≤ b .most .0 + a .counts .regular
+
+module _ (p : ℕ) (b : Bounds) (a : Stretch) where
+  pub may-end : mayEnd p b a ≡ true → MayEnd p b a
+  unfolding mayEnd
+  may-end h =
+      let r₁ = and-right _ _ h in
+      let r₂ = and-right _ _ r₁ in
+      record {
+        shortest = leb-true _ _ (and-left _ _ h);
+        works = leb-true _ _ (and-left _ _ r₁);
+        goes = eqb-true _ _ (and-left _ _ r₂);
+        most = leb-true _ _ (and-right _ _ r₂);
+      }
+
+  pub ends-may : MayEnd p b a → mayEnd p b a ≡ true
+  unfolding mayEnd
+  ends-may m = and-both _ _ (le-leb _ _ (m .shortest)) (and-both _ _ (le-leb _ _ (m .works)) (and-both _ _ (eq-eqb _ _ (m .goes)) (le-leb _ _ (m .most))))
+
+  -- where the other tests hold, the last one decides
+  pub ends-by-most : b .shortest .0 ≤ a .hours → p ≤ a .counts .regular + a .counts .overtime → a .last ≡ a .hours → a .counts .regular < p
+      → leb (p - a .counts .regular) (b .most .0) ≡ mayEnd p b a
+  unfolding mayEnd _and_
+  ends-by-most h₁ h₂ h₃ h₄ =
+      simp (le-leb _ _ h₁, le-leb _ _ h₂, eq-eqb _ _ h₃)
+      (same-leb (p - a .counts .regular) (b .most .0) p (b .most .0 + a .counts .regular) (λ h. omega arith) (λ h. omega arith))
+
+pub record MayLast (cal : List ℕ) (p : ℕ) (b : Bounds) (s e : ℕ) : Type 0 where
+  pub longest : e ≤ b .longest .0
+  pub fewest : b .fewest .0 + hoursOf regular cal s e ≤ p
+  pub worked : hoursOf regular cal (s + 1) (e - 2) + min e 2 ≤ p
+
+module _ (cal : List ℕ) (p : ℕ) (b : Bounds) (s e : ℕ) where
+  pub may-last : mayLast cal p b s e ≡ true → MayLast cal p b s e
+  unfolding mayLast
+  may-last h =
+      let r = and-right _ _ h in
+      record {
+        longest = leb-true _ _ (and-left _ _ h);
+        fewest = leb-true _ _ (and-left _ _ r);
+        worked = leb-true _ _ (and-right _ _ r);
+      }
+
+  pub lasts-may : MayLast cal p b s e → mayLast cal p b s e ≡ true
+  unfolding mayLast
+  lasts-may m = and-both _ _ (le-leb _ _ (m .longest)) (and-both _ _ (le-leb _ _ (m .fewest)) (le-leb _ _ (m .worked)))
+
+  pub lasts-by-work : (n : ℕ) → n ≡ hoursOf regular cal (s + 1) (e - 2) + min e 2 → e ≤ b .longest .0 → b .fewest .0 + hoursOf regular cal s e ≤ p
+      → leb n p ≡ mayLast cal p b s e
+  unfolding mayLast _and_
+  lasts-by-work n q h₁ h₂ = simp (le-leb _ _ h₁, le-leb _ _ h₂) (ap (λ (k : ℕ). leb k p) q)
+
+  pub last-shorter : (k : ℕ) → k ≤ e → MayLast cal p b s e → MayLast cal p b s k
+  last-shorter k l m =
+      record {
+        longest = omega (arith, m .longest);
+        fewest = omega (arith, m .fewest, hours-mono regular cal s k e l);
+        worked = omega (arith, m .worked, hours-mono regular cal (s + 1) (k - 2) (e - 2) (omega arith));
+      }
+
+-- from a stretch of e - 1 hours
+module _ (cal : List ℕ) (s : ℕ) (a : Stretch) (is : a ≡ stretchOf cal s (a .hours)) where
+  pub work-next : (w : ℕ) → w ≡ oneIf (eqb (getD cal (s + a .hours) 0) regular) → a .counts .regular + w ≡ hoursOf regular cal s (a .hours + 1)
+  unfolding isKind
+  work-next w q = omega (arith, q, regulars cal s _ _ (counts-are cal s a is), hours-more regular cal s (a .hours))
+
+  pub work-le : (w : ℕ) → w ≡ oneIf (eqb (getD cal (s + a .hours) 0) regular) → a .counts .regular + w ≤ a .hours + 1
+  work-le w q = omega (arith, work-next w q, hours-le regular cal s (a .hours + 1))
+
+module _ (cal : List ℕ) (p : ℕ) (b : Bounds) (s : ℕ) (a : Stretch) (is : a ≡ stretchOf cal s (a .hours)) where
+  pub too-long : b .longest .0 ≤ a .hours → mayLast cal p b s (a .hours + 1) ≡ false
+  unfolding mayLast
+  too-long l = not-left _ _ (lt-leb (a .hours + 1) (b .longest .0) (omega arith))
+
+  pub too-worked : p < b .fewest .0 + hoursOf regular cal s (a .hours + 1) → mayLast cal p b s (a .hours + 1) ≡ false
+  unfolding mayLast
+  too-worked l = not-right _ _ (not-left _ _ (lt-leb _ _ l))
+
+  module _ (long : a .hours < b .longest .0) (few : b .fewest .0 + hoursOf regular cal s (a .hours + 1) ≤ p) where
+    pub first-works : a .hours < 1 → leb 1 p ≡ mayLast cal p b s (a .hours + 1)
+    first-works l = lasts-by-work cal p b s (a .hours + 1) 1 (one (omega arith)) (omega arith) few
+      where
+        one : a .hours ≡ 0 → 1 ≡ hoursOf regular cal (s + 1) (a .hours + 1 - 2) + min (a .hours + 1) 2
+        one q =
+            let m : a .hours + 1 - 2 ≡ 0 = omega arith in
+            let none = ap (hoursOf regular cal (s + 1)) m in
+            omega (arith, none, hours-none regular cal (s + 1))
+
+    pub ends-work : (k : ℕ) → a .hours ≡ k + 1 → (w : ℕ) → w ≡ oneIf (eqb (getD cal s 0) regular)
+        → leb (a .counts .regular - w + 2) p ≡ mayLast cal p b s (a .hours + 1)
+    ends-work k some w is-w = lasts-by-work cal p b s (a .hours + 1) (a .counts .regular - w + 2) two (omega arith) few
+      where
+        two : a .counts .regular - w + 2 ≡ hoursOf regular cal (s + 1) (a .hours + 1 - 2) + min (a .hours + 1) 2
+        two =
+            let m : a .hours + 1 - 2 ≡ k = omega arith in
+            let between = ap (hoursOf regular cal (s + 1)) m in
+            omega (arith, is-w, between, rest-regular cal s a is k some, first-counted cal s a is k some .0)
+
+-- ---- where a stretch stops
+
+module _ (cal : List ℕ) (p : ℕ) (b : Bounds) (s : ℕ) (shortest : Bool) where
+  pub stops-at-end : (a : Stretch) → a ≡ stretchOf cal s (a .hours) → shortest ≡ true → mayEnd p b a ≡ stopsAt cal p b s shortest (a .hours)
+  unfolding stopsAt
+  stops-at-end a is short = rw short (ap (mayEnd p b) is)
+
+  pub stops-longer : (e : ℕ) → shortest ≡ false → not (mayLast cal p b s (e + 1)) ≡ stopsAt cal p b s shortest e
+  unfolding stopsAt
+  stops-longer e long = rw long
+
+-- ---- the next start: a later start ends no earlier
+
+module _ (cal : List ℕ) (p : ℕ) (b : Bounds) (s e : ℕ) where
+  pub end-next : 1 ≤ b .shortest .0 → mayEnd p b (stretchOf cal s (e + 1)) ≡ false → mayEnd p b (stretchOf cal (s + 1) e) ≡ false
+  end-next some = untrue _ _ (λ h. ends-may _ _ _ (go (may-end _ _ _ h)))
+    where
+      go : MayEnd p b (stretchOf cal (s + 1) e) → MayEnd p b (stretchOf cal s (e + 1))
+      go m =
+          record {
+            shortest = omega (arith, m .shortest);
+            works = omega (arith, m .works, hours-first regular cal s e, hours-first overtime cal s e);
+            goes = omega (arith, m .shortest, m .goes, open-first cal s e);
+            most = omega (arith, m .most, hours-first regular cal s e);
+          }
+
+  pub last-next : mayLast cal p b s (e + 1) ≡ true → mayLast cal p b (s + 1) e ≡ true
+  last-next h = lasts-may cal p b (s + 1) e (go (may-last cal p b s (e + 1) h) (decLe 2 e))
+    where
+      go : MayLast cal p b s (e + 1) → Dec (2 ≤ e) → MayLast cal p b (s + 1) e
+      go m d =
+          record {
+            longest = omega (arith, m .longest);
+            fewest = omega (arith, m .fewest, hours-first regular cal s e);
+            worked = inner m d;
+          }
+        where
+          inner : MayLast cal p b s (e + 1) → Dec (2 ≤ e) → hoursOf regular cal (s + 1 + 1) (e - 2) + min e 2 ≤ p
+          inner m (yes l) =
+              let q : e + 1 - 2 ≡ e - 2 + 1 = omega arith in
+              let more = ap (hoursOf regular cal (s + 1)) q in
+              omega (arith, m .worked, more, hours-first regular cal (s + 1) (e - 2))
+          inner m (no l) =
+              let q : e - 2 ≡ 0 = omega arith in
+              let none = ap (hoursOf regular cal (s + 1 + 1)) q in
+              omega (arith, m .worked, none, hours-none regular cal (s + 1 + 1))

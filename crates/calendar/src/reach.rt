@@ -1,0 +1,167 @@
+// Stretches of hours from one start on, and how long a task that starts there may last.
+use crate::Counts;
+use crate::Stretch;
+use crate::one_if;
+use crate::with_hour;
+use units::Bounds;
+use units::Duration;
+use units::Hour;
+ghost use mathlib.Core.Path.{_≡_};
+ghost use Prim.Native.Nat.{_+_, _-_, _≤_, _<_};
+ghost use lib.ListN.{length};
+ghost use lib.Dec.{eqb};
+ghost use Rattle.units.specs.Choice.{if_then_else_};
+ghost use Rattle.units.specs.Limits.{mostHours};
+ghost use Rattle.units.specs.Sums.{oneIf};
+ghost use Rattle.plan.specs.Plan.{regular, closed, overtime};
+ghost use Rattle.calendar.specs.Scan.{uncounted, empty, stretchOf, mayEnd, mayLast, stopsAt, lengthened};
+
+fn one_less(n: u16) -> u16
+    ensures { λ r. ⌜ r ≡ n - 1 ⌝ }
+{
+    if n < 1 { 0 } else { n - 1 }
+}
+
+// The counts with one hour less, which is among those counted.
+fn without_hour(n: Counts, symbol: u8) -> Counts
+    requires { ⌜ (oneIf (eqb symbol regular) ≤ n .regular) × (oneIf (eqb symbol overtime) ≤ n .overtime) ⌝ }
+    ensures { λ r. ⌜ r ≡ uncounted n symbol ⌝ }
+{
+    Counts {
+        regular: n.regular - one_if(symbol, b'r'),
+        overtime: n.overtime - one_if(symbol, b'o'),
+    }
+}
+
+// No hours.
+pub fn no_hours() -> Stretch
+    ensures { λ r. ⌜ r ≡ empty ⌝ }
+{
+    Stretch {
+        hours: 0,
+        last: 0,
+        counts: Counts {
+            regular: 0,
+            overtime: 0,
+        },
+    }
+}
+
+// The hours up to the last open one, with one hour more.
+fn last_open(a: Stretch, symbol: u8) -> u16
+    requires { ⌜ a .hours < mostHours ⌝ }
+    ensures { λ r. ⌜ r ≡ (if eqb symbol closed then a .last else a .hours + 1) ⌝ }
+{
+    if symbol == b'c' { a.last } else { a.hours + 1 }
+}
+
+// The stretch with one hour more at its end.
+fn longer(calendar: &[u8], s: Hour, a: Stretch) -> Stretch
+    requires { ⌜ (s .0 + a .hours < length (now calendar))
+        × (length (now calendar) ≤ mostHours)
+        × (a ≡ stretchOf (now calendar) (s .0) (a .hours)) ⌝ }
+    ensures { λ r. ⌜ r ≡ stretchOf (now (calendar .entry)) (s .0) (a .hours + 1) ⌝ }
+{
+    let symbol = calendar[(s.0 as usize) + (a.hours as usize)];
+    Stretch {
+        hours: a.hours + 1,
+        last: last_open(a, symbol),
+        counts: with_hour(a.counts, symbol),
+    }
+}
+
+// The stretch without its first hour: from the next hour on, to the same end.
+pub fn without_first(calendar: &[u8], s: Hour, a: Stretch) -> Stretch
+    requires { ⌜ (s .0 < length (now calendar))
+        × (a ≡ stretchOf (now calendar) (s .0) (a .hours)) ⌝ }
+    ensures { λ r. ⌜ r ≡ stretchOf (now (calendar .entry)) (s .0 + 1) (a .hours - 1) ⌝ }
+{
+    if a.hours < 1 {
+        return a;
+    }
+    let symbol = calendar[s.0 as usize];
+    Stretch {
+        hours: a.hours - 1,
+        last: one_less(a.last),
+        counts: without_hour(a.counts, symbol),
+    }
+}
+
+// Whether a task may end with the stretch, by the tests that hold of a longer stretch too, and by its last hour.
+pub fn may_end(work_time: Duration, b: Bounds, a: Stretch) -> bool
+    requires { ⌜ (a .counts .regular ≤ mostHours) × (a .counts .overtime ≤ mostHours) ⌝ }
+    ensures { λ r. ⌜ r ≡ mayEnd («work_time» .0) b a ⌝ }
+{
+    let p = work_time.0;
+    let worked = a.counts.regular;
+    if a.hours < b.shortest.0 {
+        return false;
+    }
+    if worked + a.counts.overtime < p {
+        return false;
+    }
+    if a.last != a.hours {
+        return false;
+    }
+    if p <= worked {
+        return true;
+    }
+    p - worked <= b.most.0
+}
+
+// Whether a task may last one hour more than the stretch, by the tests that hold of a shorter stretch too.
+fn may_last(calendar: &[u8], work_time: Duration, b: Bounds, s: Hour, a: Stretch) -> bool
+    requires { ⌜ (s .0 + a .hours < length (now calendar))
+        × (length (now calendar) ≤ mostHours)
+        × (a ≡ stretchOf (now calendar) (s .0) (a .hours)) ⌝ }
+    ensures { λ r. ⌜ r ≡ mayLast (now (calendar .entry)) («work_time» .0) b (s .0) (a .hours + 1) ⌝ }
+{
+    let p = work_time.0;
+    let first = s.0 as usize;
+    if b.longest.0 <= a.hours {
+        return false;
+    }
+    let worked = a.counts.regular + one_if(calendar[first + (a.hours as usize)], b'r');
+    if p < worked {
+        return false;
+    }
+    if p - worked < b.fewest.0 {
+        return false;
+    }
+    if a.hours < 1 {
+        return 1 <= p;
+    }
+    a.counts.regular - one_if(calendar[first], b'r') + 2 <= p
+}
+
+// Whether to lengthen the stretch no more: for the shortest, since a task may end with it; for the longest, since no task may last longer.
+fn stops(calendar: &[u8], work_time: Duration, b: Bounds, s: Hour, a: Stretch, shortest: bool) -> bool
+    requires { ⌜ (s .0 + a .hours < length (now calendar))
+        × (length (now calendar) ≤ mostHours)
+        × (a ≡ stretchOf (now calendar) (s .0) (a .hours)) ⌝ }
+    ensures { λ r. ⌜ r ≡ stopsAt (now (calendar .entry)) («work_time» .0) b (s .0) shortest (a .hours) ⌝ }
+{
+    if shortest {
+        return may_end(work_time, b, a);
+    }
+    !may_last(calendar, work_time, b, s, a)
+}
+
+// The stretch, lengthened to where it stops, or to the calendar's end.
+pub fn lengthen(calendar: &[u8], work_time: Duration, b: Bounds, s: Hour, a: Stretch, shortest: bool) -> Stretch
+    requires { ⌜ (s .0 + a .hours ≤ length (now calendar))
+        × (length (now calendar) ≤ mostHours)
+        × (a ≡ stretchOf (now calendar) (s .0) (a .hours)) ⌝ }
+    ensures { λ r. ⌜ r ≡ stretchOf (now (calendar .entry)) (s .0)
+        (lengthened (now (calendar .entry)) (s .0) (stopsAt (now (calendar .entry)) («work_time» .0) b (s .0) shortest) (a .hours)) ⌝ }
+{
+    let room = calendar.len() - (s.0 as usize);
+    let mut at = a;
+    while (at.hours as usize) < room {
+        if stops(calendar, work_time, b, s, at, shortest) {
+            break;
+        }
+        at = longer(calendar, s, at);
+    }
+    at
+}
