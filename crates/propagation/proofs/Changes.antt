@@ -210,6 +210,7 @@ change-passes P boxes left c passed =
     record {
       some-hours = passed .some-hours;
       hours = passed .hours;
+      symbols = passed .symbols;
       tasks = passed .tasks;
       capacity = passed .capacity;
       work-times = passed .work-times;

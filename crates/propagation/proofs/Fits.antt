@@ -1,7 +1,8 @@
 -- Laws of the answers of the calendar rule, one for each task: how one is taken from memory, and how they fill an array. Assumes nothing.
-use mathlib.Core.Path.{_≡_, refl, _∙_}
-use mathlib.Core.List.{List, []}
-use Prim.Native.Nat.{ℕ, _+_, _≤_, _<_}
+use mathlib.Core.Path.{_≡_, refl, ap, _∙_}
+use mathlib.Core.Bool.{true}
+use mathlib.Core.List.{List, [], _∷_}
+use Prim.Native.Nat.{ℕ, zero, suc, _+_, _≤_, _<_}
 use native.Mathlib.Decide.{ℕ-discrete}
 use native.Mathlib.Omega.{arith}
 use lib.ListN.{length, getD, take, drop, set, length-take, length-drop}
@@ -9,22 +10,47 @@ use lib.Seq.{getD-set-same, getD-set-other}
 use Rattle.units.specs.Limits.{mostHours}
 use Rattle.units.specs.declared.Bounds.{Bounds}
 use Rattle.plan.specs.Plan.{Plan, plan, taskCount, firstSymbol, calendarAt, calendarOf, workTimeOf}
+use Rattle.plan.specs.Faults.{isSymbol}
 use Rattle.plan.specs.Boxes.{boundsAt}
 use Rattle.plan.proofs.Passed.{Passed}
 use Rattle.calendar.specs.declared.Fit.{Fit}
 use Rattle.calendar.specs.Rule.{ruleOf}
+use Rattle.calendar.specs.Scan.{AllSymbols}
 use Rattle.propagation.specs.Load.{fitAt}
 use Rattle.propagation.specs.Fitting.{Fitting}
+
+-- a cell of a part
+in-drop : (n k : ℕ) (l : List ℕ) → getD (drop n l) k 0 ≡ getD l (n + k) 0
+in-drop zero k l = ap (λ (m : ℕ). getD l m 0) (omega arith)
+in-drop (suc n) k [] = refl
+in-drop (suc n) k (x ∷ xs) = in-drop n k xs ∙ ap (λ (m : ℕ). getD (x ∷ xs) m 0) next
+  where
+    next : suc (n + k) ≡ suc n + k
+    next = omega arith
+
+in-take : (n k : ℕ) (l : List ℕ) → k < n → getD (take n l) k 0 ≡ getD l k 0
+in-take zero k l h = absurd (omega arith)
+in-take (suc n) k [] h = refl
+in-take (suc n) zero (x ∷ xs) h = refl
+in-take (suc n) (suc k) (x ∷ xs) h = in-take n k xs (omega arith)
 
 module _ (hours : ℕ) (calendars taskCalendars workTimes boxes : List ℕ) (i : ℕ) (part : List ℕ) (b : Bounds)
     (is-part : part ≡ take hours (drop (firstSymbol hours (getD taskCalendars i 0)) calendars)) (is-box : b ≡ boundsAt boxes i) where
   -- what the rule's core asks
-  pub core-asks : Fitting hours calendars taskCalendars workTimes boxes i → (1 ≤ b .shortest .0) × (b .latest .0 < length part) × (length part ≤ mostHours)
+  pub core-asks : Fitting hours calendars taskCalendars workTimes boxes i → (1 ≤ b .shortest .0) × (b .latest .0 < length part) × (length part ≤ mostHours) × AllSymbols part
   core-asks f =
       let long : length part ≡ hours = rw is-part (simp (length-take, length-drop) (omega (arith, f .calendar))) in
       let low : 1 ≤ b .shortest .0 = rw is-box (f .shortest) in
       let high : b .latest .0 < hours = rw is-box (f .latest) in
-      (low, omega arith, omega (arith, f .short))
+      (low, omega arith, omega (arith, f .short), λ t l. symbol t (omega arith) f)
+    where
+      first : ℕ
+      first = firstSymbol hours (getD taskCalendars i 0)
+
+      symbol : (t : ℕ) → t < hours → Fitting hours calendars taskCalendars workTimes boxes i → isSymbol (getD part t 0) ≡ true
+      symbol t l f =
+          let here : getD part t 0 ≡ getD calendars (first + t) 0 = rw is-part (in-take hours t (drop first calendars) l ∙ in-drop first t calendars) in
+          ap isSymbol here ∙ f .symbols (first + t) (omega (arith, f .calendar))
 
   pub core-answers : (r : Fit) → r ≡ ruleOf part (getD workTimes i 0) b → r ≡ fitAt (plan hours 0 calendars taskCalendars workTimes []) boxes i
   unfolding fitAt calendarOf calendarAt workTimeOf
@@ -38,6 +64,7 @@ fitting P boxes p i l =
     let t = p .task i l in
     record {
       short = p .hours;
+      symbols = p .symbols;
       task = l;
       work = omega (arith, p .work-times);
       box = omega (arith, p .boxes);
