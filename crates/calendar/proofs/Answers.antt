@@ -1,17 +1,16 @@
 -- Laws of an answer to which further triples are added. Assumes nothing.
 use mathlib.Core.Path.{_≡_, refl, sym, ap, _∙_}
 use mathlib.Core.List.{List, [], _∷_, _++_}
-use Prim.Native.Nat.{ℕ, _+_, _≤_}
+use Prim.Native.Nat.{ℕ, suc, _+_, _-_, _≤_, _<_}
 use native.Mathlib.Omega.{arith}
 use Rattle.units.specs.Limits.{hour, duration}
-use Rattle.calendar.specs.Triples.{startOf, elapsedOf, overtimeOf, endOf, over}
+use Rattle.calendar.specs.Triples.{startOf, elapsedOf, overtimeOf, endOf, each, over}
 use Rattle.calendar.specs.Rule.{least, greatest, alone, spread, fitOf}
 use Rattle.calendar.specs.Scan.{join, joined, after}
 use Rattle.calendar.specs.declared.Triple.{Triple}
 use Rattle.calendar.specs.declared.Window.{Window}
 use Rattle.calendar.specs.declared.Fit.{Fit}
 use Rattle.calendar.specs.declared.Fit.the-variants.{Never, Within}
-use Rattle.calendar.proofs.Collected.{over-step}
 use Rattle.calendar.proofs.Extremes.{least-append, greatest-append, least-join, greatest-join}
 
 spread-append : (w : Window) (ts us : List Triple) → spread w (ts ++ us) ≡ spread (spread w ts) us
@@ -29,6 +28,21 @@ unfolding after fitOf spread least greatest
 after-none Never = refl
 after-none (Within w) = refl
 
+-- ---- over a range
+
+module _ (lower upper : ℕ) (f : ℕ → List Triple) where
+  pub over-none : upper < lower → over lower upper f ≡ []
+  unfolding over each
+  over-none h =
+      let e : upper + 1 - lower ≡ 0 = omega arith in
+      rw e
+
+  over-step : lower ≤ upper → over lower upper f ≡ f lower ++ over (lower + 1) upper f
+  unfolding over each
+  over-step h =
+      let e : upper + 1 - lower ≡ suc (upper + 1 - (lower + 1)) = omega arith in
+      rw e
+
 -- the answer with the first part of a range, and then with the rest
 pub after-step : (fit : Fit) (lower upper : ℕ) (f : ℕ → List Triple) → lower ≤ upper
     → after fit (over lower upper f) ≡ after (after fit (f lower)) (over (lower + 1) upper f)
@@ -37,7 +51,8 @@ after-step fit lower upper f h = rw (over-step lower upper f h) (after-append fi
 pub unmoved : (fit : Fit) {ts : List Triple} → ts ≡ [] → fit ≡ after fit ts
 unmoved fit h = rw h (sym (after-none fit))
 
--- an answer with the triples of a list whose window is known
+-- ---- with the triples of a list whose window is known
+
 spread-join : (w : Window) (t : Triple) (ts : List Triple) → spread w (t ∷ ts) ≡ join w (spread (alone t) ts)
 unfolding spread least greatest
 spread-join w t ts =

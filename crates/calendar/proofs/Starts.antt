@@ -1,10 +1,9 @@
 -- The valid triples from one start: they last from one length to another, and their window is known by those two. Assumes nothing.
 use mathlib.Core.Path.{_≡_, refl, sym, ap, _∙_}
 use mathlib.Core.Bool.{Bool, true, false, not}
-use mathlib.Core.List.{List, [], List·Memᴰ}
-use Prim.Native.Nat.{ℕ, zero, suc, _+_, _-_, _≤_, _<_, min}
+use mathlib.Core.List.{List, []}
+use Prim.Native.Nat.{ℕ, _+_, _-_, _≤_, _<_, min}
 use native.Mathlib.Decide.{decLe}
-use native.Mathlib.Nat.{add-zero}
 use native.Mathlib.Omega.{arith}
 use lib.Dec.{eqb}
 use lib.ListN.{length, getD}
@@ -20,13 +19,13 @@ use Rattle.calendar.specs.declared.Stretch.{Stretch}
 use Rattle.calendar.specs.declared.Triple.{Triple}
 use Rattle.calendar.specs.declared.Fit.the-variants.{Within}
 use Rattle.calendar.specs.Valid.{isKind, hoursOf, overtimeEnds}
-use Rattle.calendar.specs.Triples.{triple, elapsedOf, overtimeOf, endOf, starting}
+use Rattle.calendar.specs.Triples.{triple, elapsedOf, overtimeOf, starting}
 use Rattle.calendar.specs.Rule.{fitOf}
 use Rattle.calendar.specs.Scan.{empty, stopsAt, lengthened, AllSymbols, openLength, stretchOf, mayEnd, mayLast, Reaches, windowFrom}
 use Rattle.calendar.proofs.Counting.{hours-more, hours-none, hours-first, hours-mono, regulars}
 use Rattle.calendar.proofs.Validity.{Valid, valid-facts, facts-valid}
-use Rattle.calendar.proofs.Stretches.{true≢false, untrue, regular-le, overtime-le, open-le, open-regular, open-last, open-past, open-itself, last-is, counts-are, MayEnd, may-end, ends-may, MayLast, may-last, lasts-may, last-shorter, no-stretch, own-hours, own-stretch, long-least, long-inside, long-none, long-holds, end-next, last-next}
-use Rattle.calendar.proofs.Members.{Held, Tight, fit-is, Starting, has-starting, only-starting, no-members}
+use Rattle.calendar.proofs.Stretches.{true≢false, untrue, regular-le, overtime-le, open-le, open-regular, open-last, open-past, open-itself, last-is, counts-are, MayEnd, may-end, ends-may, MayLast, may-last, lasts-may, last-shorter, no-stretch, own-hours, own-stretch, long-inside, long-none, long-holds, end-next, last-next}
+use Rattle.calendar.proofs.Members.{Held, fit-is, Starting, has-starting, only-starting, no-members}
 
 -- ---- the hours at both ends
 

@@ -227,10 +227,6 @@ module _ (cal : List ℕ) (s : ℕ) (test : ℕ → Bool) (e : ℕ) where
       let q : length cal - (s + e) ≡ suc (length cal - (s + (e + 1))) = omega arith in
       rw q (if-false _ _ _ h)
 
-  pub long-least : e ≤ lengthened cal s test e
-  unfolding lengthened
-  long-least = first-least test e _
-
   pub long-inside : s + e ≤ length cal → s + lengthened cal s test e ≤ length cal
   unfolding lengthened
   long-inside l = omega (arith, first-most test e (length cal - (s + e)))

@@ -1,4 +1,4 @@
-use mathlib.Core.Path.{sym, _∙_}
+use mathlib.Core.Path.{sym}
 use native.Mathlib.Omega.{arith}
 use Rattle.calendar.proofs.Validity.{closed-first, closed-last, other-overtime, few-overtime, by-ends}
 use Rattle.calendar.proofs.Counting.{regulars, overtimes}

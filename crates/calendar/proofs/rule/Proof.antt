@@ -5,8 +5,7 @@ use borrow.Author.Needs.{needs}
 use Rattle.calendar.specs.Triples.{over, starting, validTriples}
 use Rattle.calendar.specs.Rule.{ruleOf}
 use Rattle.calendar.specs.Scan.{after}
-use Rattle.calendar.proofs.Collected.{over-none}
-use Rattle.calendar.proofs.Answers.{unmoved, after-step}
+use Rattle.calendar.proofs.Answers.{unmoved, over-none, after-step}
 use Rattle.calendar.proofs.Starts.{Carried, carried-first, carried-on, carried-next}
 use Rattle.calendar.proofs.rule.Statement.{statement}
 use Rattle.calendar.proofs.rule.Tie as tie

@@ -1,4 +1,3 @@
-use mathlib.Core.Path.{_∙_, ap}
 use Prim.Native.Nat.{_-_}
 use native.Mathlib.Omega.{arith}
 use Rattle.calendar.proofs.Stretches.{no-rest, first-counted, stretch-rest}

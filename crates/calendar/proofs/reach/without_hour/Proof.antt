@@ -1,5 +1,5 @@
 use mathlib.Core.Path.{ap}
-use Prim.Native.Nat.{ℕ, _-_}
+use Prim.Native.Nat.{_-_}
 use borrow.Author.Needs.{needs}
 use Rattle.calendar.proofs.one_if.Reads as one-if-reads
 use Rattle.calendar.proofs.reach.without_hour.Statement.{statement}
