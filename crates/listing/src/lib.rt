@@ -1,6 +1,7 @@
 // The listing that the program prints.
 use plan::Refusal;
 use plan::bounds_at;
+use plan::fault_of;
 use propagation::Filtered;
 ghost use mathlib.Core.Path.{_≡_};
 ghost use mathlib.Core.List.{[], _∷_, _++_};
@@ -18,9 +19,6 @@ pub mod text;
 
 // Bytes that hold every listing.
 pub const ROOM: usize = 4096;
-
-// A refusal as it is printed: its number, then its place.
-struct Fault(u16, usize);
 
 // Each function that puts something answers the place after it.
 fn put_byte(out: &mut [u8], at: usize, byte: u8) -> usize
@@ -108,31 +106,6 @@ fn put_tasks(out: &mut [u8], at: usize, boxes: &[u16], tasks: usize) -> usize
         end = put_task(out, end, boxes, i);
     }
     end
-}
-
-// 01's number and place of each refusal.
-fn fault_of(r: Refusal) -> Fault
-    ensures { λ f. ⌜ (f .0 ≡ faultOf r .number) × (f .1 ≡ faultOf r .place) ⌝ }
-{
-    match r {
-        Refusal::Malformed(line) => Fault(1, line),
-        Refusal::Hours => Fault(2, 0),
-        Refusal::Calendars => Fault(3, 0),
-        Refusal::Symbol(index) => Fault(4, index),
-        Refusal::Tasks => Fault(5, 0),
-        Refusal::NoCalendar(task) => Fault(6, task),
-        Refusal::WorkTime(task) => Fault(7, task),
-        Refusal::TaskHeight(task) => Fault(8, task),
-        Refusal::TaskBounds(task) => Fault(9, task),
-        Refusal::Capacity => Fault(10, 0),
-        Refusal::UnknownStep(step) => Fault(11, step),
-        Refusal::NotAdmitted(step) => Fault(12, step),
-        Refusal::AfterImpossible(step) => Fault(13, step),
-        Refusal::OutsideBounds(task) => Fault(14, task),
-        Refusal::NotValid(task) => Fault(15, task),
-        Refusal::OverCapacity(hour) => Fault(16, hour),
-        Refusal::MemorySize => Fault(31, 0),
-    }
 }
 
 // The one line of a refusal, 20 bytes at most; the bytes past it are untouched.

@@ -17,7 +17,7 @@ ghost use Rattle.units.specs.Choice.{_and_, _orElse_, firstOf};
 ghost use Rattle.units.specs.Limits.{isCalendarCount, isCalendarNumber, isWorkTime, isHeight, isBox};
 ghost use Rattle.plan.specs.Plan.{plan, firstSymbol};
 ghost use Rattle.plan.specs.Boxes.{boundsAt, withBounds};
-ghost use Rattle.plan.specs.Refusals.{unless, testedFault};
+ghost use Rattle.plan.specs.Refusals.{unless, faultOf, testedFault};
 ghost use Rattle.plan.specs.Faults.{oneForEachTask, isSymbol, taskFault, planFault, firstFault};
 
 // Why a call is refused, in document 01's order of numbers, with the place where 01 names one.
@@ -52,9 +52,37 @@ pub enum Refusal {
     MemorySize,
 }
 
+// A refusal as 01 gives it: its number, then its place.
+pub struct Fault(pub u16, pub usize);
+
 pub enum Tested {
     Passed,
     Refused(Refusal),
+}
+
+// 01's number and place of each refusal.
+pub fn fault_of(r: Refusal) -> Fault
+    ensures { λ f. ⌜ (f .0 ≡ faultOf r .number) × (f .1 ≡ faultOf r .place) ⌝ }
+{
+    match r {
+        Refusal::Malformed(line) => Fault(1, line),
+        Refusal::Hours => Fault(2, 0),
+        Refusal::Calendars => Fault(3, 0),
+        Refusal::Symbol(index) => Fault(4, index),
+        Refusal::Tasks => Fault(5, 0),
+        Refusal::NoCalendar(task) => Fault(6, task),
+        Refusal::WorkTime(task) => Fault(7, task),
+        Refusal::TaskHeight(task) => Fault(8, task),
+        Refusal::TaskBounds(task) => Fault(9, task),
+        Refusal::Capacity => Fault(10, 0),
+        Refusal::UnknownStep(step) => Fault(11, step),
+        Refusal::NotAdmitted(step) => Fault(12, step),
+        Refusal::AfterImpossible(step) => Fault(13, step),
+        Refusal::OutsideBounds(task) => Fault(14, task),
+        Refusal::NotValid(task) => Fault(15, task),
+        Refusal::OverCapacity(hour) => Fault(16, hour),
+        Refusal::MemorySize => Fault(31, 0),
+    }
 }
 
 // The box of task i.

@@ -1,0 +1,55 @@
+use mathlib.Core.Path.{refl}
+use mathlib.Core.List.{[], _∷_}
+use Rattle.capi.specs.Numbers.{filterNumbers}
+use borrow.Author.Needs.{needs}
+use Rattle.capi.proofs.numbers.filter_numbers.Statement.{statement}
+use Rattle.capi.proofs.numbers.filter_numbers.Tie as tie
+
+enum-known-answer : tie.Need-enum-known-answer
+enum-known-answer c = search needs
+
+fault-of-requires : tie.Need-fault-of-requires
+fault-of-requires c κs = search needs
+
+cast-t8 : tie.Need-cast-t8
+cast-t8 c = search needs
+
+enum-known-answer-2 : tie.Need-enum-known-answer-2
+enum-known-answer-2 c = search needs
+
+enum-known-answer-3 : tie.Need-enum-known-answer-3
+enum-known-answer-3 c = search needs
+
+enum-known-answer-4 : tie.Need-enum-known-answer-4
+enum-known-answer-4 c = search needs
+
+returns : tie.Need-returns
+unfolding filterNumbers
+returns c = rw (c .before .before .before .answer .given .1) (λ i. c .before .fault-of .ensures .0 i ∷ c .before .fault-of .ensures .1 i ∷ 0 ∷ 0 ∷ [])
+
+returns-2 : tie.Need-returns-2
+unfolding filterNumbers
+returns-2 c = rw (c .before .answer2 .given .1) refl
+
+returns-3 : tie.Need-returns-3
+unfolding filterNumbers
+returns-3 c = rw (c .before .answer3 .given .1) refl
+
+returns-4 : tie.Need-returns-4
+unfolding filterNumbers
+returns-4 c = rw (c .before .answer4 .given .1) refl
+
+pub filter-numbers-spec : {M : Type 1} → statement M
+filter-numbers-spec =
+    tie.close
+    (tie.spec
+    enum-known-answer
+    fault-of-requires
+    cast-t8
+    enum-known-answer-2
+    enum-known-answer-3
+    enum-known-answer-4
+    returns
+    returns-2
+    returns-3
+    returns-4)

@@ -1,0 +1,28 @@
+use mathlib.Core.Path.{ap, _∙_}
+use Rattle.units.specs.declared.Bounds.{Bounds}
+use Rattle.calendar.specs.Entry.{calendarRule}
+use Rattle.capi.specs.Numbers.{ruleNumbers}
+use borrow.Author.Needs.{needs}
+use Rattle.capi.proofs.shimlantern_calendar_rule.Statement.{statement}
+use Rattle.capi.proofs.shimlantern_calendar_rule.Tie as tie
+
+bounds-at-requires : tie.Need-bounds-at-requires
+bounds-at-requires c κs = search needs
+
+calendar-rule-requires : tie.Need-calendar-rule-requires
+calendar-rule-requires c κs = search needs
+
+rule-numbers-requires : tie.Need-rule-numbers-requires
+rule-numbers-requires c κs = search needs
+
+returns : tie.Need-returns
+returns c =
+    let args = c .before .before .before .before .before .args in
+    c .rule-numbers .ensures
+    ∙ ap ruleNumbers
+    (c .before .calendar-rule .ensures
+    ∙ ap (λ (b : Bounds). calendarRule (args .calendar .now) (args .work-time) b) (c .before .before .bounds-at .ensures))
+
+pub shimlantern-calendar-rule-spec : {M : Type 1} → statement M
+shimlantern-calendar-rule-spec =
+    tie.close (tie.spec bounds-at-requires calendar-rule-requires rule-numbers-requires returns)

@@ -1,0 +1,21 @@
+use mathlib.Core.Path.{ap, _∙_}
+use Rattle.capi.specs.Numbers.{logNumbers}
+use borrow.Author.Needs.{needs}
+use Rattle.capi.proofs.shimlantern_check_log.Statement.{statement}
+use Rattle.capi.proofs.shimlantern_check_log.Tie as tie
+
+check-log-requires : tie.Need-check-log-requires
+check-log-requires c κs = search needs
+
+log-numbers-requires : tie.Need-log-numbers-requires
+log-numbers-requires c κs = search needs
+
+same-length : tie.Need-same-length
+same-length c = search needs
+
+returns : tie.Need-returns
+returns c = record { answers = c .log-numbers .ensures ∙ ap logNumbers (c .before .before .before .check-log .ensures .0 .0); leaves-boxes = c .before .before .before .check-log .ensures .0 .1 }
+
+pub shimlantern-check-log-spec : {M : Type 1} → statement M
+shimlantern-check-log-spec =
+    tie.close (tie.spec check-log-requires log-numbers-requires same-length returns)
