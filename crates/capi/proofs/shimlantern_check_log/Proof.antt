@@ -1,5 +1,4 @@
-use mathlib.Core.Path.{ap, _∙_}
-use Rattle.capi.specs.Numbers.{logNumbers}
+use Rattle.capi.proofs.Left.{left-log}
 use borrow.Author.Needs.{needs}
 use Rattle.capi.proofs.shimlantern_check_log.Statement.{statement}
 use Rattle.capi.proofs.shimlantern_check_log.Tie as tie
@@ -14,7 +13,7 @@ same-length : tie.Need-same-length
 same-length c = search needs
 
 returns : tie.Need-returns
-returns c = record { answers = c .log-numbers .ensures ∙ ap logNumbers (c .before .before .before .check-log .ensures .0 .0); leaves-boxes = c .before .before .before .check-log .ensures .0 .1 }
+returns c = left-log (c .log-numbers .ensures) (c .before .before .before .check-log .ensures .0 .0) (c .before .before .before .check-log .ensures .0 .1)
 
 pub shimlantern-check-log-spec : {M : Type 1} → statement M
 shimlantern-check-log-spec =

@@ -1,5 +1,4 @@
-use mathlib.Core.Path.{ap, _∙_}
-use Rattle.capi.specs.Numbers.{filterNumbers}
+use Rattle.capi.proofs.Left.{left-run}
 use borrow.Author.Needs.{needs}
 use Rattle.capi.proofs.shimlantern_filter.Statement.{statement}
 use Rattle.capi.proofs.shimlantern_filter.Tie as tie
@@ -23,15 +22,7 @@ same-length-4 : tie.Need-same-length-4
 same-length-4 c = search needs
 
 returns : tie.Need-returns
-returns c =
-    let left = c .before .before .before .before .before .before .before .before .before .filter .ensures .0 in
-    record {
-      answers = c .filter-numbers .ensures ∙ ap filterNumbers (left .answers);
-      leaves-boxes = left .leaves-boxes;
-      leaves-kinds = left .leaves-kinds;
-      leaves-tasks = left .leaves-tasks;
-      leaves-hours = left .leaves-hours;
-    }
+returns c = left-run (c .filter-numbers .ensures) (c .before .before .before .before .before .before .before .before .before .filter .ensures .0)
 
 pub shimlantern-filter-spec : {M : Type 1} → statement M
 shimlantern-filter-spec =

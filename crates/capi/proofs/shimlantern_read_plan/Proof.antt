@@ -1,5 +1,4 @@
-use mathlib.Core.Path.{ap, _∙_}
-use Rattle.capi.specs.Numbers.{readNumbers}
+use Rattle.capi.proofs.Left.{left-plan}
 use borrow.Author.Needs.{needs}
 use Rattle.capi.proofs.shimlantern_read_plan.Statement.{statement}
 use Rattle.capi.proofs.shimlantern_read_plan.Tie as tie
@@ -26,16 +25,7 @@ same-length-5 : tie.Need-same-length-5
 same-length-5 c = search needs
 
 returns : tie.Need-returns
-returns c =
-    let left = c .before .before .before .before .before .before .before .before .before .before .before .read-plan .ensures in
-    record {
-      answers = c .read-numbers .ensures ∙ ap readNumbers (left .answers);
-      leaves-calendars = left .leaves-calendars;
-      leaves-task-calendars = left .leaves-task-calendars;
-      leaves-work-times = left .leaves-work-times;
-      leaves-heights = left .leaves-heights;
-      leaves-boxes = left .leaves-boxes;
-    }
+returns c = left-plan (c .read-numbers .ensures) (c .before .before .before .before .before .before .before .before .before .before .before .read-plan .ensures)
 
 pub shimlantern-read-plan-spec : {M : Type 1} → statement M
 shimlantern-read-plan-spec =

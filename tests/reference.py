@@ -1,0 +1,365 @@
+"""Document 01 in plain Python, written from its text alone and from no code of the product. tests/compare holds the library to it.
+
+A calendar is bytes of r, c, o. A box is six numbers: S, E, O, the lower bound first. A step is (kind, task, hour), its kind a byte's number. A
+refusal is (number, place)."""
+
+from functools import lru_cache
+from typing import NamedTuple
+
+MOST_HOURS = 1008
+MOST_CALENDARS = 16
+MOST_TASKS = 64
+MOST_HEIGHT = 1000
+MOST_CAPACITY = 60000
+MOST_NUMBER = 65535
+MOST_BYTES = 32768
+PROGRAM_ROOM = 2048
+
+
+class Plan(NamedTuple):
+    hours: int
+    capacity: int
+    calendars: bytes
+    task_calendars: tuple
+    work_times: tuple
+    heights: tuple
+
+    def tasks(self):
+        return len(self.task_calendars)
+
+    def calendar(self, task):
+        first = self.task_calendars[task] * self.hours
+        return self.calendars[first : first + self.hours]
+
+
+# When a task fits its calendar
+
+
+def valid(calendar, p, s, e, o):
+    if e < 1 or s + e > len(calendar):
+        return False
+    span = calendar[s : s + e]
+    if span[0] == ord("c") or span[-1] == ord("c"):
+        return False
+    if o != p - span.count(b"r") or o < 0:
+        return False
+    if o > span.count(b"o"):
+        return False
+    ends = {s, s + e - 1}
+    return sum(calendar[hour] == ord("o") for hour in ends) <= o
+
+
+def triples_in(box):
+    """Every triple of a box, valid or not."""
+    s0, s1, e0, e1, o0, o1 = box
+    for s in range(s0, s1 + 1):
+        for e in range(e0, e1 + 1):
+            for o in range(o0, o1 + 1):
+                yield s, e, o
+
+
+class Fit(NamedTuple):
+    """The least and greatest s, e, o and s+e over the valid triples of a box."""
+
+    box: tuple
+    ect: int
+    lct: int
+
+    def compulsory(self):
+        lst = self.box[1]
+        return range(lst, self.ect)
+
+
+@lru_cache(maxsize=None)
+def fit_of(calendar, p, box):
+    """None where there is no valid triple."""
+    found = [t for t in triples_in(box) if valid(calendar, p, *t)]
+    if not found:
+        return None
+    bounds = []
+    for field in range(3):
+        bounds += [min(t[field] for t in found), max(t[field] for t in found)]
+    ends = [s + e for s, e, _ in found]
+    return Fit(tuple(bounds), min(ends), max(ends))
+
+
+class State:
+    """The boxes as they stand at a turn, with each task's fit and each hour's load."""
+
+    def __init__(self, plan, boxes):
+        self.plan = plan
+        self.boxes = boxes
+        self.fits = [fit_of(plan.calendar(i), plan.work_times[i], boxes[i]) for i in range(plan.tasks())]
+        self.loads = {}
+
+    def part(self, task, hour):
+        """What a task adds to the load of an hour: its height, if its compulsory part holds the hour."""
+        found = self.fits[task]
+        return self.plan.heights[task] if found is not None and hour in found.compulsory() else 0
+
+    def load(self, hour):
+        if hour not in self.loads:
+            self.loads[hour] = sum(self.part(task, hour) for task in range(self.plan.tasks()))
+        return self.loads[hour]
+
+    def exceeds(self, task, hour):
+        """The task's height plus the other tasks' load exceeds the capacity."""
+        return self.plan.heights[task] + self.load(hour) - self.part(task, hour) > self.plan.capacity
+
+
+def calendar_rule(calendar, p, box):
+    """A refusal and None, or None and the fit, which is None where there is no valid triple."""
+    refusal = plan_fault(Plan(len(calendar), 0, calendar, (0,), (p,), (0,)), [box])
+    return (refusal, None) if refusal else (None, fit_of(calendar, p, box))
+
+
+# Refusals
+
+
+def task_fault(plan, boxes, task):
+    hours = plan.hours
+    p = plan.work_times[task]
+    s0, s1, e0, e1, o0, o1 = boxes[task]
+    if plan.task_calendars[task] >= len(plan.calendars) // hours:
+        return 6, task
+    if not 1 <= p <= hours:
+        return 7, task
+    if plan.heights[task] > MOST_HEIGHT:
+        return 8, task
+    if not (0 <= s0 <= s1 <= hours - 1 and 1 <= e0 <= e1 <= hours and 0 <= o0 <= o1 <= p):
+        return 9, task
+    return None
+
+
+def plan_fault(plan, boxes):
+    """The first of 2, 3, 4, 5, 10 and, task by task, 6 to 9."""
+    if not 1 <= plan.hours <= MOST_HOURS:
+        return 2, 0
+    if len(plan.calendars) % plan.hours or not 1 <= len(plan.calendars) // plan.hours <= MOST_CALENDARS:
+        return 3, 0
+    for index, symbol in enumerate(plan.calendars):
+        if symbol not in b"rco":
+            return 4, index
+    if plan.tasks() > MOST_TASKS:
+        return 5, 0
+    if plan.capacity > MOST_CAPACITY:
+        return 10, 0
+    for task in range(plan.tasks()):
+        refusal = task_fault(plan, boxes, task)
+        if refusal:
+            return refusal
+    return None
+
+
+# Schedules
+
+
+def schedule_fault(plan, boxes, schedule):
+    for task, triple in enumerate(schedule):
+        lower, upper = boxes[task][0::2], boxes[task][1::2]
+        if not all(a <= x <= b for a, x, b in zip(lower, triple, upper)):
+            return 14, task
+        if not valid(plan.calendar(task), plan.work_times[task], *triple):
+            return 15, task
+    for hour in range(plan.hours):
+        running = [plan.heights[i] for i, (s, e, _) in enumerate(schedule) if s <= hour < s + e]
+        if sum(running) > plan.capacity:
+            return 16, hour
+    return None
+
+
+def makespan(schedule):
+    return max((s + e for s, e, _ in schedule), default=0)
+
+
+def check_schedule(plan, boxes, schedule):
+    """A refusal and 0, or None and the makespan."""
+    refusal = plan_fault(plan, boxes) or schedule_fault(plan, boxes, schedule)
+    return (refusal, 0) if refusal else (None, makespan(schedule))
+
+
+# Steps
+
+UNKNOWN, NOT_ADMITTED, IMPOSSIBLE = "unknown", "not admitted", "impossible"
+
+
+def judge(state, step):
+    """What a step comes to at its turn: UNKNOWN, NOT_ADMITTED, IMPOSSIBLE or the boxes that it leaves."""
+    kind, task, hour = step
+    plan, boxes = state.plan, state.boxes
+    if kind not in b"COLU":
+        return UNKNOWN
+    if task >= plan.tasks() if kind in b"CLU" else task != 0:
+        return UNKNOWN
+    if hour >= plan.hours if kind in b"OLU" else hour != 0:
+        return UNKNOWN
+
+    if kind == ord("O"):
+        return IMPOSSIBLE if state.load(hour) > plan.capacity else NOT_ADMITTED
+
+    fit = state.fits[task]
+    s0, s1, e0, e1, o0, o1 = boxes[task]
+    if kind == ord("C"):
+        if fit is None:
+            return IMPOSSIBLE
+        return NOT_ADMITTED if fit.box == boxes[task] else moved(boxes, task, fit.box)
+
+    if fit is None:
+        return NOT_ADMITTED
+    if kind == ord("L"):
+        if not (fit.ect > hour and s0 <= hour and state.exceeds(task, hour)):
+            return NOT_ADMITTED
+        return IMPOSSIBLE if hour >= s1 else moved(boxes, task, (hour + 1, s1, e0, e1, o0, o1))
+    lst = fit.box[1]
+    if not (lst <= hour and s1 > hour - e0 and state.exceeds(task, hour)):
+        return NOT_ADMITTED
+    return IMPOSSIBLE if hour - e0 < s0 else moved(boxes, task, (s0, hour - e0, e0, e1, o0, o1))
+
+
+def moved(boxes, task, box):
+    return boxes[:task] + [box] + boxes[task + 1 :]
+
+
+class LogEnd(NamedTuple):
+    refusal: tuple
+    steps: int
+    impossible: bool
+    boxes: list
+
+
+def replay(plan, boxes, log):
+    said = False
+    for k, step in enumerate(log):
+        if said:
+            return LogEnd((13, k), k, said, boxes)
+        judged = judge(State(plan, boxes), step)
+        if judged == UNKNOWN:
+            return LogEnd((11, k), k, said, boxes)
+        if judged == NOT_ADMITTED:
+            return LogEnd((12, k), k, said, boxes)
+        if judged == IMPOSSIBLE:
+            said = True
+        else:
+            boxes = judged
+    return LogEnd(None, len(log), said, boxes)
+
+
+def check_log(plan, boxes, log):
+    refusal = plan_fault(plan, boxes)
+    return LogEnd(refusal, 0, False, boxes) if refusal else replay(plan, boxes, log)
+
+
+def steps_in_order(plan):
+    tasks, hours = range(plan.tasks()), range(plan.hours)
+    yield from ((ord("C"), task, 0) for task in tasks)
+    yield from ((ord("O"), 0, hour) for hour in hours)
+    yield from ((ord("L"), task, hour) for task in tasks for hour in hours)
+    yield from ((ord("U"), task, hour) for task in tasks for hour in hours)
+
+
+def next_step(plan, boxes):
+    """The first admitted step and what it comes to, or None."""
+    state = State(plan, boxes)
+    for step in steps_in_order(plan):
+        judged = judge(state, step)
+        if judged != NOT_ADMITTED:
+            return step, judged
+    return None
+
+
+class Run(NamedTuple):
+    refusal: tuple
+    ending: str
+    log: list
+    boxes: list
+
+
+def run_filter(plan, boxes, room):
+    refusal = plan_fault(plan, boxes)
+    if refusal:
+        return Run(refusal, "refused", [], boxes)
+    log = []
+    while True:
+        admitted = next_step(plan, boxes)
+        if admitted is None:
+            return Run(None, "settled", log, boxes)
+        if len(log) == room:
+            return Run((32, 0), "room", log, boxes)
+        step, judged = admitted
+        log.append(step)
+        if judged == IMPOSSIBLE:
+            return Run(None, "impossible", log, boxes)
+        boxes = judged
+
+
+def widths(boxes):
+    return sum(upper - lower for box in boxes for lower, upper in zip(box[0::2], box[1::2]))
+
+
+# Plan text and listing
+
+
+def number(field):
+    """The number of a field, or None."""
+    digits = field and all(byte in b"0123456789" for byte in field)
+    if not digits or (field[:1] == b"0" and field != b"0") or int(field) > MOST_NUMBER:
+        return None
+    return int(field)
+
+
+def numbers(fields):
+    found = [number(field) for field in fields]
+    return None if None in found else found
+
+
+def parse(text):
+    """The number of the first line that breaks the rules and None, or None and (H, capacity, calendar lines, task lines)."""
+    head, calendars, tasks = None, [], []
+    lines = text.split(b"\n")
+    too_long = text[:MOST_BYTES].count(b"\n") + 1 if len(text) > MOST_BYTES else None
+    for at, line in enumerate(lines, 1):
+        last = at == len(lines)
+        if last and line == b"" and at > 1:
+            break
+        if last or at == too_long:
+            return at, None
+        word, *fields = line.split(b"\t")
+        if word == b"plan" and at == 1 and len(fields) == 2 and numbers(fields) is not None:
+            head = numbers(fields)
+        elif word == b"cal" and head and not tasks and len(fields) == 1 and fields[0] != b"":
+            calendars.append(fields[0])
+        elif word == b"task" and head and len(fields) in (3, 9) and numbers(fields) is not None:
+            tasks.append(numbers(fields))
+        else:
+            return at, None
+    return None, (*head, calendars, tasks)
+
+
+def read_plan(text, enough=True):
+    """A refusal and None, or None and (the plan, how many calendars, its boxes)."""
+    broken, read = parse(text)
+    if broken:
+        return (1, broken), None
+    if not enough:
+        return (31, 0), None
+    hours, capacity, calendars, tasks = read
+    if not 1 <= hours <= MOST_HOURS:
+        return (2, 0), None
+    if not 1 <= len(calendars) <= MOST_CALENDARS or any(len(symbols) != hours for symbols in calendars):
+        return (3, 0), None
+    plan = Plan(hours, capacity, b"".join(calendars), *(tuple(task[k] for task in tasks) for k in range(3)))
+    boxes = [tuple(task[3:]) if len(task) == 9 else (0, hours - 1, task[1], hours, 0, task[1]) for task in tasks]
+    refusal = plan_fault(plan, boxes)
+    return (refusal, None) if refusal else (None, (plan, len(calendars), boxes))
+
+
+def listing(text):
+    refusal, read = read_plan(text)
+    if refusal:
+        return b"refused\t%d\t%d\n" % refusal
+    plan, _, boxes = read
+    run = run_filter(plan, boxes, PROGRAM_ROOM)
+    lines = [b"%s\t%d\n" % (run.ending.encode(), len(run.log))]
+    for task, box in enumerate(run.boxes):
+        lines.append(b"task\t" + b"\t".join(b"%d" % n for n in (task, *box)) + b"\n")
+    return b"".join(lines)
