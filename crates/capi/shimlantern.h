@@ -35,7 +35,7 @@
    31      lent memory is of the wrong size
    32      the log has no room for the next step
 
-   Numbers other than 11, 12, 13 and 32 leave all lent memory but the answer as it was. */
+   A refusal by another number than 11, 12, 13 and 32 leaves all lent memory but the answer as it was. */
 
 #ifndef SHIMLANTERN_H
 #define SHIMLANTERN_H
