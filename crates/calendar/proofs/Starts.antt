@@ -128,25 +128,25 @@ module _ (cal : List ℕ) (p : ℕ) (b : Bounds) (s : ℕ) where
 
   module _ (some : 1 ≤ b .shortest .0) (symbols : AllSymbols cal) (shortest longest : Stretch) (R : Reaches cal p b s shortest longest) where
     -- each lasts from the one to the other
-    from-shortest : (t : Triple) → Starting cal p b s t → shortest .hours ≤ elapsedOf t
-    from-shortest t h = go (decLe (shortest .hours) (elapsedOf t))
+    from-shortest : (t : Triple) → Starting cal p b s t → shortest .hours .0 ≤ elapsedOf t
+    from-shortest t h = go (decLe (shortest .hours .0) (elapsedOf t))
       where
-        go : Dec (shortest .hours ≤ elapsedOf t) → shortest .hours ≤ elapsedOf t
+        go : Dec (shortest .hours .0 ≤ elapsedOf t) → shortest .hours .0 ≤ elapsedOf t
         go (yes l) = l
         go (no l) =
             true≢false (ends-may _ _ _ (valid-ends cal p b s symbols t h (valid-start t h))) (R .none-before (elapsedOf t) (omega arith))
 
-    to-longest : (t : Triple) → Starting cal p b s t → elapsedOf t ≤ longest .last
+    to-longest : (t : Triple) → Starting cal p b s t → elapsedOf t ≤ longest .last .0
     to-longest t h =
         let v = valid-start t h in
-        omega (arith, last-is cal s longest (R .is-longest), open-past cal s (elapsedOf t) (longest .hours) (v .lasts) (go v (decLe (elapsedOf t) (longest .hours))) (v .last-open))
+        omega (arith, last-is cal s longest (R .is-longest), open-past cal s (elapsedOf t) (longest .hours .0) (v .lasts) (go v (decLe (elapsedOf t) (longest .hours .0))) (v .last-open))
       where
-        go : Valid cal p s (elapsedOf t) (overtimeOf t) → Dec (elapsedOf t ≤ longest .hours) → elapsedOf t ≤ longest .hours
+        go : Valid cal p s (elapsedOf t) (overtimeOf t) → Dec (elapsedOf t ≤ longest .hours .0) → elapsedOf t ≤ longest .hours .0
         go v (yes l) = l
         go v (no l) =
             true≢false (lasts-may cal p b s (elapsedOf t) (valid-lasts cal p b s symbols t h v)) (R .none-after (elapsedOf t) (omega arith) (v .ends))
 
-    pub none-between : longest .last < shortest .hours → starting cal p b s ≡ []
+    pub none-between : longest .last .0 < shortest .hours .0 → starting cal p b s ≡ []
     none-between l = no-members _ (λ t m. let h = only-starting cal p b s t m in omega (arith, from-shortest t h, to-longest t h))
 
     -- where the shortest is no end, the calendar ends with it, so that none lasts longer
@@ -156,7 +156,7 @@ module _ (cal : List ℕ) (p : ℕ) (b : Bounds) (s : ℕ) where
         go : (t : Triple) → Starting cal p b s t → ⊥
         go t h =
             let v = valid-start t h in
-            let q : elapsedOf t ≡ shortest .hours = omega (arith, from-shortest t h, v .ends, R .at-the-end n) in
+            let q : elapsedOf t ≡ shortest .hours .0 = omega (arith, from-shortest t h, v .ends, R .at-the-end n) in
             let ends = ends-may p b (stretchOf cal s (elapsedOf t)) (valid-ends cal p b s symbols t h v) in
             true≢false (ap (mayEnd p b) (R .is-shortest ∙ ap (stretchOf cal s) (sym q)) ∙ ends) n
 
@@ -167,17 +167,17 @@ module _ (cal : List ℕ) (p : ℕ) (b : Bounds) (s : ℕ) where
         omega (arith, overtime-le cal s shortest (R .is-shortest), R .shortest-inside))
 
     -- else both are valid, and the window is theirs
-    module _ (open-start : isKind closed cal s ≡ false) (ends : mayEnd p b shortest ≡ true) (between : shortest .hours ≤ longest .last) where
-      longest-in : longest .last ≤ longest .hours
-      longest-in = omega (arith, last-is cal s longest (R .is-longest), open-le cal s (longest .hours))
+    module _ (open-start : isKind closed cal s ≡ false) (ends : mayEnd p b shortest ≡ true) (between : shortest .hours .0 ≤ longest .last .0) where
+      longest-in : longest .last .0 ≤ longest .hours .0
+      longest-in = omega (arith, last-is cal s longest (R .is-longest), open-le cal s (longest .hours .0))
 
-      shortest-ends : MayEnd p b (stretchOf cal s (shortest .hours))
+      shortest-ends : MayEnd p b (stretchOf cal s (shortest .hours .0))
       shortest-ends = may-end p b _ (ap (mayEnd p b) (sym (R .is-shortest)) ∙ ends)
 
-      some-hours : 1 ≤ shortest .hours
+      some-hours : 1 ≤ shortest .hours .0
       some-hours = omega (arith, shortest-ends .shortest)
 
-      longest-ends : MayEnd p b (stretchOf cal s (longest .last))
+      longest-ends : MayEnd p b (stretchOf cal s (longest .last .0))
       longest-ends =
           record {
             shortest = omega (arith, shortest-ends .shortest);
@@ -185,16 +185,16 @@ module _ (cal : List ℕ) (p : ℕ) (b : Bounds) (s : ℕ) where
                 omega (
                   arith,
                   shortest-ends .works,
-                  hours-mono regular cal s (shortest .hours) (longest .last) between,
-                  hours-mono overtime cal s (shortest .hours) (longest .last) between);
-            goes = open-itself cal s (longest .last) (omega (arith, some-hours)) (rw is-last (open-last cal s (longest .hours) (omega (arith, is-last, some-hours))));
-            most = omega (arith, shortest-ends .most, hours-mono regular cal s (shortest .hours) (longest .last) between);
+                  hours-mono regular cal s (shortest .hours .0) (longest .last .0) between,
+                  hours-mono overtime cal s (shortest .hours .0) (longest .last .0) between);
+            goes = open-itself cal s (longest .last .0) (omega (arith, some-hours)) (rw is-last (open-last cal s (longest .hours .0) (omega (arith, is-last, some-hours))));
+            most = omega (arith, shortest-ends .most, hours-mono regular cal s (shortest .hours .0) (longest .last .0) between);
           }
         where
-          is-last : longest .last ≡ openLength cal s (longest .hours)
+          is-last : longest .last .0 ≡ openLength cal s (longest .hours .0)
           is-last = last-is cal s longest (R .is-longest)
 
-      lasting-start : (e : ℕ) → 1 ≤ e → e ≤ longest .hours → MayEnd p b (stretchOf cal s e) → Starting cal p b s (triple s e (p - hoursOf regular cal s e))
+      lasting-start : (e : ℕ) → 1 ≤ e → e ≤ longest .hours .0 → MayEnd p b (stretchOf cal s e) → Starting cal p b s (triple s e (p - hoursOf regular cal s e))
       lasting-start e l u m =
           let n = may-last cal p b s e (R .lasts e l u) in
           record {
@@ -206,27 +206,27 @@ module _ (cal : List ℕ) (p : ℕ) (b : Bounds) (s : ℕ) where
             is-valid = facts-valid cal p s e _ (tests-valid cal p b s symbols e l (omega (arith, R .longest-inside)) open-start m n);
           }
 
-      shortest-start : Starting cal p b s (triple s (shortest .hours) (p - hoursOf regular cal s (shortest .hours)))
-      shortest-start = lasting-start (shortest .hours) some-hours (omega (arith, longest-in)) shortest-ends
+      shortest-start : Starting cal p b s (triple s (shortest .hours .0) (p - hoursOf regular cal s (shortest .hours .0)))
+      shortest-start = lasting-start (shortest .hours .0) some-hours (omega (arith, longest-in)) shortest-ends
 
-      longest-start : Starting cal p b s (triple s (longest .last) (p - hoursOf regular cal s (longest .last)))
-      longest-start = lasting-start (longest .last) (omega (arith, some-hours)) longest-in longest-ends
+      longest-start : Starting cal p b s (triple s (longest .last .0) (p - hoursOf regular cal s (longest .last .0)))
+      longest-start = lasting-start (longest .last .0) (omega (arith, some-hours)) longest-in longest-ends
 
-      shortest-regular : shortest .counts .regular ≡ hoursOf regular cal s (shortest .hours)
+      shortest-regular : shortest .counts .regular ≡ hoursOf regular cal s (shortest .hours .0)
       shortest-regular = regulars cal s _ _ (counts-are cal s shortest (R .is-shortest))
 
-      longest-regular : longest .counts .regular ≡ hoursOf regular cal s (longest .last)
+      longest-regular : longest .counts .regular ≡ hoursOf regular cal s (longest .last .0)
       longest-regular =
           regulars cal s _ _ (counts-are cal s longest (R .is-longest))
-          ∙ sym (open-regular cal s (longest .hours))
+          ∙ sym (open-regular cal s (longest .hours .0))
           ∙ ap (hoursOf regular cal s) (sym (last-is cal s longest (R .is-longest)))
 
       -- what the window's code asks
       pub window-asks : length cal ≤ mostHours
-          → (s + shortest .hours ≤ mostHours) × (s + longest .last ≤ mostHours) × (shortest .counts .regular ≤ p) × (longest .counts .regular ≤ p)
+          → (s + shortest .hours .0 ≤ mostHours) × (s + longest .last .0 ≤ mostHours) × (shortest .counts .regular ≤ p) × (longest .counts .regular ≤ p)
       window-asks l =
-          let short = may-last cal p b s (shortest .hours) (R .lasts _ some-hours (omega (arith, longest-in))) in
-          let long = may-last cal p b s (longest .last) (R .lasts _ (omega (arith, some-hours)) longest-in) in
+          let short = may-last cal p b s (shortest .hours .0) (R .lasts _ some-hours (omega (arith, longest-in))) in
+          let long = may-last cal p b s (longest .last .0) (R .lasts _ (omega (arith, some-hours)) longest-in) in
           (omega (arith, R .longest-inside, longest-in), omega (arith, R .longest-inside, longest-in), omega (arith, shortest-regular, short .fewest), omega (arith, longest-regular, long .fewest))
 
       held : (t : Triple) → Starting cal p b s t → Held (windowFrom p s shortest longest) t
@@ -241,8 +241,8 @@ module _ (cal : List ℕ) (p : ℕ) (b : Bounds) (s : ℕ) where
                   latest = omega (arith, h .start);
                   shortest = low;
                   longest = high;
-                  fewest = omega (arith, v .works, longest-regular, hours-mono regular cal s (elapsedOf t) (longest .last) high);
-                  most = omega (arith, v .works, shortest-regular, hours-mono regular cal s (shortest .hours) (elapsedOf t) low);
+                  fewest = omega (arith, v .works, longest-regular, hours-mono regular cal s (elapsedOf t) (longest .last .0) high);
+                  most = omega (arith, v .works, shortest-regular, hours-mono regular cal s (shortest .hours .0) (elapsedOf t) low);
                 };
             ect = omega (arith, h .start);
             lct = omega (arith, h .start);
@@ -278,12 +278,12 @@ module _ (cal : List ℕ) (p : ℕ) (b : Bounds) (s e : ℕ) where
 
 -- what two stretches from s on hold before they are lengthened
 pub record Carried (cal : List ℕ) (p : ℕ) (b : Bounds) (s : ℕ) (shortest longest : Stretch) : Type 0 where
-  pub is-shortest : shortest ≡ stretchOf cal s (shortest .hours)
-  pub is-longest : longest ≡ stretchOf cal s (longest .hours)
-  pub shortest-inside : shortest .hours ≤ length cal - s
-  pub longest-inside : longest .hours ≤ length cal - s
-  pub none-before : (e : ℕ) → e < shortest .hours → mayEnd p b (stretchOf cal s e) ≡ false
-  pub lasts : (e : ℕ) → 1 ≤ e → e ≤ longest .hours → mayLast cal p b s e ≡ true
+  pub is-shortest : shortest ≡ stretchOf cal s (shortest .hours .0)
+  pub is-longest : longest ≡ stretchOf cal s (longest .hours .0)
+  pub shortest-inside : shortest .hours .0 ≤ length cal - s
+  pub longest-inside : longest .hours .0 ≤ length cal - s
+  pub none-before : (e : ℕ) → e < shortest .hours .0 → mayEnd p b (stretchOf cal s e) ≡ false
+  pub lasts : (e : ℕ) → 1 ≤ e → e ≤ longest .hours .0 → mayLast cal p b s e ≡ true
 
 module _ (cal : List ℕ) (p : ℕ) (b : Bounds) (s : ℕ) where
   pub carried-first : (shortest longest : Stretch) → shortest ≡ empty → longest ≡ empty → Carried cal p b s shortest longest
@@ -300,53 +300,53 @@ module _ (cal : List ℕ) (p : ℕ) (b : Bounds) (s : ℕ) where
 
   -- lengthened, the one is the shortest end and the other the longest time
   pub carried-on : s ≤ length cal → (shortest longest short long : Stretch) → Carried cal p b s shortest longest
-      → short ≡ stretchOf cal s (lengthened cal s (stopsAt cal p b s true) (shortest .hours))
-      → long ≡ stretchOf cal s (lengthened cal s (stopsAt cal p b s false) (longest .hours))
+      → short ≡ stretchOf cal s (lengthened cal s (stopsAt cal p b s true) (shortest .hours .0))
+      → long ≡ stretchOf cal s (lengthened cal s (stopsAt cal p b s false) (longest .hours .0))
       → Reaches cal p b s short long
   carried-on start shortest longest short long c is-short is-long =
       record {
         is-shortest = own-stretch cal s _ short is-short;
         is-longest = own-stretch cal s _ long is-long;
-        shortest-inside = omega (arith, short-hours, long-inside cal s (stopsAt cal p b s true) (shortest .hours) (omega (arith, c .shortest-inside)));
-        longest-inside = omega (arith, long-hours, long-inside cal s (stopsAt cal p b s false) (longest .hours) (omega (arith, c .longest-inside)));
-        none-before = λ e l. before e l (decLe (shortest .hours) e);
-        at-the-end = λ n. at-end n (decLe (length cal) (s + short .hours));
-        lasts = λ e l u. up-to e l u (decLe e (longest .hours));
+        shortest-inside = omega (arith, short-hours, long-inside cal s (stopsAt cal p b s true) (shortest .hours .0) (omega (arith, c .shortest-inside)));
+        longest-inside = omega (arith, long-hours, long-inside cal s (stopsAt cal p b s false) (longest .hours .0) (omega (arith, c .longest-inside)));
+        none-before = λ e l. before e l (decLe (shortest .hours .0) e);
+        at-the-end = λ n. at-end n (decLe (length cal) (s + short .hours .0));
+        lasts = λ e l u. up-to e l u (decLe e (longest .hours .0));
         none-after = past;
       }
     where
-      short-hours : short .hours ≡ lengthened cal s (stopsAt cal p b s true) (shortest .hours)
+      short-hours : short .hours .0 ≡ lengthened cal s (stopsAt cal p b s true) (shortest .hours .0)
       short-hours = own-hours cal s _ short is-short
 
-      long-hours : long .hours ≡ lengthened cal s (stopsAt cal p b s false) (longest .hours)
+      long-hours : long .hours .0 ≡ lengthened cal s (stopsAt cal p b s false) (longest .hours .0)
       long-hours = own-hours cal s _ long is-long
 
-      before : (e : ℕ) → e < short .hours → Dec (shortest .hours ≤ e) → mayEnd p b (stretchOf cal s e) ≡ false
-      before e l (yes h) = at-stop-shortest cal p b s e (long-none cal s (stopsAt cal p b s true) (shortest .hours) e h (omega (arith, short-hours)))
+      before : (e : ℕ) → e < short .hours .0 → Dec (shortest .hours .0 ≤ e) → mayEnd p b (stretchOf cal s e) ≡ false
+      before e l (yes h) = at-stop-shortest cal p b s e (long-none cal s (stopsAt cal p b s true) (shortest .hours .0) e h (omega (arith, short-hours)))
       before e l (no h) = c .none-before e (omega arith)
 
-      at-end : mayEnd p b short ≡ false → Dec (length cal ≤ s + short .hours) → length cal ≤ s + short .hours
+      at-end : mayEnd p b short ≡ false → Dec (length cal ≤ s + short .hours .0) → length cal ≤ s + short .hours .0
       at-end n (yes h) = h
       at-end n (no h) =
-          let stop = long-holds cal s (stopsAt cal p b s true) (shortest .hours) (omega (arith, short-hours)) in
+          let stop = long-holds cal s (stopsAt cal p b s true) (shortest .hours .0) (omega (arith, short-hours)) in
           true≢false (ap (mayEnd p b) is-short ∙ at-stop-shortest cal p b s _ stop) n
 
-      up-to : (e : ℕ) → 1 ≤ e → e ≤ long .hours → Dec (e ≤ longest .hours) → mayLast cal p b s e ≡ true
+      up-to : (e : ℕ) → 1 ≤ e → e ≤ long .hours .0 → Dec (e ≤ longest .hours .0) → mayLast cal p b s e ≡ true
       up-to e l u (yes h) = c .lasts e l h
       up-to e l u (no h) =
           let q : e - 1 + 1 ≡ e = omega arith in
-          let none = long-none cal s (stopsAt cal p b s false) (longest .hours) (e - 1) (omega arith) (omega (arith, long-hours)) in
+          let none = long-none cal s (stopsAt cal p b s false) (longest .hours .0) (e - 1) (omega arith) (omega (arith, long-hours)) in
           rw q at (at-stop-longest cal p b s (e - 1) false none)
 
-      past : (e : ℕ) → long .hours < e → s + e ≤ length cal → mayLast cal p b s e ≡ false
+      past : (e : ℕ) → long .hours .0 < e → s + e ≤ length cal → mayLast cal p b s e ≡ false
       past e l u =
-          let stop = long-holds cal s (stopsAt cal p b s false) (longest .hours) (omega (arith, long-hours)) in
-          let next : mayLast cal p b s (long .hours + 1) ≡ false = rw (← long-hours) at (at-stop-longest cal p b s _ true stop) in
-          untrue _ _ (λ h. lasts-may cal p b s (long .hours + 1) (last-shorter cal p b s e (long .hours + 1) (omega arith) (may-last cal p b s e h))) next
+          let stop = long-holds cal s (stopsAt cal p b s false) (longest .hours .0) (omega (arith, long-hours)) in
+          let next : mayLast cal p b s (long .hours .0 + 1) ≡ false = rw (← long-hours) at (at-stop-longest cal p b s _ true stop) in
+          untrue _ _ (λ h. lasts-may cal p b s (long .hours .0 + 1) (last-shorter cal p b s e (long .hours .0 + 1) (omega arith) (may-last cal p b s e h))) next
 
   -- and without their first hour they hold the same of the next start
   pub carried-next : 1 ≤ b .shortest .0 → (shortest longest short long : Stretch) → Reaches cal p b s shortest longest
-      → short ≡ stretchOf cal (s + 1) (shortest .hours - 1) → long ≡ stretchOf cal (s + 1) (longest .hours - 1)
+      → short ≡ stretchOf cal (s + 1) (shortest .hours .0 - 1) → long ≡ stretchOf cal (s + 1) (longest .hours .0 - 1)
       → Carried cal p b (s + 1) short long
   carried-next some shortest longest short long R is-short is-long =
       record {

@@ -10,8 +10,10 @@ use lib.ListN.{length, getD}
 use lib.Dec.{leb, eqb}
 use borrow.Author.Tests.{le-leb, lt-leb, leb-true, eqb-true, eq-eqb}
 use Rattle.units.specs.Choice.{_and_, if_then_else_}
+use Rattle.units.specs.Limits.{duration}
 use Rattle.units.specs.Sums.{oneIf, countWhere, sumTo}
 use Rattle.units.specs.declared.Bounds.{Bounds}
+use Rattle.units.specs.declared.Duration.{Duration}
 use Rattle.units.proofs.Choices.{and-both, and-left, and-right, not-left, not-right, if-true, if-false, if-case, if-all}
 use Rattle.plan.specs.Plan.{regular, closed, overtime}
 use Rattle.calendar.specs.declared.Counts.{Counts}
@@ -107,48 +109,50 @@ unfolding openLength hoursOf countWhere sumTo
 no-stretch cal s = refl
 
 -- a stretch of n hours, by its own hours
-pub own-hours : (cal : List ℕ) (s n : ℕ) (a : Stretch) → a ≡ stretchOf cal s n → a .hours ≡ n
-own-hours cal s n a e = ap (λ (x : Stretch). x .hours) e
+pub own-hours : (cal : List ℕ) (s n : ℕ) (a : Stretch) → a ≡ stretchOf cal s n → a .hours .0 ≡ n
+own-hours cal s n a e = ap (λ (x : Stretch). x .hours .0) e
 
-pub own-stretch : (cal : List ℕ) (s n : ℕ) (a : Stretch) → a ≡ stretchOf cal s n → a ≡ stretchOf cal s (a .hours)
+pub own-stretch : (cal : List ℕ) (s n : ℕ) (a : Stretch) → a ≡ stretchOf cal s n → a ≡ stretchOf cal s (a .hours .0)
 own-stretch cal s n a e = e ∙ ap (stretchOf cal s) (sym (own-hours cal s n a e))
 
 -- a stretch that is that of e hours from s on
-module _ (cal : List ℕ) (s : ℕ) (a : Stretch) (is : a ≡ stretchOf cal s (a .hours)) where
-  pub last-is : a .last ≡ openLength cal s (a .hours)
-  last-is = ap (λ (x : Stretch). x .last) is
+module _ (cal : List ℕ) (s : ℕ) (a : Stretch) (is : a ≡ stretchOf cal s (a .hours .0)) where
+  pub last-is : a .last .0 ≡ openLength cal s (a .hours .0)
+  last-is = ap (λ (x : Stretch). x .last .0) is
 
-  pub counts-are : a .counts ≡ countsOf cal s (a .hours)
+  pub counts-are : a .counts ≡ countsOf cal s (a .hours .0)
   counts-are = ap (λ (x : Stretch). x .counts) is
 
-  pub regular-le : a .counts .regular ≤ a .hours
-  regular-le = omega (arith, regulars cal s _ _ counts-are, hours-le regular cal s (a .hours))
+  pub regular-le : a .counts .regular ≤ a .hours .0
+  regular-le = omega (arith, regulars cal s _ _ counts-are, hours-le regular cal s (a .hours .0))
 
-  pub overtime-le : a .counts .overtime ≤ a .hours
-  overtime-le = omega (arith, overtimes cal s _ _ counts-are, hours-le overtime cal s (a .hours))
+  pub overtime-le : a .counts .overtime ≤ a .hours .0
+  overtime-le = omega (arith, overtimes cal s _ _ counts-are, hours-le overtime cal s (a .hours .0))
 
   -- with one hour more
-  next-last : (last : ℕ) → last ≡ (if eqb (getD cal (s + a .hours) 0) closed then a .last else a .hours + 1) → last ≡ openLength cal s (a .hours + 1)
+  next-last : (last : Duration) → last ≡ (if eqb (getD cal (s + a .hours .0) 0) closed then a .last else duration (a .hours .0 + 1))
+      → last ≡ duration (openLength cal s (a .hours .0 + 1))
   unfolding isKind
   next-last last q =
-      if-case (eqb (getD cal (s + a .hours) 0) closed) (a .last) (a .hours + 1) last (sym q)
-      (λ h e. sym e ∙ last-is ∙ sym (open-rests cal s (a .hours) h)) (λ h e. sym e ∙ sym (open-goes cal s (a .hours) h))
+      if-case (eqb (getD cal (s + a .hours .0) 0) closed) (a .last) (duration (a .hours .0 + 1)) last (sym q)
+      (λ h e. sym e ∙ ap duration (last-is ∙ sym (open-rests cal s (a .hours .0) h)))
+      (λ h e. sym e ∙ ap duration (sym (open-goes cal s (a .hours .0) h)))
 
-  pub stretch-next : (last : ℕ) → last ≡ (if eqb (getD cal (s + a .hours) 0) closed then a .last else a .hours + 1)
-      → (r : Counts) → r ≡ counted (a .counts) (getD cal (s + a .hours) 0)
-      → _≡_ {A = Stretch} (record { hours = a .hours + 1; last = last; counts = r }) (stretchOf cal s (a .hours + 1))
+  pub stretch-next : (last : Duration) → last ≡ (if eqb (getD cal (s + a .hours .0) 0) closed then a .last else duration (a .hours .0 + 1))
+      → (r : Counts) → r ≡ counted (a .counts) (getD cal (s + a .hours .0) 0)
+      → _≡_ {A = Stretch} (record { hours = duration (a .hours .0 + 1); last = last; counts = r }) (stretchOf cal s (a .hours .0 + 1))
   stretch-next last is-last r is-r =
-      λ j. record { hours = a .hours + 1; last = next-last last is-last j; counts = (is-r ∙ counts-more cal s _ _ counts-are) j }
+      λ j. record { hours = duration (a .hours .0 + 1); last = next-last last is-last j; counts = (is-r ∙ counts-more cal s _ _ counts-are) j }
 
   -- no hours are no hours from the next on
-  pub no-rest : a .hours < 1 → a ≡ stretchOf cal (s + 1) (a .hours - 1)
+  pub no-rest : a .hours .0 < 1 → a ≡ stretchOf cal (s + 1) (a .hours .0 - 1)
   no-rest l =
-      let none : a .hours ≡ 0 = omega arith in
-      let rest : 0 ≡ a .hours - 1 = omega arith in
+      let none : a .hours .0 ≡ 0 = omega arith in
+      let rest : 0 ≡ a .hours .0 - 1 = omega arith in
       is ∙ ap (stretchOf cal s) none ∙ sym (no-stretch cal s) ∙ no-stretch cal (s + 1) ∙ ap (stretchOf cal (s + 1)) rest
 
   -- the counts of the first hour are among those of a stretch of some hours; the stretch without it
-  module _ (k : ℕ) (some : a .hours ≡ k + 1) where
+  module _ (k : ℕ) (some : a .hours .0 ≡ k + 1) where
     regular-is : a .counts .regular ≡ hoursOf regular cal s (k + 1)
     regular-is = regulars cal s _ _ counts-are ∙ ap (hoursOf regular cal s) some
 
@@ -167,14 +171,17 @@ module _ (cal : List ℕ) (s : ℕ) (a : Stretch) (is : a ≡ stretchOf cal s (a
     unfolding isKind
     rest-overtime = omega (arith, overtime-is, hours-first overtime cal s k)
 
-    rest-last : a .last - 1 ≡ openLength cal (s + 1) k
+    rest-last : a .last .0 - 1 ≡ openLength cal (s + 1) k
     rest-last = ap (λ (x : ℕ). x - 1) (last-is ∙ ap (openLength cal s) some) ∙ sym (open-first cal s k)
 
-    pub stretch-rest : (n : ℕ) → n ≡ k → (last : ℕ) → last ≡ a .last - 1 → (r : Counts) → r ≡ uncounted (a .counts) (getD cal s 0)
-        → _≡_ {A = Stretch} (record { hours = n; last = last; counts = r }) (stretchOf cal (s + 1) k)
-    stretch-rest n is-n last is-last r is-r =
-        λ j. record { hours = is-n j; last = (is-last ∙ rest-last) j; counts = (is-r ∙ counts) j }
+    pub stretch-rest : (hours last : Duration) (r : Counts) → hours ≡ duration (a .hours .0 - 1) → last ≡ duration (a .last .0 - 1)
+        → r ≡ uncounted (a .counts) (getD cal s 0) → _≡_ {A = Stretch} (record { hours = hours; last = last; counts = r }) (stretchOf cal (s + 1) k)
+    stretch-rest hours last r is-hours is-last is-r =
+        λ j. record { hours = (is-hours ∙ ap duration less) j; last = (is-last ∙ ap duration rest-last) j; counts = (is-r ∙ counts) j }
       where
+        less : a .hours .0 - 1 ≡ k
+        less = omega arith
+
         counts : uncounted (a .counts) (getD cal s 0) ≡ countsOf cal (s + 1) k
         counts = λ j. record { regular = rest-regular j; overtime = rest-overtime j }
 
@@ -255,9 +262,9 @@ same-leb x y u v f g = go (decLe x y)
     go (no h) = lt-leb x y (omega arith) ∙ sym (untrue (leb u v) (leb x y) (λ q. le-leb x y (g (leb-true u v q))) (lt-leb x y (omega arith)))
 
 pub record MayEnd (p : ℕ) (b : Bounds) (a : Stretch) : Type 0 where
-  pub shortest : b .shortest .0 ≤ a .hours
+  pub shortest : b .shortest .0 ≤ a .hours .0
   pub works : p ≤ a .counts .regular + a .counts .overtime
-  pub goes : a .last ≡ a .hours
+  pub goes : a .last .0 ≡ a .hours .0
   pub most : p ≤ b .most .0 + a .counts .regular
 
 module _ (p : ℕ) (b : Bounds) (a : Stretch) where
@@ -278,7 +285,7 @@ module _ (p : ℕ) (b : Bounds) (a : Stretch) where
   ends-may m = and-both _ _ (le-leb _ _ (m .shortest)) (and-both _ _ (le-leb _ _ (m .works)) (and-both _ _ (eq-eqb _ _ (m .goes)) (le-leb _ _ (m .most))))
 
   -- where the other tests hold, the last one decides
-  pub ends-by-most : b .shortest .0 ≤ a .hours → p ≤ a .counts .regular + a .counts .overtime → a .last ≡ a .hours → a .counts .regular < p
+  pub ends-by-most : b .shortest .0 ≤ a .hours .0 → p ≤ a .counts .regular + a .counts .overtime → a .last .0 ≡ a .hours .0 → a .counts .regular < p
       → leb (p - a .counts .regular) (b .most .0) ≡ mayEnd p b a
   unfolding mayEnd _and_
   ends-by-most h₁ h₂ h₃ h₄ =
@@ -319,47 +326,47 @@ module _ (cal : List ℕ) (p : ℕ) (b : Bounds) (s e : ℕ) where
       }
 
 -- from a stretch of e - 1 hours
-module _ (cal : List ℕ) (s : ℕ) (a : Stretch) (is : a ≡ stretchOf cal s (a .hours)) where
-  pub work-next : (w : ℕ) → w ≡ oneIf (eqb (getD cal (s + a .hours) 0) regular) → a .counts .regular + w ≡ hoursOf regular cal s (a .hours + 1)
+module _ (cal : List ℕ) (s : ℕ) (a : Stretch) (is : a ≡ stretchOf cal s (a .hours .0)) where
+  pub work-next : (w : ℕ) → w ≡ oneIf (eqb (getD cal (s + a .hours .0) 0) regular) → a .counts .regular + w ≡ hoursOf regular cal s (a .hours .0 + 1)
   unfolding isKind
-  work-next w q = omega (arith, q, regulars cal s _ _ (counts-are cal s a is), hours-more regular cal s (a .hours))
+  work-next w q = omega (arith, q, regulars cal s _ _ (counts-are cal s a is), hours-more regular cal s (a .hours .0))
 
-  pub work-le : (w : ℕ) → w ≡ oneIf (eqb (getD cal (s + a .hours) 0) regular) → a .counts .regular + w ≤ a .hours + 1
-  work-le w q = omega (arith, work-next w q, hours-le regular cal s (a .hours + 1))
+  pub work-le : (w : ℕ) → w ≡ oneIf (eqb (getD cal (s + a .hours .0) 0) regular) → a .counts .regular + w ≤ a .hours .0 + 1
+  work-le w q = omega (arith, work-next w q, hours-le regular cal s (a .hours .0 + 1))
 
-module _ (cal : List ℕ) (p : ℕ) (b : Bounds) (s : ℕ) (a : Stretch) (is : a ≡ stretchOf cal s (a .hours)) where
-  pub too-long : b .longest .0 ≤ a .hours → mayLast cal p b s (a .hours + 1) ≡ false
+module _ (cal : List ℕ) (p : ℕ) (b : Bounds) (s : ℕ) (a : Stretch) (is : a ≡ stretchOf cal s (a .hours .0)) where
+  pub too-long : b .longest .0 ≤ a .hours .0 → mayLast cal p b s (a .hours .0 + 1) ≡ false
   unfolding mayLast
-  too-long l = not-left _ _ (lt-leb (a .hours + 1) (b .longest .0) (omega arith))
+  too-long l = not-left _ _ (lt-leb (a .hours .0 + 1) (b .longest .0) (omega arith))
 
-  pub too-worked : p < b .fewest .0 + hoursOf regular cal s (a .hours + 1) → mayLast cal p b s (a .hours + 1) ≡ false
+  pub too-worked : p < b .fewest .0 + hoursOf regular cal s (a .hours .0 + 1) → mayLast cal p b s (a .hours .0 + 1) ≡ false
   unfolding mayLast
   too-worked l = not-right _ _ (not-left _ _ (lt-leb _ _ l))
 
-  module _ (long : a .hours < b .longest .0) (few : b .fewest .0 + hoursOf regular cal s (a .hours + 1) ≤ p) where
-    pub first-works : a .hours < 1 → leb 1 p ≡ mayLast cal p b s (a .hours + 1)
-    first-works l = lasts-by-work cal p b s (a .hours + 1) 1 (one (omega arith)) (omega arith) few
+  module _ (long : a .hours .0 < b .longest .0) (few : b .fewest .0 + hoursOf regular cal s (a .hours .0 + 1) ≤ p) where
+    pub first-works : a .hours .0 < 1 → leb 1 p ≡ mayLast cal p b s (a .hours .0 + 1)
+    first-works l = lasts-by-work cal p b s (a .hours .0 + 1) 1 (one (omega arith)) (omega arith) few
       where
-        one : a .hours ≡ 0 → 1 ≡ hoursOf regular cal (s + 1) (a .hours + 1 - 2) + min (a .hours + 1) 2
+        one : a .hours .0 ≡ 0 → 1 ≡ hoursOf regular cal (s + 1) (a .hours .0 + 1 - 2) + min (a .hours .0 + 1) 2
         one q =
-            let m : a .hours + 1 - 2 ≡ 0 = omega arith in
+            let m : a .hours .0 + 1 - 2 ≡ 0 = omega arith in
             let none = ap (hoursOf regular cal (s + 1)) m in
             omega (arith, none, hours-none regular cal (s + 1))
 
-    pub ends-work : (k : ℕ) → a .hours ≡ k + 1 → (w : ℕ) → w ≡ oneIf (eqb (getD cal s 0) regular)
-        → leb (a .counts .regular - w + 2) p ≡ mayLast cal p b s (a .hours + 1)
-    ends-work k some w is-w = lasts-by-work cal p b s (a .hours + 1) (a .counts .regular - w + 2) two (omega arith) few
+    pub ends-work : (k : ℕ) → a .hours .0 ≡ k + 1 → (w : ℕ) → w ≡ oneIf (eqb (getD cal s 0) regular)
+        → leb (a .counts .regular - w + 2) p ≡ mayLast cal p b s (a .hours .0 + 1)
+    ends-work k some w is-w = lasts-by-work cal p b s (a .hours .0 + 1) (a .counts .regular - w + 2) two (omega arith) few
       where
-        two : a .counts .regular - w + 2 ≡ hoursOf regular cal (s + 1) (a .hours + 1 - 2) + min (a .hours + 1) 2
+        two : a .counts .regular - w + 2 ≡ hoursOf regular cal (s + 1) (a .hours .0 + 1 - 2) + min (a .hours .0 + 1) 2
         two =
-            let m : a .hours + 1 - 2 ≡ k = omega arith in
+            let m : a .hours .0 + 1 - 2 ≡ k = omega arith in
             let between = ap (hoursOf regular cal (s + 1)) m in
             omega (arith, is-w, between, rest-regular cal s a is k some, first-counted cal s a is k some .0)
 
 -- ---- where a stretch stops
 
 module _ (cal : List ℕ) (p : ℕ) (b : Bounds) (s : ℕ) (shortest : Bool) where
-  pub stops-at-end : (a : Stretch) → a ≡ stretchOf cal s (a .hours) → shortest ≡ true → mayEnd p b a ≡ stopsAt cal p b s shortest (a .hours)
+  pub stops-at-end : (a : Stretch) → a ≡ stretchOf cal s (a .hours .0) → shortest ≡ true → mayEnd p b a ≡ stopsAt cal p b s shortest (a .hours .0)
   unfolding stopsAt
   stops-at-end a is short = rw short (ap (mayEnd p b) is)
 

@@ -46,18 +46,18 @@ openLength cal s (suc e) = if isKind closed cal (s + e) then openLength cal s e 
 
 -- the stretch of e hours from s on; one of no hours
 abbrev pub stretchOf : List ℕ → ℕ → ℕ → Stretch
-stretchOf cal s e = record { hours = e; last = openLength cal s e; counts = countsOf cal s e }
+stretchOf cal s e = record { hours = duration e; last = duration (openLength cal s e); counts = countsOf cal s e }
 
 abbrev pub empty : Stretch
-empty = record { hours = 0; last = 0; counts = record { regular = 0; overtime = 0 } }
+empty = record { hours = duration 0; last = duration 0; counts = record { regular = 0; overtime = 0 } }
 
 -- A task with the work time p may end with a stretch: by the tests of validity and of the box that a longer stretch passes too, and since its
 -- last hour is open.
 unfoldable pub mayEnd : ℕ → Bounds → Stretch → Bool
 mayEnd p b a =
-    leb (b .shortest .0) (a .hours)
+    leb (b .shortest .0) (a .hours .0)
     and leb p (a .counts .regular + a .counts .overtime)
-    and eqb (a .last) (a .hours)
+    and eqb (a .last .0) (a .hours .0)
     and leb p (b .most .0 + a .counts .regular)
 
 -- A task that starts at s may last e hours: by the tests that fewer hours pass too. The first and the last hour are worked, besides the regular
@@ -84,14 +84,14 @@ lengthened cal s test e = firstFrom test e (length cal - (s + e))
 
 -- What is known of two stretches from s on: no shorter one than the first may be an end, and exactly up to the second's hours a task may last.
 pub record Reaches (cal : List ℕ) (p : ℕ) (b : Bounds) (s : ℕ) (shortest longest : Stretch) : Type 0 where
-  pub is-shortest : shortest ≡ stretchOf cal s (shortest .hours)
-  pub is-longest : longest ≡ stretchOf cal s (longest .hours)
-  pub shortest-inside : s + shortest .hours ≤ length cal
-  pub longest-inside : s + longest .hours ≤ length cal
-  pub none-before : (e : ℕ) → e < shortest .hours → mayEnd p b (stretchOf cal s e) ≡ false
-  pub at-the-end : mayEnd p b shortest ≡ false → length cal ≤ s + shortest .hours
-  pub lasts : (e : ℕ) → 1 ≤ e → e ≤ longest .hours → mayLast cal p b s e ≡ true
-  pub none-after : (e : ℕ) → longest .hours < e → s + e ≤ length cal → mayLast cal p b s e ≡ false
+  pub is-shortest : shortest ≡ stretchOf cal s (shortest .hours .0)
+  pub is-longest : longest ≡ stretchOf cal s (longest .hours .0)
+  pub shortest-inside : s + shortest .hours .0 ≤ length cal
+  pub longest-inside : s + longest .hours .0 ≤ length cal
+  pub none-before : (e : ℕ) → e < shortest .hours .0 → mayEnd p b (stretchOf cal s e) ≡ false
+  pub at-the-end : mayEnd p b shortest ≡ false → length cal ≤ s + shortest .hours .0
+  pub lasts : (e : ℕ) → 1 ≤ e → e ≤ longest .hours .0 → mayLast cal p b s e ≡ true
+  pub none-after : (e : ℕ) → longest .hours .0 < e → s + e ≤ length cal → mayLast cal p b s e ≡ false
 
 -- the window of the triples from s on, from the shortest to the longest: the overtime falls with the length
 abbrev pub windowFrom : ℕ → ℕ → Stretch → Stretch → Window
@@ -101,13 +101,13 @@ windowFrom p s shortest longest =
           record {
             earliest = hour s;
             latest = hour s;
-            shortest = duration (shortest .hours);
-            longest = duration (longest .last);
+            shortest = shortest .hours;
+            longest = longest .last;
             fewest = duration (p - longest .counts .regular);
             most = duration (p - shortest .counts .regular);
           };
-      ect = hour (s + shortest .hours);
-      lct = hour (s + longest .last);
+      ect = hour (s + shortest .hours .0);
+      lct = hour (s + longest .last .0);
     }
 
 -- the window of two windows' triples, and an answer with one window's triples more

@@ -54,8 +54,8 @@ struct Counts {
 
 // So many hours from one start on, how many up to the last open one, and the counts.
 struct Stretch {
-    hours: u16,
-    last: u16,
+    hours: Duration,
+    last: Duration,
     counts: Counts,
 }
 
@@ -165,7 +165,7 @@ fn with_start(calendar: &[u8], work_time: Duration, b: Bounds, s: Hour, shortest
     if calendar[s.0 as usize] == b'c' {
         return fit;
     }
-    if longest.last < shortest.hours {
+    if longest.last.0 < shortest.hours.0 {
         return fit;
     }
     if !reach::may_end(work_time, b, shortest) {

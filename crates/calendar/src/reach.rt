@@ -11,15 +11,16 @@ ghost use Prim.Native.Nat.{_+_, _-_, _≤_, _<_};
 ghost use lib.ListN.{length};
 ghost use lib.Dec.{eqb};
 ghost use Rattle.units.specs.Choice.{if_then_else_};
-ghost use Rattle.units.specs.Limits.{mostHours};
+ghost use Rattle.units.specs.Limits.{mostHours, duration};
 ghost use Rattle.units.specs.Sums.{oneIf};
 ghost use Rattle.plan.specs.Plan.{regular, closed, overtime};
 ghost use Rattle.calendar.specs.Scan.{uncounted, empty, stretchOf, mayEnd, mayLast, stopsAt, lengthened};
 
-fn one_less(n: u16) -> u16
-    ensures { λ r. ⌜ r ≡ n - 1 ⌝ }
+// One hour less, where there is one.
+fn one_less(n: Duration) -> Duration
+    ensures { λ r. ⌜ r ≡ duration (n .0 - 1) ⌝ }
 {
-    if n < 1 { 0 } else { n - 1 }
+    if n.0 < 1 { n } else { Duration(n.0 - 1) }
 }
 
 // The counts with one hour less, which is among those counted.
@@ -38,8 +39,8 @@ pub fn no_hours() -> Stretch
     ensures { λ r. ⌜ r ≡ empty ⌝ }
 {
     Stretch {
-        hours: 0,
-        last: 0,
+        hours: Duration(0),
+        last: Duration(0),
         counts: Counts {
             regular: 0,
             overtime: 0,
@@ -48,23 +49,23 @@ pub fn no_hours() -> Stretch
 }
 
 // The hours up to the last open one, with one hour more.
-fn last_open(a: Stretch, symbol: u8) -> u16
-    requires { ⌜ a .hours < mostHours ⌝ }
-    ensures { λ r. ⌜ r ≡ (if eqb symbol closed then a .last else a .hours + 1) ⌝ }
+fn last_open(a: Stretch, symbol: u8) -> Duration
+    requires { ⌜ a .hours .0 < mostHours ⌝ }
+    ensures { λ r. ⌜ r ≡ (if eqb symbol closed then a .last else duration (a .hours .0 + 1)) ⌝ }
 {
-    if symbol == b'c' { a.last } else { a.hours + 1 }
+    if symbol == b'c' { a.last } else { Duration(a.hours.0 + 1) }
 }
 
 // The stretch with one hour more at its end.
 fn longer(calendar: &[u8], s: Hour, a: Stretch) -> Stretch
-    requires { ⌜ (s .0 + a .hours < length (now calendar))
+    requires { ⌜ (s .0 + a .hours .0 < length (now calendar))
         × (length (now calendar) ≤ mostHours)
-        × (a ≡ stretchOf (now calendar) (s .0) (a .hours)) ⌝ }
-    ensures { λ r. ⌜ r ≡ stretchOf (now (calendar .entry)) (s .0) (a .hours + 1) ⌝ }
+        × (a ≡ stretchOf (now calendar) (s .0) (a .hours .0)) ⌝ }
+    ensures { λ r. ⌜ r ≡ stretchOf (now (calendar .entry)) (s .0) (a .hours .0 + 1) ⌝ }
 {
-    let symbol = calendar[(s.0 as usize) + (a.hours as usize)];
+    let symbol = calendar[(s.0 as usize) + (a.hours.0 as usize)];
     Stretch {
-        hours: a.hours + 1,
+        hours: Duration(a.hours.0 + 1),
         last: last_open(a, symbol),
         counts: with_hour(a.counts, symbol),
     }
@@ -73,15 +74,15 @@ fn longer(calendar: &[u8], s: Hour, a: Stretch) -> Stretch
 // The stretch without its first hour: from the next hour on, to the same end.
 pub fn without_first(calendar: &[u8], s: Hour, a: Stretch) -> Stretch
     requires { ⌜ (s .0 < length (now calendar))
-        × (a ≡ stretchOf (now calendar) (s .0) (a .hours)) ⌝ }
-    ensures { λ r. ⌜ r ≡ stretchOf (now (calendar .entry)) (s .0 + 1) (a .hours - 1) ⌝ }
+        × (a ≡ stretchOf (now calendar) (s .0) (a .hours .0)) ⌝ }
+    ensures { λ r. ⌜ r ≡ stretchOf (now (calendar .entry)) (s .0 + 1) (a .hours .0 - 1) ⌝ }
 {
-    if a.hours < 1 {
+    if a.hours.0 < 1 {
         return a;
     }
     let symbol = calendar[s.0 as usize];
     Stretch {
-        hours: a.hours - 1,
+        hours: one_less(a.hours),
         last: one_less(a.last),
         counts: without_hour(a.counts, symbol),
     }
@@ -94,13 +95,13 @@ pub fn may_end(work_time: Duration, b: Bounds, a: Stretch) -> bool
 {
     let p = work_time.0;
     let worked = a.counts.regular;
-    if a.hours < b.shortest.0 {
+    if a.hours.0 < b.shortest.0 {
         return false;
     }
     if worked + a.counts.overtime < p {
         return false;
     }
-    if a.last != a.hours {
+    if a.last.0 != a.hours.0 {
         return false;
     }
     if p <= worked {
@@ -111,24 +112,25 @@ pub fn may_end(work_time: Duration, b: Bounds, a: Stretch) -> bool
 
 // Whether a task may last one hour more than the stretch, by the tests that hold of a shorter stretch too.
 fn may_last(calendar: &[u8], work_time: Duration, b: Bounds, s: Hour, a: Stretch) -> bool
-    requires { ⌜ (s .0 + a .hours < length (now calendar))
+    requires { ⌜ (s .0 + a .hours .0 < length (now calendar))
         × (length (now calendar) ≤ mostHours)
-        × (a ≡ stretchOf (now calendar) (s .0) (a .hours)) ⌝ }
-    ensures { λ r. ⌜ r ≡ mayLast (now (calendar .entry)) («work_time» .0) b (s .0) (a .hours + 1) ⌝ }
+        × (a ≡ stretchOf (now calendar) (s .0) (a .hours .0)) ⌝ }
+    ensures { λ r. ⌜ r ≡ mayLast (now (calendar .entry)) («work_time» .0) b (s .0) (a .hours .0 + 1) ⌝ }
 {
     let p = work_time.0;
     let first = s.0 as usize;
-    if b.longest.0 <= a.hours {
+    if b.longest.0 <= a.hours.0 {
         return false;
     }
-    let worked = a.counts.regular + one_if(calendar[first + (a.hours as usize)], b'r');
+    let worked = a.counts.regular + one_if(calendar[first + (a.hours.0 as usize)], b'r');
     if p < worked {
         return false;
     }
     if p - worked < b.fewest.0 {
         return false;
     }
-    if a.hours < 1 {
+    // The first and the last hour are worked, besides the regular hours between them.
+    if a.hours.0 < 1 {
         return 1 <= p;
     }
     a.counts.regular - one_if(calendar[first], b'r') + 2 <= p
@@ -136,10 +138,10 @@ fn may_last(calendar: &[u8], work_time: Duration, b: Bounds, s: Hour, a: Stretch
 
 // Whether to lengthen the stretch no more: for the shortest, since a task may end with it; for the longest, since no task may last longer.
 fn stops(calendar: &[u8], work_time: Duration, b: Bounds, s: Hour, a: Stretch, shortest: bool) -> bool
-    requires { ⌜ (s .0 + a .hours < length (now calendar))
+    requires { ⌜ (s .0 + a .hours .0 < length (now calendar))
         × (length (now calendar) ≤ mostHours)
-        × (a ≡ stretchOf (now calendar) (s .0) (a .hours)) ⌝ }
-    ensures { λ r. ⌜ r ≡ stopsAt (now (calendar .entry)) («work_time» .0) b (s .0) shortest (a .hours) ⌝ }
+        × (a ≡ stretchOf (now calendar) (s .0) (a .hours .0)) ⌝ }
+    ensures { λ r. ⌜ r ≡ stopsAt (now (calendar .entry)) («work_time» .0) b (s .0) shortest (a .hours .0) ⌝ }
 {
     if shortest {
         return may_end(work_time, b, a);
@@ -149,15 +151,15 @@ fn stops(calendar: &[u8], work_time: Duration, b: Bounds, s: Hour, a: Stretch, s
 
 // The stretch, lengthened to where it stops, or to the calendar's end.
 pub fn lengthen(calendar: &[u8], work_time: Duration, b: Bounds, s: Hour, a: Stretch, shortest: bool) -> Stretch
-    requires { ⌜ (s .0 + a .hours ≤ length (now calendar))
+    requires { ⌜ (s .0 + a .hours .0 ≤ length (now calendar))
         × (length (now calendar) ≤ mostHours)
-        × (a ≡ stretchOf (now calendar) (s .0) (a .hours)) ⌝ }
+        × (a ≡ stretchOf (now calendar) (s .0) (a .hours .0)) ⌝ }
     ensures { λ r. ⌜ r ≡ stretchOf (now (calendar .entry)) (s .0)
-        (lengthened (now (calendar .entry)) (s .0) (stopsAt (now (calendar .entry)) («work_time» .0) b (s .0) shortest) (a .hours)) ⌝ }
+        (lengthened (now (calendar .entry)) (s .0) (stopsAt (now (calendar .entry)) («work_time» .0) b (s .0) shortest) (a .hours .0)) ⌝ }
 {
     let room = calendar.len() - (s.0 as usize);
     let mut at = a;
-    while (at.hours as usize) < room {
+    while (at.hours.0 as usize) < room {
         if stops(calendar, work_time, b, s, at, shortest) {
             break;
         }

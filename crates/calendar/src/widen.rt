@@ -25,14 +25,14 @@ fn greater(a: u16, b: u16) -> u16
 // The window of the triples that start at s and last from the shorter stretch to the last open hour of the longer: the overtime falls with the
 // length.
 pub fn window_from(work_time: Duration, s: Hour, shortest: Stretch, longest: Stretch) -> Window
-    requires { ⌜ (s .0 + shortest .hours ≤ mostHours)
-        × (s .0 + longest .last ≤ mostHours)
+    requires { ⌜ (s .0 + shortest .hours .0 ≤ mostHours)
+        × (s .0 + longest .last .0 ≤ mostHours)
         × (shortest .counts .regular ≤ «work_time» .0)
         × (longest .counts .regular ≤ «work_time» .0) ⌝ }
     ensures { λ r. ⌜ r ≡ windowFrom («work_time» .0) (s .0) shortest longest ⌝ }
 {
-    let least = Duration(shortest.hours);
-    let greatest = Duration(longest.last);
+    let least = shortest.hours;
+    let greatest = longest.last;
     Window {
         bounds: Bounds {
             earliest: s,

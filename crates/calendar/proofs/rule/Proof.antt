@@ -45,8 +45,8 @@ without-first-requires c κs =
 
 without-first-requires-2 : tie.Need-without-first-requires-2 Inv-loop μ-loop
 without-first-requires-2 c κs =
-    let R = carried-on _ _ _ _ (omega arith) _ _ _ _ (c .before .before .before .before .before .loop .inv .0) (c .before .before .before .lengthen .ensures) (c .before .before .lengthen2 .ensures) in
-    (omega arith, R .is-longest)
+    let R = carried-on _ _ _ _ (omega (arith, c .before .before .before .before .before .before .before .before .before .pre .1, c .before .before .before .before .loop-test .taken)) _ _ _ _ (c .before .before .before .before .before .loop .inv .0) (c .before .before .before .lengthen .ensures) (c .before .before .lengthen2 .ensures) in
+    (omega (arith, c .before .before .before .before .before .before .before .before .before .pre .1, c .before .before .before .before .loop-test .taken), R .is-longest)
 
 add-s : tie.Need-add-s Inv-loop μ-loop
 add-s c = omega (arith, c .before .before .before .before .before .before .before .before .before .before .pre, c .before .before .before .before .before .loop-test .taken)

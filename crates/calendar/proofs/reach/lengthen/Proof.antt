@@ -11,13 +11,13 @@ use Rattle.calendar.proofs.reach.lengthen.Tie as tie
 -- what is found is a stretch from s on, and is lengthened to where the stretch lent is
 abbrev Inv-loop : tie.InvT-loop
 Inv-loop calendar work-time b s shortest room at₀ at =
-    (s .0 + at .hours ≤ length calendar)
-    × (at ≡ stretchOf calendar (s .0) (at .hours))
-    × (lengthened calendar (s .0) (stopsAt calendar (work-time .0) b (s .0) shortest) (at .hours)
-    ≡ lengthened calendar (s .0) (stopsAt calendar (work-time .0) b (s .0) shortest) (at₀ .hours))
+    (s .0 + at .hours .0 ≤ length calendar)
+    × (at ≡ stretchOf calendar (s .0) (at .hours .0))
+    × (lengthened calendar (s .0) (stopsAt calendar (work-time .0) b (s .0) shortest) (at .hours .0)
+    ≡ lengthened calendar (s .0) (stopsAt calendar (work-time .0) b (s .0) shortest) (at₀ .hours .0))
 
 abbrev μ-loop : tie.MeasureT-loop
-μ-loop calendar work-time b s shortest room at₀ at = room - at .hours
+μ-loop calendar work-time b s shortest room at₀ at = room - at .hours .0
 
 cast-room : tie.Need-cast-room Inv-loop μ-loop
 cast-room c = search needs

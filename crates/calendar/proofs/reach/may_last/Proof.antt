@@ -43,13 +43,13 @@ one-if-requires-2 : tie.Need-one-if-requires-2
 one-if-requires-2 c κs = search needs
 
 sub-result : tie.Need-sub-result
-sub-result c = omega (arith, c .before .one-if2 .ensures, first-counted _ _ _ (c .before .before .before .before .before .before .before .before .before .before .before .before .before .before .before .before .before .pre .2) (c .before .before .before .before .before .before .before .before .before .before .before .before .before .before .before .before .before .args .a .hours - 1) (omega arith) .0)
+sub-result c = omega (arith, c .before .one-if2 .ensures, first-counted _ _ _ (c .before .before .before .before .before .before .before .before .before .before .before .before .before .before .before .before .before .pre .2) (c .before .before .before .before .before .before .before .before .before .before .before .before .before .before .before .before .before .args .a .hours .0 - 1) (omega arith) .0)
 
 add-result : tie.Need-add-result
 add-result c = omega (arith, regular-le _ _ _ (c .before .before .before .before .before .before .before .before .before .before .before .before .before .before .before .before .before .pre .2))
 
 returns-5 : tie.Need-returns-5
-returns-5 c = ends-work _ _ _ _ _ (c .before .before .before .before .before .before .before .before .before .before .before .before .before .before .before .before .before .pre .2) (omega arith) (omega (arith, work-next _ _ _ (c .before .before .before .before .before .before .before .before .before .before .before .before .before .before .before .before .before .pre .2) _ (c .before .before .before .before .before .before .before .before .before .one-if .ensures))) (c .before .before .before .before .before .before .before .before .before .before .before .before .before .before .before .before .before .args .a .hours - 1) (omega arith) _ (c .before .one-if2 .ensures)
+returns-5 c = ends-work _ _ _ _ _ (c .before .before .before .before .before .before .before .before .before .before .before .before .before .before .before .before .before .pre .2) (omega arith) (omega (arith, work-next _ _ _ (c .before .before .before .before .before .before .before .before .before .before .before .before .before .before .before .before .before .pre .2) _ (c .before .before .before .before .before .before .before .before .before .one-if .ensures))) (c .before .before .before .before .before .before .before .before .before .before .before .before .before .before .before .before .before .args .a .hours .0 - 1) (omega arith) _ (c .before .one-if2 .ensures)
 
 pub may-last-spec : {M : Type 1} → statement M
 may-last-spec =
