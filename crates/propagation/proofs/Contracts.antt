@@ -67,7 +67,7 @@ module _ (P : Plan) (boxes : List ℕ) (f : Fault) where
 
 -- ---- the log checker
 
-refused≢answered : {A C : Type 0} {f : Fault} {a : A} → refused f ≡ answered a → C
+pub refused≢answered : {A C : Type 0} {f : Fault} {a : A} → refused f ≡ answered a → C
 refused≢answered e = absurd (let z : _≡_ {A = ℕ} 0 1 = cc in omega arith)
 
 module _ (P : Plan) (boxes kinds tasks hours : List ℕ) where
@@ -153,19 +153,19 @@ steps-shift a b c ks ts hs k zero = refl
 steps-shift a b c ks ts hs k (suc n) = rw (steps-shift a b c ks ts hs (k + 1) n, add-one k)
 
 -- the steps in the cells that a log was written to
-steps-written : (log : List Step) (ks ts hs : List ℕ)
+pub steps-written : (log : List Step) (ks ts hs : List ℕ)
     → stepsFrom (map (λ x. x .kind) log ++ ks) (map (λ x. x .task) log ++ ts) (map (λ x. x .hour) log ++ hs) 0 (length log) ≡ log
 unfolding stepsFrom stepAt
 steps-written [] ks ts hs = refl
 steps-written (x ∷ xs) ks ts hs = ap (λ (l : List Step). x ∷ l) (steps-shift _ _ _ _ _ _ 0 (length xs) ∙ steps-written xs ks ts hs)
 
-refused≢ending : {C : Type 0} (f : Fault) (e : Ending) (n : ℕ) → refusedBy f ≡ endingAnswer e n → C
+pub refused≢ending : {C : Type 0} (f : Fault) (e : Ending) (n : ℕ) → refusedBy f ≡ endingAnswer e n → C
 unfolding endingAnswer
 refused≢ending f settled n q = absurd (let z : _≡_ {A = ℕ} 0 1 = cc in omega arith)
 refused≢ending f impossible n q = absurd (let z : _≡_ {A = ℕ} 0 1 = cc in omega arith)
 refused≢ending f noRoom n q = absurd (let z : _≡_ {A = ℕ} 0 1 = cc in omega arith)
 
-same-ending : (d e : Ending) (m n : ℕ) → endingAnswer d m ≡ endingAnswer e n → (d ≡ e) × (m ≡ n)
+pub same-ending : (d e : Ending) (m n : ℕ) → endingAnswer d m ≡ endingAnswer e n → (d ≡ e) × (m ≡ n)
 unfolding endingAnswer
 same-ending settled settled m n q = (refl, cc)
 same-ending settled impossible m n q = absurd (let z : _≡_ {A = ℕ} 0 1 = cc in omega arith)

@@ -138,7 +138,7 @@ module _ (P : Plan) (C : List ℕ → ℕ → Run → Type 0)
     (stop : (boxes : List ℕ) (room : ℕ) (x : Step) → next P boxes ≡ some (stops x) → C boxes (suc room) (ended impossible (x ∷ []) boxes))
     (move : (boxes left : List ℕ) (room : ℕ) (x : Step) (r : Run) → next P boxes ≡ some (moves x left) → C left room r
     → C boxes (suc room) (after x r)) where
-  run-all : (room : ℕ) (boxes : List ℕ) → C boxes room (run P boxes room)
+  pub run-all : (room : ℕ) (boxes : List ℕ) → C boxes room (run P boxes room)
   run-all zero boxes = go (next P boxes) refl
     where
       go : (o : Option Admitted) → next P boxes ≡ o → C boxes 0 (run P boxes 0)

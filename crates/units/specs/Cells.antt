@@ -4,5 +4,5 @@ use Prim.Native.Nat.{ℕ}
 use lib.ListN.{length, drop}
 
 -- the cells from the first on become xs; those past them are untouched
-unfoldable pub written : List ℕ → List ℕ → List ℕ
+unfoldable pub written : {A : Type 0} → List A → List A → List A
 written xs cells = xs ++ drop (length xs) cells
