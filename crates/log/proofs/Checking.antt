@@ -1,0 +1,361 @@
+-- Laws of the log checker in parts: the core's answer for a part as the log's, and the loop over the parts. Assumes nothing.
+use mathlib.Core.Path.{_≡_, refl, sym, ap, _∙_, subst}
+use mathlib.Core.Bool.{Bool, true, false, false≢true}
+use mathlib.Core.Option.{Option, none, some}
+use mathlib.Core.List.{List, _++_}
+use Prim.Native.Nat.{ℕ, suc, _+_, _-_, _≤_, _<_, min}
+use native.Mathlib.Nat.{add-zero}
+use native.Mathlib.Omega.{arith}
+use lib.ListN.{length, take, drop, take-append-drop, length-take, length-drop}
+use lib.Seq.{length-take-le, take-all, drop-drop}
+use borrow.Author.Tests.{leb-true, leb-false, eq-eqb}
+use Rattle.units.specs.Choice.{_and_, onOption, _orElse_}
+use Rattle.units.proofs.Choices.{none≢some, and-both}
+use Rattle.plan.specs.Plan.{Plan}
+use Rattle.plan.specs.Refusals.{Fault, fault, unless, Answer, refused, answered, answerUnless, faultOf}
+use Rattle.plan.specs.Faults.{oneForEachTask, planFault, firstFault}
+use Rattle.plan.specs.declared.Refusal.{Refusal}
+use Rattle.plan.specs.declared.Refusal.the-variants.{Malformed, Hours, Calendars, Symbol, Tasks, NoCalendar, WorkTime, TaskHeight, TaskBounds, Capacity, UnknownStep, NotAdmitted, AfterImpossible, OutsideBounds, NotValid, OverCapacity, MemorySize}
+use Rattle.propagation.specs.declared.Step.{Step}
+use Rattle.propagation.specs.declared.LogChecked.{LogChecked}
+use Rattle.propagation.specs.declared.LogChecked.the-variants as checked
+use Rattle.propagation.specs.Log.{LogEnd, logEnd, replayFrom, replay}
+use Rattle.propagation.specs.Entry.{stepsFrom, oneForEachStep, entryFault, Accepted, checkLog, checkAnswer, logAnswer}
+use Rattle.propagation.proofs.Contracts.{refused≢answered}
+use Rattle.log.specs.declared.part.Part.{Part}
+use Rattle.log.specs.declared.part.PartChecked.{PartChecked}
+use Rattle.log.specs.Entry.{checkSteps}
+use Rattle.log.specs.Parts.{partSize, partSteps, Sized, placed, answerFrom, reached, checkedPart, checkFrom, CheckedAs}
+use Rattle.log.proofs.Copying.{part-length, steps-lent}
+use Rattle.log.proofs.Passing.{replay-passes}
+use Rattle.log.proofs.Appending.{replay-append, goes-on, ends-there, later, shifted, replay-shift, Reaches, replay-reaches}
+
+-- ---- an answer and the end that it is of
+
+-- what a refusal and an acceptance say of the end
+pub refused-end : (e : LogEnd) (f : Fault) → refused f ≡ checkAnswer e → e .refusal ≡ some f
+unfolding checkAnswer answerUnless
+refused-end e f q = go (e .refusal) q
+  where
+    go : (o : Option Fault) → _≡_ {A = Answer Accepted} (refused f) (answerUnless o (record { steps = e .steps; impossible = e .impossible })) → o ≡ some f
+    go none r = refused≢answered r
+    go (some g) r = cc
+
+pub accepted-end : (e : LogEnd) (k : ℕ) (said : Bool) → answered (record { steps = k; impossible = said }) ≡ checkAnswer e
+    → (e .refusal ≡ none) × (k ≡ e .steps) × (said ≡ e .impossible)
+unfolding checkAnswer answerUnless
+accepted-end e k said q = go (e .refusal) q
+  where
+    go : (o : Option Fault)
+        → _≡_ {A = Answer Accepted} (answered (record { steps = k; impossible = said })) (answerUnless o (record { steps = e .steps; impossible = e .impossible }))
+        → (o ≡ none) × (k ≡ e .steps) × (said ≡ e .impossible)
+    go none r =
+        let z : _≡_ {A = Accepted} (record { steps = k; impossible = said }) (record { steps = e .steps; impossible = e .impossible }) = cc in
+        (refl, ap (λ (a : Accepted). a .steps) z, ap (λ (a : Accepted). a .impossible) z)
+    go (some g) r = refused≢answered (sym r)
+
+pub end-refused : (e : LogEnd) (f : Fault) → e .refusal ≡ some f → refused f ≡ checkAnswer e
+unfolding checkAnswer answerUnless
+end-refused e f q = rw q
+
+pub end-accepted : (e : LogEnd) → e .refusal ≡ none → answered (record { steps = e .steps; impossible = e .impossible }) ≡ checkAnswer e
+unfolding checkAnswer answerUnless
+end-accepted e q = rw q
+
+-- ---- the core's faults, lent three slices of one length
+
+pub same-fault : (P : Plan) (boxes ks ts hs : List ℕ) → length ts ≡ length ks → length hs ≡ length ks → entryFault P boxes ks ts hs ≡ firstFault P boxes
+unfolding entryFault firstFault oneForEachStep
+same-fault P boxes ks ts hs t h =
+    ap (λ (b : Bool). unless b 31 0 orElse planFault P boxes)
+    (and-true (oneForEachTask (P .taskCalendars) (P .workTimes) (P .heights) boxes) _
+    (and-both _ _ (eq-eqb (length ts) (length ks) t) (eq-eqb (length hs) (length ks) h)))
+  where
+    and-true : (a b : Bool) → b ≡ true → (a and b) ≡ a
+    and-true true b e = unfold _and_ in e
+    and-true false b e = unfold _and_ in refl
+
+-- the first cells of three arrays
+pub lent-fault : (P : Plan) (boxes ks ts hs : List ℕ) (n : ℕ) → n ≤ length ks → n ≤ length ts → n ≤ length hs
+    → entryFault P boxes (take n ks) (take n ts) (take n hs) ≡ firstFault P boxes
+lent-fault P boxes ks ts hs n l m o =
+    let k = length-take-le n ks l in
+    same-fault P boxes (take n ks) (take n ts) (take n hs) (length-take-le n ts m ∙ sym k) (length-take-le n hs o ∙ sym k)
+
+-- ---- the core's answer for a part, with its place in the log
+
+placed-later : (n : ℕ) (r : Refusal) → 11 ≤ faultOf r .number → faultOf r .number ≤ 13 → faultOf (placed n r) ≡ fault (faultOf r .number) (n + faultOf r .place)
+placed-later n (Malformed line) l m = absurd (omega (arith, l))
+placed-later n Hours l m = absurd (omega (arith, l))
+placed-later n Calendars l m = absurd (omega (arith, l))
+placed-later n (Symbol index) l m = absurd (omega (arith, l))
+placed-later n Tasks l m = absurd (omega (arith, l))
+placed-later n (NoCalendar task) l m = absurd (omega (arith, l))
+placed-later n (WorkTime task) l m = absurd (omega (arith, l))
+placed-later n (TaskHeight task) l m = absurd (omega (arith, l))
+placed-later n (TaskBounds task) l m = absurd (omega (arith, l))
+placed-later n Capacity l m = absurd (omega (arith, l))
+placed-later n (UnknownStep k) l m = refl
+placed-later n (NotAdmitted k) l m = refl
+placed-later n (AfterImpossible k) l m = refl
+placed-later n (OutsideBounds task) l m = absurd (omega (arith, m))
+placed-later n (NotValid task) l m = absurd (omega (arith, m))
+placed-later n (OverCapacity hour) l m = absurd (omega (arith, m))
+placed-later n MemorySize l m = absurd (omega (arith, m))
+
+module _ (P : Plan) where
+  answer-later : (n m : ℕ) (e : LogEnd) → Reaches P 0 m e → (a : LogChecked) → logAnswer a ≡ checkAnswer e → logAnswer (answerFrom n a) ≡ checkAnswer (shifted P n e)
+  unfolding shifted onOption
+  answer-later n m e r (checked.Refused f) q =
+      let s = refused-end e (faultOf f) q in
+      let (l, k, p) = r .at-end (faultOf f) s in
+      ap refused (placed-later n f l k) ∙ end-refused (shifted P n e) (later P n (faultOf f)) (rw s)
+  answer-later n m e r (checked.Accepted k said) q =
+      let (s, t, u) = accepted-end e k said q in
+      ap (λ (j : ℕ). answered (record { steps = n + j; impossible = said })) t
+      ∙ ap (λ (b : Bool). answered (record { steps = n + e .steps; impossible = b })) u
+      ∙ end-accepted (shifted P n e) (rw s)
+
+  module _ (boxes : List ℕ) where
+    -- a plan that passes: the end is the log's
+    pub from-passed : (k : ℕ) (said : Bool) (steps : List Step) → firstFault P boxes ≡ none → checkFrom P k said boxes steps ≡ replayFrom P k said boxes steps
+    unfolding checkFrom onOption
+    from-passed k said steps e = rw e
+
+    from-refused : (k : ℕ) (said : Bool) (steps : List Step) (f : Fault) → firstFault P boxes ≡ some f
+        → checkFrom P k said boxes steps ≡ logEnd 0 false boxes (some f)
+    unfolding checkFrom onOption
+    from-refused k said steps f e = rw e
+
+    module _ (steps : List Step) (a : LogChecked) (passed : firstFault P boxes ≡ none) (is : logAnswer a ≡ checkAnswer (checkFrom P 0 false boxes steps)) where
+      end-is : logAnswer a ≡ checkAnswer (replayFrom P 0 false boxes steps)
+      end-is = is ∙ ap checkAnswer (from-passed 0 false steps passed)
+
+      -- no step past the last of the part
+      pub reached-inside : reached (logAnswer a) ≤ length steps
+      unfolding checkAnswer answerUnless
+      reached-inside = rw end-is (go (replayFrom P 0 false boxes steps .refusal) refl)
+        where
+          r : Reaches P 0 (length steps) (replayFrom P 0 false boxes steps)
+          r = replay-reaches P 0 false boxes steps
+
+          go : (o : Option Fault) → replayFrom P 0 false boxes steps .refusal ≡ o
+              → reached (answerUnless o (record { steps = replayFrom P 0 false boxes steps .steps; impossible = replayFrom P 0 false boxes steps .impossible })) ≤ length steps
+          go none e = omega (arith, r .most)
+          go (some f) e = omega (arith, r .most, r .at-end f e .2)
+
+      -- the answer for a part from the boxes as they are, as the answer from step n on
+      pub answers-later : (n : ℕ) → (logAnswer (answerFrom n a) ≡ checkAnswer (checkFrom P n false boxes steps))
+          × (checkFrom P 0 false boxes steps .boxes ≡ checkFrom P n false boxes steps .boxes)
+      answers-later n =
+          let moved : checkFrom P n false boxes steps ≡ shifted P n (replayFrom P 0 false boxes steps) =
+          from-passed n false steps passed
+          ∙ ap (λ (k : ℕ). replayFrom P k false boxes steps) (sym (add-zero n))
+          ∙ replay-shift P n 0 false boxes steps in
+          let same : replayFrom P 0 false boxes steps .boxes ≡ shifted P n (replayFrom P 0 false boxes steps) .boxes = unfold shifted in refl in (
+            answer-later n (length steps) _ (replay-reaches P 0 false boxes steps) a end-is ∙ ap checkAnswer (sym moved),
+            ap (λ (e : LogEnd). e .boxes) (from-passed 0 false steps passed) ∙ same ∙ ap (λ (e : LogEnd). e .boxes) (sym moved),
+          )
+
+-- what the loop needs of a part
+pub checked-as : (e : LogEnd) (count : ℕ) (a : LogChecked) (left : List ℕ) → logAnswer a ≡ checkAnswer e → left ≡ e .boxes
+    → CheckedAs e count (checkedPart a count) left
+checked-as e count (checked.Refused r) left p q =
+    record {
+      answers = p;
+      leaves = q;
+      goes-on = λ m. absurd (false≢true m);
+      ends = λ m n. none≢some (sym n ∙ refused-end e (faultOf r) p);
+    }
+checked-as e count (checked.Accepted k said) left p q =
+    let (s, t, u) = accepted-end e k said p in
+    record {
+      answers = p;
+      leaves = q;
+      goes-on = λ m. (leb-true partSize count m, s, t, u);
+      ends = λ m n. leb-false partSize count m;
+    }
+
+pub checked-ends : (a : LogChecked) (r : Refusal) (count : ℕ) → a ≡ checked.Refused r
+    → _≡_ {A = PartChecked} (record { answer = a; more = false; steps = 0; impossible = false }) (checkedPart a count)
+checked-ends a r count e = rw e
+
+-- ---- what each way through the code makes of a part
+
+module _ (P : Plan) (boxes : List ℕ) (from : ℕ) (part : Part) where
+  -- after a step that said impossible
+  module _ (said : Bool) (e : said ≡ true) (passed : firstFault P boxes ≡ none) where
+    said-is : checkFrom P from said boxes (partSteps part) ≡ replayFrom P from true boxes (partSteps part)
+    said-is = ap (λ (b : Bool). checkFrom P from b boxes (partSteps part)) e ∙ from-passed P boxes from true (partSteps part) passed
+
+    pub said-none : part .count ≡ 0 → (r : PartChecked) → r ≡ checkedPart (checked.Accepted from true) (part .count)
+        → CheckedAs (checkFrom P from said boxes (partSteps part)) (part .count) r boxes
+    unfolding partSteps stepsFrom replayFrom checkAnswer answerUnless
+    said-none z r q =
+        let is : checkFrom P from said boxes (partSteps part) ≡ logEnd from true boxes none =
+        said-is ∙ ap (λ (n : ℕ). replayFrom P from true boxes (stepsFrom (part .kinds) (part .tasks) (part .hours) 0 n)) z in
+        subst (λ (s : PartChecked). CheckedAs (checkFrom P from said boxes (partSteps part)) (part .count) s boxes) (sym q)
+        (subst (λ (l : LogEnd). CheckedAs l (part .count) (checkedPart (checked.Accepted from true) (part .count)) boxes) (sym is)
+        (checked-as (logEnd from true boxes none) (part .count) (checked.Accepted from true) boxes refl refl))
+
+    pub said-some : (part .count ≡ 0 → ⊥) → (r : PartChecked) → r ≡ checkedPart (checked.Refused (AfterImpossible from)) (part .count)
+        → CheckedAs (checkFrom P from said boxes (partSteps part)) (part .count) r boxes
+    unfolding partSteps stepsFrom replayFrom checkAnswer answerUnless
+    said-some z r q =
+        let more : part .count ≡ suc (part .count - 1) = omega (arith, z) in
+        let is : checkFrom P from said boxes (partSteps part) ≡ logEnd from true boxes (some (fault 13 from)) =
+        said-is ∙ ap (λ (n : ℕ). replayFrom P from true boxes (stepsFrom (part .kinds) (part .tasks) (part .hours) 0 n)) more in
+        subst (λ (s : PartChecked). CheckedAs (checkFrom P from said boxes (partSteps part)) (part .count) s boxes) (sym q)
+        (subst (λ (l : LogEnd). CheckedAs l (part .count) (checkedPart (checked.Refused (AfterImpossible from)) (part .count)) boxes) (sym is)
+        (checked-as (logEnd from true boxes (some (fault 13 from))) (part .count) (checked.Refused (AfterImpossible from)) boxes refl refl))
+
+  -- by the core, lent the first cells of the part's arrays
+  module _ (few : part .count ≤ partSize) (size : Sized part) where
+    abbrev core : LogEnd
+    core = checkLog P boxes (take (part .count) (part .kinds)) (take (part .count) (part .tasks)) (take (part .count) (part .hours))
+
+    core-is : core ≡ checkFrom P 0 false boxes (partSteps part)
+    unfolding checkLog checkFrom replay partSteps
+    core-is =
+        let l : part .count ≤ length (part .kinds) = omega (arith, size .all-kinds) in
+        let m : part .count ≤ length (part .tasks) = omega (arith, size .all-tasks) in
+        let o : part .count ≤ length (part .hours) = omega (arith, size .all-hours) in
+        rw (lent-fault P boxes (part .kinds) (part .tasks) (part .hours) (part .count) l m o, steps-lent (part .kinds) (part .tasks) (part .hours) (part .count) l)
+
+    module _ (a : LogChecked) (left : List ℕ) (is : logAnswer a ≡ checkAnswer core) (leaves : left ≡ core .boxes) where
+      pub core-inside : firstFault P boxes ≡ none → reached (logAnswer a) ≤ part .count
+      core-inside passed =
+          omega (arith, reached-inside P boxes (partSteps part) a passed (is ∙ ap checkAnswer core-is), part-length part)
+
+      module _ (said : Bool) (e : said ≡ false) (r : PartChecked) where
+        as-said : CheckedAs (checkFrom P from false boxes (partSteps part)) (part .count) r left
+            → CheckedAs (checkFrom P from said boxes (partSteps part)) (part .count) r left
+        as-said = subst (λ (b : Bool). CheckedAs (checkFrom P from b boxes (partSteps part)) (part .count) r left) (sym e)
+
+        pub core-first : from ≡ 0 → r ≡ checkedPart a (part .count) → CheckedAs (checkFrom P from said boxes (partSteps part)) (part .count) r left
+        core-first z q =
+            as-said
+            (subst (λ (n : ℕ). CheckedAs (checkFrom P n false boxes (partSteps part)) (part .count) r left) (sym z)
+            (subst (λ (s : PartChecked). CheckedAs (checkFrom P 0 false boxes (partSteps part)) (part .count) s left) (sym q)
+            (checked-as _ (part .count) a left (is ∙ ap checkAnswer core-is) (leaves ∙ ap (λ (x : LogEnd). x .boxes) core-is))))
+
+        pub core-later : firstFault P boxes ≡ none → r ≡ checkedPart (answerFrom from a) (part .count)
+            → CheckedAs (checkFrom P from said boxes (partSteps part)) (part .count) r left
+        core-later passed q =
+            let (p, b) = answers-later P boxes (partSteps part) a passed (is ∙ ap checkAnswer core-is) from in
+            as-said
+            (subst (λ (s : PartChecked). CheckedAs (checkFrom P from false boxes (partSteps part)) (part .count) s left) (sym q)
+            (checked-as _ (part .count) (answerFrom from a) left p (leaves ∙ ap (λ (x : LogEnd). x .boxes) core-is ∙ b)))
+
+-- ---- a log in parts
+
+-- the rest of a log, after a part of n steps from step k on that is accepted
+pub record Rest (P : Plan) (k n : ℕ) (ys : List Step) (whole end : LogEnd) : Type 0 where
+  pub passes : firstFault P (end .boxes) ≡ none
+  pub all : end .steps ≡ k + n
+  pub rest : checkFrom P (end .steps) (end .impossible) (end .boxes) ys ≡ whole
+
+module _ (P : Plan) (k : ℕ) (said : Bool) (boxes : List ℕ) (xs ys : List Step) where
+  abbrev end : LogEnd
+  end = checkFrom P k said boxes xs
+
+  abbrev whole : LogEnd
+  whole = checkFrom P k said boxes (xs ++ ys)
+
+  pub part-accepted : end .refusal ≡ none → Rest P k (length xs) ys whole end
+  part-accepted a = go (firstFault P boxes) refl
+    where
+      go : (o : Option Fault) → firstFault P boxes ≡ o → Rest P k (length xs) ys whole end
+      go (some f) e = none≢some (sym a ∙ ap (λ (l : LogEnd). l .refusal) (from-refused P boxes k said xs f e))
+      go none e =
+          let is = from-passed P boxes k said xs e in
+          let r = replayFrom P k said boxes xs in
+          let none-refused : r .refusal ≡ none = ap (λ (l : LogEnd). l .refusal) (sym is) ∙ a in
+          let passes : firstFault P (r .boxes) ≡ none = replay-passes P k said boxes xs e in
+          subst (Rest P k (length xs) ys whole) (sym is)
+          record {
+            passes = passes;
+            all = replay-reaches P k said boxes xs .all none-refused;
+            rest = from-passed P (r .boxes) (r .steps) (r .impossible) ys passes
+                ∙ sym (from-passed P boxes k said (xs ++ ys) e ∙ replay-append P k said boxes xs ys ∙ goes-on P r ys none-refused);
+          }
+
+  -- a part that is refused ends the log
+  pub part-refused : (f : Fault) → end .refusal ≡ some f → end ≡ whole
+  part-refused f a = go (firstFault P boxes) refl
+    where
+      go : (o : Option Fault) → firstFault P boxes ≡ o → end ≡ whole
+      go (some g) e = from-refused P boxes k said xs g e ∙ sym (from-refused P boxes k said (xs ++ ys) g e)
+      go none e =
+          let is = from-passed P boxes k said xs e in
+          let some-refused : replayFrom P k said boxes xs .refusal ≡ some f = ap (λ (l : LogEnd). l .refusal) (sym is) ∙ a in
+          is ∙ sym (from-passed P boxes k said (xs ++ ys) e ∙ replay-append P k said boxes xs ys ∙ ends-there P (replayFrom P k said boxes xs) ys f some-refused)
+
+-- What holds at each turn of the loop over the parts: the end from here is the log's end.
+pub record Going (P : Plan) (opening : List ℕ) (log : List Step) (from : ℕ) (said : Bool) (boxes : List ℕ) : Type 0 where
+  pub inside : from ≤ length log
+  pub ends : checkFrom P from said boxes (drop from log) ≡ checkSteps P opening log
+  pub passes : 0 < from → firstFault P boxes ≡ none
+  pub after : said ≡ true → 0 < from
+  pub same : length boxes ≡ length opening
+
+pub going-opens : (P : Plan) (opening : List ℕ) (log : List Step) → Going P opening log 0 false opening
+going-opens P opening log =
+    record {
+      inside = omega arith;
+      ends = unfold checkSteps checkFrom replay in refl;
+      passes = λ l. absurd (omega (arith, l));
+      after = λ e. absurd (false≢true e);
+      same = refl;
+    }
+
+module _ (P : Plan) (opening : List ℕ) (log : List Step) (from : ℕ) (said : Bool) (boxes : List ℕ) (g : Going P opening log from said boxes)
+    (steps : Part) (is : partSteps steps ≡ take partSize (drop from log)) where
+  count-is : steps .count ≡ min partSize (length log - from)
+  count-is =
+      sym (part-length steps) ∙ ap length is ∙ length-take partSize (drop from log) ∙ ap (min partSize) (length-drop from log)
+
+  pub part-inside : (steps .count ≤ partSize) × (from + steps .count ≤ length log)
+  part-inside = (omega (arith, count-is), omega (arith, count-is, g .inside))
+
+  parts : partSteps steps ++ drop partSize (drop from log) ≡ drop from log
+  parts = ap (λ (l : List Step). l ++ drop partSize (drop from log)) is ∙ take-append-drop partSize (drop from log)
+
+  abbrev part-end : LogEnd
+  part-end = checkFrom P from said boxes (partSteps steps)
+
+  module _ (r : PartChecked) (left : List ℕ) (c : CheckedAs part-end (steps .count) r left) where
+    pub part-goes-on : length left ≡ length boxes → r .more ≡ true → Going P opening log (r .steps) (r .impossible) left × (from < r .steps)
+    part-goes-on kept more =
+        let (full, accepted, number, said-is) = c .goes-on more in
+        let rest = part-accepted P from said boxes (partSteps steps) (drop partSize (drop from log)) accepted in
+        let at : r .steps ≡ from + partSize = omega (arith, number, rest .all, part-length steps, full, part-inside .0) in (
+          record {
+            inside = omega (arith, at, full, part-inside .1);
+            ends =
+                ap (λ (n : ℕ). checkFrom P (r .steps) (r .impossible) left (drop n log)) at
+                ∙ ap (λ (l : List Step). checkFrom P (r .steps) (r .impossible) left l) (sym (drop-drop partSize from log))
+                ∙ rw (number, said-is, c .leaves) (rest .rest)
+                ∙ ap (checkFrom P from said boxes) parts
+                ∙ g .ends;
+            passes = λ l. ap (firstFault P) (c .leaves) ∙ rest .passes;
+            after = λ e. omega (arith, at);
+            same = kept ∙ g .same;
+          },
+          omega (arith, at),
+        )
+
+    -- a part that is refused, or that the log ends with, is the log's end
+    last-part : r .more ≡ false → part-end ≡ checkSteps P opening log
+    last-part more = go (part-end .refusal) refl
+      where
+        go : (o : Option Fault) → part-end .refusal ≡ o → part-end ≡ checkSteps P opening log
+        go (some f) e =
+            part-refused P from said boxes (partSteps steps) (drop partSize (drop from log)) f e ∙ ap (checkFrom P from said boxes) parts ∙ g .ends
+        go none e =
+            let short : length (drop from log) ≤ partSize = rw (length-drop from log) (omega (arith, c .ends more e, count-is)) in
+            ap (checkFrom P from said boxes) (is ∙ take-all partSize (drop from log) short) ∙ g .ends
+
+    pub part-ends : r .more ≡ false → (logAnswer (r .answer) ≡ checkAnswer (checkSteps P opening log)) × (left ≡ checkSteps P opening log .boxes)
+    part-ends more =
+        (c .answers ∙ ap checkAnswer (last-part more), c .leaves ∙ ap (λ (e : LogEnd). e .boxes) (last-part more))

@@ -1,0 +1,62 @@
+mod Lts
+mod Tie
+use mathlib.Core.Path.{_∙_}
+use Prim.Native.Nat.{_-_}
+use native.Mathlib.Omega.{arith}
+use lib.ListN.{length}
+use borrow.Author.Tests.{not-true, not-false}
+use Rattle.plan.specs.Plan.{plan}
+use Rattle.log.proofs.Checking.{Going, going-opens, part-inside, part-goes-on, part-ends}
+use Rattle.log.proofs.Claiming.{checks-steps}
+use Rattle.log.proofs.check_log.Statement.{statement}
+use Rattle.log.proofs.check_log.Proof.Tie as tie
+
+abbrev Inv-loop : tie.InvT-loop
+Inv-loop hours capacity calendars task-calendars work-times heights boxes₀ log from₀ said₀ boxes from said =
+    Going (plan hours capacity calendars task-calendars work-times heights) boxes₀ log from said boxes
+
+abbrev μ-loop : tie.MeasureT-loop
+μ-loop hours capacity calendars task-calendars work-times heights boxes₀ log from₀ said₀ boxes from said = length log - from
+
+loop-holds : tie.Need-loop-holds Inv-loop μ-loop
+loop-holds c = going-opens _ _ _
+
+part-at-requires : tie.Need-part-at-requires Inv-loop μ-loop
+part-at-requires c κs = c .loop .inv .inside
+
+check-part-requires : tie.Need-check-part-requires Inv-loop μ-loop
+check-part-requires c κs = (
+  part-inside _ _ _ _ _ _ (c .before .before .loop .inv) (c .before .part-at .result) (c .before .part-at .ensures .0) .0,
+  c .before .part-at .ensures .1,
+  omega (arith, c .before .before .before .before .before .before .before .before .good, part-inside _ _ _ _ _ _ (c .before .before .loop .inv) (c .before .part-at .result) (c .before .part-at .ensures .0) .1),
+  c .before .before .loop .inv .after,
+  c .before .before .loop .inv .passes,
+)
+
+same-length : tie.Need-same-length Inv-loop μ-loop
+same-length c = c .before .before .before .before .check-part .kept .1 .1 .1 .1 .1 .1 .0 ∙ c .before .before .before .before .before .before .before .loop .inv .same
+
+returns : tie.Need-returns Inv-loop μ-loop
+returns c = checks-steps _ _ _ _ _ (part-ends _ _ _ _ _ _ (c .before .before .before .before .before .before .before .loop .inv) _ (c .before .before .before .before .before .before .part-at .ensures .0) _ _ (c .before .before .before .before .check-part .ensures) (not-true _ (c .if1 .taken)))
+
+loop-less : tie.Need-loop-less Inv-loop μ-loop
+loop-less c =
+    let (going, further) = part-goes-on _ _ _ _ _ _ (c .before .before .before .before .before .before .before .loop .inv) _ (c .before .before .before .before .before .before .part-at .ensures .0) _ _ (c .before .before .before .before .check-part .ensures) (c .before .before .before .before .check-part .kept .1 .1 .1 .1 .1 .1 .0) (not-false _ (c .if1 .left)) in
+    omega (arith, further, going .inside)
+
+loop-again : tie.Need-loop-again Inv-loop μ-loop
+loop-again c = part-goes-on _ _ _ _ _ _ (c .before .before .before .before .before .before .before .loop .inv) _ (c .before .before .before .before .before .before .part-at .ensures .0) _ _ (c .before .before .before .before .check-part .ensures) (c .before .before .before .before .check-part .kept .1 .1 .1 .1 .1 .1 .0) (not-false _ (c .if1 .left)) .0
+
+pub check-log-spec : {M : Type 1} → statement M
+check-log-spec =
+    tie.close
+    (tie.spec
+    Inv-loop
+    μ-loop
+    loop-holds
+    part-at-requires
+    check-part-requires
+    same-length
+    returns
+    loop-less
+    loop-again)

@@ -1,0 +1,13 @@
+pub mod Lent
+pub mod StepAtKinds
+pub mod StepAtReads
+pub mod PutStepKinds
+pub mod PutStepReads
+pub mod PartAtKinds
+pub mod PartAtReads
+pub mod PutPartKinds
+pub mod PutPartReads
+pub mod CheckLogKinds
+pub mod CheckLogReads
+pub mod FilterKinds
+pub mod FilterReads

@@ -1,0 +1,42 @@
+-- The log checker and the filter over a log that is a list of step records: what each answers and leaves in lent memory (01, "Steps", the order
+-- of refusals, and "Where each language form goes").
+use mathlib.Core.Bool.{false}
+use mathlib.Core.Option.{some}
+use mathlib.Core.Path.{_≡_}
+use mathlib.Core.List.{List}
+use Prim.Native.Nat.{ℕ}
+use lib.ListN.{length}
+use Rattle.units.specs.Choice.{onOption}
+use Rattle.units.specs.Cells.{written}
+use Rattle.plan.specs.Plan.{Plan}
+use Rattle.plan.specs.Faults.{firstFault}
+use Rattle.propagation.specs.declared.Step.{Step}
+use Rattle.propagation.specs.Log.{LogEnd, logEnd, replay}
+use Rattle.propagation.specs.Filter.{Run, count, run}
+use Rattle.propagation.specs.Entry.{FilterAnswer, refusedBy, endingAnswer}
+
+-- The log checker: the log's end, or at once a refusal (31, then the plan's tests) that changes nothing.
+unfoldable pub checkSteps : Plan → List ℕ → List Step → LogEnd
+checkSteps P boxes log = onOption (firstFault P boxes) (replay P boxes log) (λ f. logEnd 0 false boxes (some f))
+
+-- What the filter leaves: its answer, the boxes, and the log.
+pub record StepsEnd : Type 0 where
+  pub answer : FilterAnswer
+  pub boxes : List ℕ
+  pub log : List Step
+
+-- an answer and the contents of the memory lent are those of an end
+pub record LeavesSteps (e : StepsEnd) (answer : FilterAnswer) (boxes : List ℕ) (log : List Step) : Type 0 where
+  pub answers : answer ≡ e .answer
+  pub leaves-boxes : boxes ≡ e .boxes
+  pub leaves-log : log ≡ e .log
+
+unfoldable pub loggedSteps : Run → List Step → StepsEnd
+loggedSteps r log = record { answer = endingAnswer (r .ending) (count r); boxes = r .boxes; log = written (r .log) log }
+
+-- The filter, with the log lent as its room: the run, or a refusal that changes nothing.
+unfoldable pub filterSteps : Plan → List ℕ → List Step → StepsEnd
+filterSteps P boxes log =
+    onOption (firstFault P boxes)
+    (loggedSteps (run P boxes (length log)) log)
+    (λ f. record { answer = refusedBy f; boxes = boxes; log = log })

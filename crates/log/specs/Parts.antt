@@ -1,0 +1,154 @@
+-- A part of a log: the steps that the core is called with at a time, and what the log checker and the filter come to with them. No public contract
+-- names a part.
+use mathlib.Core.Bool.{Bool, true, false}
+use mathlib.Core.Option.{none, some}
+use mathlib.Core.Path.{_≡_}
+use mathlib.Core.List.{List, []}
+use Prim.Native.Nat.{ℕ, _+_, _-_, _≤_, _<_, min}
+use lib.Dec.{leb, ltb}
+use lib.ListN.{length}
+use Rattle.units.specs.Choice.{onOption}
+use Rattle.plan.specs.Plan.{Plan}
+use Rattle.plan.specs.Refusals.{Fault, Answer, refused, answered}
+use Rattle.plan.specs.Faults.{firstFault}
+use Rattle.plan.specs.declared.Refusal.{Refusal}
+use Rattle.plan.specs.declared.Refusal.the-variants.{Malformed, Hours, Calendars, Symbol, Tasks, NoCalendar, WorkTime, TaskHeight, TaskBounds, Capacity, UnknownStep, NotAdmitted, AfterImpossible, OutsideBounds, NotValid, OverCapacity, MemorySize}
+use Rattle.propagation.specs.declared.Step.{Step}
+use Rattle.propagation.specs.declared.LogChecked.{LogChecked}
+use Rattle.propagation.specs.declared.LogChecked.the-variants as checked
+use Rattle.propagation.specs.declared.Filtered.{Filtered}
+use Rattle.propagation.specs.declared.Filtered.the-variants as filtered
+use Rattle.propagation.specs.Steps as steps
+use Rattle.propagation.specs.Log.{LogEnd, logEnd, replayFrom}
+use Rattle.propagation.specs.Filter.{Run, noRoom, count, run}
+use Rattle.propagation.specs.Entry.{stepsFrom, Accepted, checkAnswer, logAnswer, FilterAnswer, refusedBy, noRoomFor, settledAfter, impossibleAfter, endingAnswer, filterAnswer}
+use Rattle.log.specs.declared.part.Part.{Part}
+use Rattle.log.specs.declared.part.PartChecked.{PartChecked}
+use Rattle.log.specs.declared.part.PartFiltered.{PartFiltered}
+
+abbrev pub noStep : Step
+noStep = steps.step 0 0 0
+
+abbrev pub partSize : ℕ
+partSize = 64
+
+unfoldable pub partSteps : Part → List Step
+partSteps p = stepsFrom (p .kinds) (p .tasks) (p .hours) 0 (p .count)
+
+-- its arrays are whole
+pub record Sized (p : Part) : Type 0 where
+  pub all-kinds : length (p .kinds) ≡ partSize
+  pub all-tasks : length (p .tasks) ≡ partSize
+  pub all-hours : length (p .hours) ≡ partSize
+
+-- ---- the log checker
+
+-- a refusal of a step, with its place in the log, where the part starts at step n
+abbrev pub placed : ℕ → Refusal → Refusal
+placed n (Malformed line) = Malformed line
+placed n Hours = Hours
+placed n Calendars = Calendars
+placed n (Symbol index) = Symbol index
+placed n Tasks = Tasks
+placed n (NoCalendar task) = NoCalendar task
+placed n (WorkTime task) = WorkTime task
+placed n (TaskHeight task) = TaskHeight task
+placed n (TaskBounds task) = TaskBounds task
+placed n Capacity = Capacity
+placed n (UnknownStep step) = UnknownStep (n + step)
+placed n (NotAdmitted step) = NotAdmitted (n + step)
+placed n (AfterImpossible step) = AfterImpossible (n + step)
+placed n (OutsideBounds task) = OutsideBounds task
+placed n (NotValid task) = NotValid task
+placed n (OverCapacity hour) = OverCapacity hour
+placed n MemorySize = MemorySize
+
+abbrev pub answerFrom : ℕ → LogChecked → LogChecked
+answerFrom n (checked.Refused r) = checked.Refused (placed n r)
+answerFrom n (checked.Accepted k said) = checked.Accepted (n + k) said
+
+-- the step that an answer names, or the number of steps
+abbrev pub reached : Answer Accepted → ℕ
+reached (refused f) = f .place
+reached (answered a) = a .steps
+
+abbrev pub checkedPart : LogChecked → ℕ → PartChecked
+checkedPart (checked.Refused r) count = record { answer = checked.Refused r; more = false; steps = 0; impossible = false }
+checkedPart (checked.Accepted k said) count = record { answer = checked.Accepted k said; more = leb partSize count; steps = k; impossible = said }
+
+-- the end of a log from step number k on, or a refusal that changes nothing
+unfoldable pub checkFrom : Plan → ℕ → Bool → List ℕ → List Step → LogEnd
+checkFrom P k said boxes steps = onOption (firstFault P boxes) (replayFrom P k said boxes steps) (λ f. logEnd 0 false boxes (some f))
+
+-- What the log checker comes to with a part of so many steps, whose end this is.
+pub record CheckedAs (e : LogEnd) (count : ℕ) (r : PartChecked) (left : List ℕ) : Type 0 where
+  pub answers : logAnswer (r .answer) ≡ checkAnswer e
+  pub leaves : left ≡ e .boxes
+  -- there may be more only where all steps of a full part are accepted
+  pub goes-on : r .more ≡ true → (partSize ≤ count) × (e .refusal ≡ none) × (r .steps ≡ e .steps) × (r .impossible ≡ e .impossible)
+  pub ends : r .more ≡ false → e .refusal ≡ none → count < partSize
+
+-- ---- the filter
+
+-- the steps that an answer counts
+abbrev pub counted : FilterAnswer → ℕ
+counted (refusedBy f) = 0
+counted (noRoomFor f n) = n
+counted (settledAfter n) = n
+counted (impossibleAfter n) = n
+
+abbrev pub filteredPart : Filtered → ℕ → ℕ → List ℕ → List ℕ → List ℕ → PartFiltered
+filteredPart (filtered.Refused r) taken room kinds tasks hours =
+    record {
+      steps = record { kinds = kinds; tasks = tasks; hours = hours; count = 0 };
+      answer = filtered.Refused r;
+      more = false;
+      taken = taken;
+    }
+filteredPart (filtered.NoRoom n) taken room kinds tasks hours =
+    record {
+      steps = record { kinds = kinds; tasks = tasks; hours = hours; count = n };
+      answer = filtered.NoRoom (taken + n);
+      more = ltb (taken + n) room;
+      taken = taken + n;
+    }
+filteredPart (filtered.Settled n) taken room kinds tasks hours =
+    record {
+      steps = record { kinds = kinds; tasks = tasks; hours = hours; count = n };
+      answer = filtered.Settled (taken + n);
+      more = false;
+      taken = taken + n;
+    }
+filteredPart (filtered.Impossible n) taken room kinds tasks hours =
+    record {
+      steps = record { kinds = kinds; tasks = tasks; hours = hours; count = n };
+      answer = filtered.Impossible (taken + n);
+      more = false;
+      taken = taken + n;
+    }
+
+-- the run over one part, after so many steps and with room for so many in all
+unfoldable pub partRun : Plan → List ℕ → ℕ → ℕ → Run
+partRun P boxes taken room = run P boxes (min partSize (room - taken))
+
+-- What the filter comes to with a part that goes as this run.
+pub record RanAs (r : Run) (taken room : ℕ) (f : PartFiltered) (left : List ℕ) : Type 0 where
+  pub answers : filterAnswer (f .answer) ≡ endingAnswer (r .ending) (taken + count r)
+  pub leaves : left ≡ r .boxes
+  pub steps : partSteps (f .steps) ≡ r .log
+  pub number : f .steps .count ≡ count r
+  -- it goes on only where it stopped for room, with room in all
+  pub goes-on : f .more ≡ true → (r .ending ≡ noRoom) × (f .taken ≡ taken + count r) × (taken + count r < room)
+  pub ends : f .more ≡ false → r .ending ≡ noRoom → room ≤ taken + count r
+
+-- A refusal changes nothing, and has no steps.
+pub record RefusedAs (fault : Fault) (boxes : List ℕ) (f : PartFiltered) (left : List ℕ) : Type 0 where
+  pub answers : filterAnswer (f .answer) ≡ refusedBy fault
+  pub leaves : left ≡ boxes
+  pub steps : partSteps (f .steps) ≡ []
+  pub number : f .steps .count ≡ 0
+  pub ends : f .more ≡ false
+
+pub record FilteredAs (P : Plan) (boxes : List ℕ) (taken room : ℕ) (f : PartFiltered) (left : List ℕ) : Type 0 where
+  pub runs : firstFault P boxes ≡ none → RanAs (partRun P boxes taken room) taken room f left
+  pub refuses : (fault : Fault) → firstFault P boxes ≡ some fault → RefusedAs fault boxes f left

@@ -1,0 +1,299 @@
+// A part of a log: as many of its steps as `propagation` is called with at a time, by value, and what it makes of them.
+use plan::Refusal;
+use propagation::Filtered;
+use propagation::LogChecked;
+use propagation::Step;
+ghost use mathlib.Core.Bool.{true};
+ghost use mathlib.Core.Option.{none};
+ghost use mathlib.Core.Path.{_≡_};
+ghost use mathlib.Core.List.{[], _∷_, _++_};
+ghost use Prim.Native.Nat.{_+_, _-_, _^_, _≤_, _<_, min};
+ghost use Rattle.plan.specs.Plan.{plan};
+ghost use Rattle.plan.specs.Faults.{firstFault};
+ghost use Rattle.plan.specs.Refusals.{faultOf};
+ghost use Rattle.propagation.specs.Entry.{stepAt, logAnswer, filterAnswer};
+ghost use Rattle.log.specs.Parts.{partSize, partSteps, Sized, placed, reached, answerFrom, checkedPart, checkFrom, CheckedAs, counted, filteredPart, FilteredAs};
+
+// The kinds, the tasks and the hours of its steps stand in the first cells, as many as the count.
+pub struct Part {
+    pub kinds: [u8; Part::SIZE],
+    pub tasks: [u16; Part::SIZE],
+    pub hours: [u16; Part::SIZE],
+    pub count: usize,
+}
+
+impl Part {
+    // The most steps.
+    pub const SIZE: usize = 64;
+}
+
+// What the log checker comes to with a part: the answer, where the log ends with it; if there may be more, the number of steps so far, and
+// whether the last of them said impossible.
+pub struct PartChecked {
+    pub answer: LogChecked,
+    pub more: bool,
+    pub steps: usize,
+    pub impossible: bool,
+}
+
+// What the filter comes to with a part: its steps; the answer, where the run ends with them; if it goes on, the number of steps taken so far.
+pub struct PartFiltered {
+    pub steps: Part,
+    pub answer: Filtered,
+    pub more: bool,
+    pub taken: usize,
+}
+
+// Where a part from one step on ends, in a log of so many steps.
+pub fn part_end(from: usize, length: usize) -> usize
+    requires { ⌜ from ≤ length ⌝ }
+    ensures { λ r. ⌜ r ≡ from + min partSize (length - from) ⌝ }
+{
+    if length - from < Part::SIZE {
+        return length;
+    }
+    from + Part::SIZE
+}
+
+pub fn no_steps() -> Part
+    ensures { λ r. ⌜ (partSteps r ≡ []) × (r .count ≡ 0) × Sized r ⌝ }
+{
+    Part {
+        kinds: [0; Part::SIZE],
+        tasks: [0; Part::SIZE],
+        hours: [0; Part::SIZE],
+        count: 0,
+    }
+}
+
+// One step more.
+pub fn with_step(part: Part, x: Step) -> Part
+    requires { ⌜ (part .count < partSize) × Sized part ⌝ }
+    ensures { λ r. ⌜ (partSteps r ≡ (partSteps part ++ (x ∷ []))) × (r .count ≡ part .count + 1) × Sized r ⌝ }
+{
+    let mut longer = part;
+    let at = part.count;
+    longer.kinds[at] = x.kind;
+    longer.tasks[at] = x.task;
+    longer.hours[at] = x.hour;
+    longer.count = at + 1;
+    longer
+}
+
+pub fn step_of(part: Part, k: usize) -> Step
+    requires { ⌜ k < partSize ⌝ }
+    ensures { λ r. ⌜ r ≡ stepAt (part .kinds) (part .tasks) (part .hours) k ⌝ }
+{
+    Step {
+        kind: part.kinds[k],
+        task: part.tasks[k],
+        hour: part.hours[k],
+    }
+}
+
+// A refusal of a part that starts at a step of the log, with its place in the log.
+fn placed_from(refusal: Refusal, from: usize) -> Refusal
+    requires { ⌜ from + faultOf refusal .place < 2 ^ 64 ⌝ }
+    ensures { λ r. ⌜ r ≡ placed from refusal ⌝ }
+{
+    match refusal {
+        Refusal::Malformed(_) => refusal,
+        Refusal::Hours => refusal,
+        Refusal::Calendars => refusal,
+        Refusal::Symbol(_) => refusal,
+        Refusal::Tasks => refusal,
+        Refusal::NoCalendar(_) => refusal,
+        Refusal::WorkTime(_) => refusal,
+        Refusal::TaskHeight(_) => refusal,
+        Refusal::TaskBounds(_) => refusal,
+        Refusal::Capacity => refusal,
+        Refusal::UnknownStep(step) => Refusal::UnknownStep(from + step),
+        Refusal::NotAdmitted(step) => Refusal::NotAdmitted(from + step),
+        Refusal::AfterImpossible(step) => Refusal::AfterImpossible(from + step),
+        Refusal::OutsideBounds(_) => refusal,
+        Refusal::NotValid(_) => refusal,
+        Refusal::OverCapacity(_) => refusal,
+        Refusal::MemorySize => refusal,
+    }
+}
+
+// The answer for a part that starts at a step of the log, as the log's.
+fn answer_from(checked: LogChecked, from: usize) -> LogChecked
+    requires { ⌜ from + reached (logAnswer checked) < 2 ^ 64 ⌝ }
+    ensures { λ r. ⌜ r ≡ answerFrom from checked ⌝ }
+{
+    match checked {
+        LogChecked::Refused(refusal) => LogChecked::Refused(placed_from(refusal, from)),
+        LogChecked::Accepted { steps, impossible } => LogChecked::Accepted {
+            steps: from + steps,
+            impossible,
+        },
+    }
+}
+
+// There may be more where all steps of a full part are accepted.
+fn checked_part(answer: LogChecked, count: usize) -> PartChecked
+    ensures { λ r. ⌜ r ≡ checkedPart answer count ⌝ }
+{
+    match answer {
+        LogChecked::Refused(_) => PartChecked {
+            answer,
+            more: false,
+            steps: 0,
+            impossible: false,
+        },
+        LogChecked::Accepted { steps, impossible } => PartChecked {
+            answer,
+            more: Part::SIZE <= count,
+            steps,
+            impossible,
+        },
+    }
+}
+
+// The log checker from a step of the log on, over one part: on the boxes that the step before it left, and whether that one said impossible.
+pub fn check_part(
+    hours: u16,
+    capacity: u16,
+    calendars: &[u8],
+    task_calendars: &[u16],
+    work_times: &[u16],
+    heights: &[u16],
+    boxes: &mut [u16],
+    from: usize,
+    said: bool,
+    part: Part,
+) -> PartChecked
+    requires { ⌜ (part .count ≤ partSize) × Sized part × (from + part .count < 2 ^ 64) × (said ≡ true → 0 < from)
+        × (0 < from → firstFault (plan hours capacity (now calendars) (now «task_calendars») (now «work_times») (now heights)) (now boxes) ≡ none) ⌝ }
+    ensures { λ r. ⌜ CheckedAs (checkFrom
+        (plan hours capacity (now (calendars .entry)) (now («task_calendars» .entry)) (now («work_times» .entry)) (now (heights .entry)))
+        from said (now (boxes .entry)) (partSteps part)) (part .count) r (now (boxes .exit)) ⌝ }
+{
+    let count = part.count;
+    if said {
+        if count == 0 {
+            let accepted = LogChecked::Accepted {
+                steps: from,
+                impossible: true,
+            };
+            return checked_part(accepted, count);
+        }
+        return checked_part(LogChecked::Refused(Refusal::AfterImpossible(from)), count);
+    }
+    let kinds = part.kinds;
+    let tasks = part.tasks;
+    let task_hours = part.hours;
+    let checked = propagation::log::check_log(
+        hours,
+        capacity,
+        calendars,
+        task_calendars,
+        work_times,
+        heights,
+        boxes,
+        &kinds[..count],
+        &tasks[..count],
+        &task_hours[..count],
+    );
+    if from == 0 {
+        return checked_part(checked, count);
+    }
+    checked_part(answer_from(checked, from), count)
+}
+
+// What the run comes to with a part, from how it ended there, after so many steps and with room for so many in all.
+fn filtered_part(
+    answer: Filtered,
+    taken: usize,
+    room: usize,
+    kinds: [u8; Part::SIZE],
+    tasks: [u16; Part::SIZE],
+    hours: [u16; Part::SIZE],
+) -> PartFiltered
+    requires { ⌜ taken + counted (filterAnswer answer) ≤ room ⌝ }
+    ensures { λ r. ⌜ r ≡ filteredPart answer taken room kinds tasks hours ⌝ }
+{
+    match answer {
+        Filtered::Refused(_) => PartFiltered {
+            steps: Part {
+                kinds,
+                tasks,
+                hours,
+                count: 0,
+            },
+            answer,
+            more: false,
+            taken,
+        },
+        Filtered::NoRoom(count) => PartFiltered {
+            steps: Part {
+                kinds,
+                tasks,
+                hours,
+                count,
+            },
+            answer: Filtered::NoRoom(taken + count),
+            more: taken + count < room,
+            taken: taken + count,
+        },
+        Filtered::Settled(count) => PartFiltered {
+            steps: Part {
+                kinds,
+                tasks,
+                hours,
+                count,
+            },
+            answer: Filtered::Settled(taken + count),
+            more: false,
+            taken: taken + count,
+        },
+        Filtered::Impossible(count) => PartFiltered {
+            steps: Part {
+                kinds,
+                tasks,
+                hours,
+                count,
+            },
+            answer: Filtered::Impossible(taken + count),
+            more: false,
+            taken: taken + count,
+        },
+    }
+}
+
+// The filter over one part, after so many steps and with room for so many in all, on the boxes that those steps left.
+pub fn filter_part(
+    hours: u16,
+    capacity: u16,
+    calendars: &[u8],
+    task_calendars: &[u16],
+    work_times: &[u16],
+    heights: &[u16],
+    boxes: &mut [u16],
+    taken: usize,
+    room: usize,
+) -> PartFiltered
+    requires { ⌜ taken ≤ room ⌝ }
+    ensures { λ r. ⌜ FilteredAs
+        (plan hours capacity (now (calendars .entry)) (now («task_calendars» .entry)) (now («work_times» .entry)) (now (heights .entry)))
+        (now (boxes .entry)) taken room r (now (boxes .exit)) ⌝ }
+{
+    let mut kinds = [0u8; Part::SIZE];
+    let mut tasks = [0u16; Part::SIZE];
+    let mut task_hours = [0u16; Part::SIZE];
+    let cells = part_end(taken, room) - taken;
+    let answer = propagation::filter::filter(
+        hours,
+        capacity,
+        calendars,
+        task_calendars,
+        work_times,
+        heights,
+        boxes,
+        &mut kinds[..cells],
+        &mut tasks[..cells],
+        &mut task_hours[..cells],
+    );
+    filtered_part(answer, taken, room, kinds, tasks, task_hours)
+}
