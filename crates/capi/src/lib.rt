@@ -81,7 +81,7 @@ pub extern "C" fn shimlantern_check_log(
         (now (boxes .entry)) (now («log_kinds» .entry)) (now («log_tasks» .entry)) (now («log_hours» .entry)))
         (now (answer .exit)) (now (boxes .exit)) ⌝ }
 {
-    let checked = propagation::log::check_log(
+    let checked = propagation::replay::check_log(
         hours,
         capacity,
         calendars,

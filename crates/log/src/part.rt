@@ -184,7 +184,7 @@ pub fn check_part(
     let kinds = part.kinds;
     let tasks = part.tasks;
     let task_hours = part.hours;
-    let checked = propagation::log::check_log(
+    let checked = propagation::replay::check_log(
         hours,
         capacity,
         calendars,

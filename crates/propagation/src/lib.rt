@@ -8,7 +8,7 @@ mod first;
 mod judge;
 mod kept;
 mod load;
-pub mod log;
+pub mod replay;
 
 // A step of a log: its kind, a letter as one byte, a task and an hour. A field that the kind does not use is 0.
 pub struct Step {

@@ -2,8 +2,8 @@ use mathlib.Core.Path.{sym, ap, _∙_}
 use Rattle.plan.specs.Refusals.{testedFault}
 use Rattle.propagation.proofs.Entering.{passes, check-refuses, check-replays}
 use borrow.Author.Needs.{needs}
-use Rattle.propagation.proofs.log.check_log.Statement.{statement}
-use Rattle.propagation.proofs.log.check_log.Tie as tie
+use Rattle.propagation.proofs.replay.check_log.Statement.{statement}
+use Rattle.propagation.proofs.replay.check_log.Tie as tie
 
 test-entry-requires : tie.Need-test-entry-requires
 test-entry-requires c κs = search needs

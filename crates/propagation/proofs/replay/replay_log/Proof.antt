@@ -11,8 +11,8 @@ use Rattle.propagation.proofs.Fits.{fitting, fit-alone}
 use Rattle.propagation.proofs.Keeping.{ready}
 use Rattle.propagation.proofs.Turns.{one-each}
 use Rattle.propagation.proofs.Replaying.{Replaying, replay-opens, replay-done, replay-13, replay-11, replay-12, replay-stops, replay-moves, moves-task, passes-moved}
-use Rattle.propagation.proofs.log.replay_log.Statement.{statement}
-use Rattle.propagation.proofs.log.replay_log.Tie as tie
+use Rattle.propagation.proofs.replay.replay_log.Statement.{statement}
+use Rattle.propagation.proofs.replay.replay_log.Tie as tie
 
 abbrev Inv-loop : tie.InvT-loop
 Inv-loop hours capacity calendars task-calendars work-times heights boxes₀ log-kinds log-tasks log-hours fits₀ said₀ k₀ k-end boxes fits said k =
