@@ -122,15 +122,17 @@ module _ (cal : List ℕ) (p : ℕ) (b : Bounds) where
   unfolding validTriples
   only-valid t m =
       let (s, l, u, ms) = from-over t _ _ _ m in
-      let h = only-starting s t ms in
-      (record {
-        earliest = omega (arith, h .start);
-        latest = omega (arith, h .start);
-        shortest = h .shortest;
-        longest = h .longest;
-        fewest = h .fewest;
-        most = h .most;
-      }, h .is-valid)
+      let h = only-starting s t ms in (
+        record {
+          earliest = omega (arith, h .start);
+          latest = omega (arith, h .start);
+          shortest = h .shortest;
+          longest = h .longest;
+          fewest = h .fewest;
+          most = h .most;
+        },
+        h .is-valid,
+      )
 
 -- a list without members
 pub no-members : (ts : List Triple) → ((t : Triple) → List·Memᴰ t ts → ⊥) → ts ≡ []

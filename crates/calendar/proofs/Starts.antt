@@ -44,10 +44,10 @@ module _ (cal : List ℕ) (s : ℕ) (symbols : AllSymbols cal) where
   hour-works t l h = open-works (getD cal t 0) (symbols t l) h
 
   -- the regular hours and the overtime hours at the ends are the regular hours between the ends, and the ends
-  ends-work : (e : ℕ) → 1 ≤ e → s + e ≤ length cal → isKind closed cal s ≡ false → isKind closed cal (s + e - 1) ≡ false
+  worked-ends : (e : ℕ) → 1 ≤ e → s + e ≤ length cal → isKind closed cal s ≡ false → isKind closed cal (s + e - 1) ≡ false
       → overtimeEnds cal s e + hoursOf regular cal s e ≡ hoursOf regular cal (s + 1) (e - 2) + min e 2
   unfolding overtimeEnds
-  ends-work e l u first last = go (decLe 2 e)
+  worked-ends e l u first last = go (decLe 2 e)
     where
       go : Dec (2 ≤ e) → oneIf (isKind overtime cal s) + (if eqb e 1 then 0 else oneIf (isKind overtime cal (s + e - 1))) + hoursOf regular cal s e
           ≡ hoursOf regular cal (s + 1) (e - 2) + min e 2
@@ -61,7 +61,8 @@ module _ (cal : List ℕ) (s : ℕ) (symbols : AllSymbols cal) where
             hours-first regular cal s 0,
             hours-none regular cal (s + 1),
             ap (hoursOf regular cal (s + 1)) m,
-            hour-works s (omega arith) first)
+            hour-works s (omega arith) first,
+          )
       go (yes n) =
           let q : e ≡ e - 2 + 1 + 1 = omega arith in
           let t : s + e - 1 ≡ s + 1 + (e - 2) = omega arith in
@@ -73,7 +74,8 @@ module _ (cal : List ℕ) (s : ℕ) (symbols : AllSymbols cal) where
             hours-more regular cal (s + 1) (e - 2),
             ap (λ (x : ℕ). oneIf (isKind regular cal x)) t,
             hour-works s (omega arith) first,
-            hour-works (s + e - 1) (omega arith) last)
+            hour-works (s + e - 1) (omega arith) last,
+          )
 
 -- ---- validity and the two tests
 
@@ -96,7 +98,8 @@ module _ (cal : List ℕ) (p : ℕ) (b : Bounds) (s : ℕ) (symbols : AllSymbols
           arith,
           v .works,
           v .ends-worked,
-          ends-work cal s symbols (elapsedOf t) (v .lasts) (v .ends) (v .first-open) (v .last-open));
+          worked-ends cal s symbols (elapsedOf t) (v .lasts) (v .ends) (v .first-open) (v .last-open),
+        );
       }
 
   tests-valid : (e : ℕ) → 1 ≤ e → s + e ≤ length cal → isKind closed cal s ≡ false → MayEnd p b (stretchOf cal s e) → MayLast cal p b s e
@@ -110,7 +113,7 @@ module _ (cal : List ℕ) (p : ℕ) (b : Bounds) (s : ℕ) (symbols : AllSymbols
         last-open = last;
         works = omega (arith, n .fewest);
         in-overtime = omega (arith, m .works);
-        ends-worked = omega (arith, n .worked, ends-work cal s symbols e l u first last);
+        ends-worked = omega (arith, n .worked, worked-ends cal s symbols e l u first last);
       }
     where
       closed-at : openLength cal s e ≡ e → isKind closed cal (s + openLength cal s e - 1) ≡ false → isKind closed cal (s + e - 1) ≡ false
@@ -162,9 +165,10 @@ module _ (cal : List ℕ) (p : ℕ) (b : Bounds) (s : ℕ) where
 
     -- what the test of the shortest asks
     pub end-asks : length cal ≤ mostHours → (shortest .counts .regular ≤ mostHours) × (shortest .counts .overtime ≤ mostHours)
-    end-asks l =
-        (omega (arith, regular-le cal s shortest (R .is-shortest), R .shortest-inside),
-        omega (arith, overtime-le cal s shortest (R .is-shortest), R .shortest-inside))
+    end-asks l = (
+      omega (arith, regular-le cal s shortest (R .is-shortest), R .shortest-inside),
+      omega (arith, overtime-le cal s shortest (R .is-shortest), R .shortest-inside),
+    )
 
     -- else both are valid, and the window is theirs
     module _ (open-start : isKind closed cal s ≡ false) (ends : mayEnd p b shortest ≡ true) (between : shortest .hours .0 ≤ longest .last .0) where
@@ -186,7 +190,8 @@ module _ (cal : List ℕ) (p : ℕ) (b : Bounds) (s : ℕ) where
                   arith,
                   shortest-ends .works,
                   hours-mono regular cal s (shortest .hours .0) (longest .last .0) between,
-                  hours-mono overtime cal s (shortest .hours .0) (longest .last .0) between);
+                  hours-mono overtime cal s (shortest .hours .0) (longest .last .0) between,
+                );
             goes = open-itself cal s (longest .last .0) (omega (arith, some-hours)) (rw is-last (open-last cal s (longest .hours .0) (omega (arith, is-last, some-hours))));
             most = omega (arith, shortest-ends .most, hours-mono regular cal s (shortest .hours .0) (longest .last .0) between);
           }

@@ -154,7 +154,15 @@ pub fn is_valid(calendar: &[u8], work_time: Duration, t: Triple) -> bool
 }
 
 // The answer with the valid triples in the box that start at s. They end at the open hours from the shortest stretch to the longest.
-fn with_start(calendar: &[u8], work_time: Duration, b: Bounds, s: Hour, shortest: Stretch, longest: Stretch, fit: Fit) -> Fit
+fn with_start(
+    calendar: &[u8],
+    work_time: Duration,
+    b: Bounds,
+    s: Hour,
+    shortest: Stretch,
+    longest: Stretch,
+    fit: Fit,
+) -> Fit
     requires { ⌜ (1 ≤ b .shortest .0)
         × (s .0 < length (now calendar))
         × (length (now calendar) ≤ mostHours)

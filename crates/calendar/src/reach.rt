@@ -53,7 +53,11 @@ fn last_open(a: Stretch, symbol: u8) -> Duration
     requires { ⌜ a .hours .0 < mostHours ⌝ }
     ensures { λ r. ⌜ r ≡ (if eqb symbol closed then a .last else duration (a .hours .0 + 1)) ⌝ }
 {
-    if symbol == b'c' { a.last } else { Duration(a.hours.0 + 1) }
+    if symbol == b'c' {
+        a.last
+    } else {
+        Duration(a.hours.0 + 1)
+    }
 }
 
 // The stretch with one hour more at its end.
@@ -137,7 +141,14 @@ fn may_last(calendar: &[u8], work_time: Duration, b: Bounds, s: Hour, a: Stretch
 }
 
 // Whether to lengthen the stretch no more: for the shortest, since a task may end with it; for the longest, since no task may last longer.
-fn stops(calendar: &[u8], work_time: Duration, b: Bounds, s: Hour, a: Stretch, shortest: bool) -> bool
+fn stops(
+    calendar: &[u8],
+    work_time: Duration,
+    b: Bounds,
+    s: Hour,
+    a: Stretch,
+    shortest: bool,
+) -> bool
     requires { ⌜ (s .0 + a .hours .0 < length (now calendar))
         × (length (now calendar) ≤ mostHours)
         × (a ≡ stretchOf (now calendar) (s .0) (a .hours .0)) ⌝ }
@@ -150,7 +161,14 @@ fn stops(calendar: &[u8], work_time: Duration, b: Bounds, s: Hour, a: Stretch, s
 }
 
 // The stretch, lengthened to where it stops, or to the calendar's end.
-pub fn lengthen(calendar: &[u8], work_time: Duration, b: Bounds, s: Hour, a: Stretch, shortest: bool) -> Stretch
+pub fn lengthen(
+    calendar: &[u8],
+    work_time: Duration,
+    b: Bounds,
+    s: Hour,
+    a: Stretch,
+    shortest: bool,
+) -> Stretch
     requires { ⌜ (s .0 + a .hours .0 ≤ length (now calendar))
         × (length (now calendar) ≤ mostHours)
         × (a ≡ stretchOf (now calendar) (s .0) (a .hours .0)) ⌝ }

@@ -56,9 +56,10 @@ loop-less c = omega arith
 
 loop-again : tie.Need-loop-again Inv-loop μ-loop
 loop-again c =
-    let R = carried-on _ _ _ _ (omega (arith, c .before .before .before .before .before .before .before .before .before .before .pre .1, c .before .before .before .before .before .loop-test .taken)) _ _ _ _ (c .before .before .before .before .before .before .loop .inv .0) (c .before .before .before .before .lengthen .ensures) (c .before .before .before .lengthen2 .ensures) in
-    (carried-next _ _ _ _ (c .before .before .before .before .before .before .before .before .before .before .pre .0) _ _ _ _ R (c .before .without-first .ensures) (c .without-first2 .ensures),
-    rw (c .before .before .with-start .ensures) (sym (after-step _ _ _ _ (omega (arith, c .before .before .before .before .before .loop-test .taken))) ∙ c .before .before .before .before .before .before .loop .inv .1))
+    let R = carried-on _ _ _ _ (omega (arith, c .before .before .before .before .before .before .before .before .before .before .pre .1, c .before .before .before .before .before .loop-test .taken)) _ _ _ _ (c .before .before .before .before .before .before .loop .inv .0) (c .before .before .before .before .lengthen .ensures) (c .before .before .before .lengthen2 .ensures) in (
+      carried-next _ _ _ _ (c .before .before .before .before .before .before .before .before .before .before .pre .0) _ _ _ _ R (c .before .without-first .ensures) (c .without-first2 .ensures),
+      rw (c .before .before .with-start .ensures) (sym (after-step _ _ _ _ (omega (arith, c .before .before .before .before .before .loop-test .taken))) ∙ c .before .before .before .before .before .before .loop .inv .1),
+    )
 
 returns : tie.Need-returns Inv-loop μ-loop
 returns c = unmoved _ (over-none _ _ _ (omega arith)) ∙ c .before .loop .inv .1

@@ -3,7 +3,6 @@ use native.Mathlib.Omega.{arith}
 use borrow.Author.Tests.{eq-eqb, ne-eqb, not-true, not-false}
 use Rattle.calendar.specs.Scan.{joined}
 use Rattle.calendar.specs.Valid.{isKind}
-
 use Rattle.calendar.proofs.Answers.{unmoved, after-joined}
 use Rattle.calendar.proofs.Starts.{end-asks, none-closed, none-between, none-ends, window-asks, window-is}
 use borrow.Author.Needs.{needs}
