@@ -10,9 +10,10 @@ ghost use Prim.Native.Nat.{_+_, _≤_, _<_};
 ghost use lib.ListN.{length, getD, set, take, drop};
 ghost use Rattle.units.specs.Cells.{written};
 ghost use Rattle.plan.specs.Plan.{plan};
+ghost use Rattle.plan.specs.Faults.{firstFault};
+ghost use Rattle.propagation.specs.Claim.{CheckedHolds, FilterHolds};
 ghost use Rattle.propagation.specs.Entry.{checkAnswer, logAnswer, filterAnswer};
 ghost use Rattle.log.specs.Entry.{checkSteps, filterSteps, LeavesSteps};
-ghost use Rattle.log.specs.Claim.{CheckedStepsHold, FilteredStepsHold};
 ghost use Rattle.log.specs.Parts.{noStep, partSize, partSteps, Sized};
 
 mod part;
@@ -78,9 +79,13 @@ pub fn check_log(
         × (now (boxes .exit) ≡ checkSteps
         (plan hours capacity (now (calendars .entry)) (now («task_calendars» .entry)) (now («work_times» .entry)) (now (heights .entry)))
         (now (boxes .entry)) (now (log .entry)) .boxes) ⌝ }
-    ensures holds { λ r. ⌜ CheckedStepsHold
+    ensures holds { λ r. ⌜ CheckedHolds
         (plan hours capacity (now (calendars .entry)) (now («task_calendars» .entry)) (now («work_times» .entry)) (now (heights .entry)))
-        (now (boxes .entry)) (now (log .entry)) (logAnswer r) (now (boxes .exit)) ⌝ }
+        (now (boxes .entry))
+        (firstFault
+        (plan hours capacity (now (calendars .entry)) (now («task_calendars» .entry)) (now («work_times» .entry)) (now (heights .entry)))
+        (now (boxes .entry)))
+        (now (log .entry)) (logAnswer r) (now (boxes .exit)) ⌝ }
 {
     let mut from = 0;
     let mut said = false;
@@ -121,9 +126,9 @@ pub fn filter(
         (plan hours capacity (now (calendars .entry)) (now («task_calendars» .entry)) (now («work_times» .entry)) (now (heights .entry)))
         (now (boxes .entry)) (now (log .entry)))
         (filterAnswer r) (now (boxes .exit)) (now (log .exit)) ⌝ }
-    ensures holds { λ r. ⌜ FilteredStepsHold
+    ensures holds { λ r. ⌜ FilterHolds
         (plan hours capacity (now (calendars .entry)) (now («task_calendars» .entry)) (now («work_times» .entry)) (now (heights .entry)))
-        (now (boxes .entry)) (length (now (log .entry))) (filterAnswer r) (now (boxes .exit)) (now (log .exit)) ⌝ }
+        (now (boxes .entry)) (length (now (log .entry))) (filterAnswer r) (now (boxes .exit)) (λ n. take n (now (log .exit))) ⌝ }
 {
     let room = log.len();
     let mut taken = 0;

@@ -8,19 +8,19 @@ use native.Mathlib.Numerals.{add-one}
 use native.Mathlib.Omega.{arith}
 use lib.ListN.{length}
 use Rattle.units.specs.Cells.{written}
-use Rattle.units.specs.Choice.{_orElse_, firstOf}
+use Rattle.units.specs.Choice.{onOption, _orElse_, firstOf}
 use Rattle.units.proofs.Choices.{and-left, none≢some, option-all, if-some, else-case, neither, first-at}
 use Rattle.plan.specs.Plan.{Plan, taskCount}
 use Rattle.plan.specs.Boxes.{boundsAt}
 use Rattle.plan.specs.Refusals.{Fault, fault, unless, refused, answered, answerUnless}
-use Rattle.plan.specs.Faults.{taskFault, planFault}
+use Rattle.plan.specs.Faults.{taskFault, planFault, firstFault}
 use Rattle.plan.proofs.Refusing.{unless-none}
 use Rattle.propagation.specs.declared.Step.{Step}
 use Rattle.calendar.specs.declared.Triple.{Triple}
 use Rattle.calendar.specs.Triples.{inBounds}
 use Rattle.schedule.specs.Schedule.{Feasible}
 use Rattle.propagation.specs.Steps.{judge}
-use Rattle.propagation.specs.Log.{LogEnd, replayFrom, replay}
+use Rattle.propagation.specs.Log.{LogEnd, logEnd, replayFrom, replay}
 use Rattle.propagation.specs.Filter.{Ending, settled, impossible, noRoom, Run, count, run}
 use Rattle.propagation.specs.Entry.{stepAt, stepsFrom, stepsIn, entryFault, Accepted, checkLog, checkAnswer, refusedBy, endingAnswer, FilterEnd, logged, filterPlan}
 use Rattle.propagation.specs.Claim.{saidImpossible, CheckedHolds, FilterHolds}
@@ -31,7 +31,7 @@ use Rattle.propagation.proofs.Claim.{boxes-sized}
 
 -- ---- the faults found before a log is read are none of the log's own
 
-not-13 : Fault → Type 0
+pub not-13 : Fault → Type 0
 not-13 f = f .number ≡ 13 → ⊥
 
 by-unless : (test : Bool) (n place : ℕ) (f : Fault) → (n ≡ 13 → ⊥) → unless test n place ≡ some f → not-13 f
@@ -61,29 +61,28 @@ module _ (P : Plan) (boxes : List ℕ) (f : Fault) where
       (by-either _ _ f (by-unless _ 5 0 f (λ q. omega arith))
       (by-either _ _ f (by-unless _ 10 0 f (λ q. omega arith)) (by-first _ _ f task-fault)))))
 
+  pub first-fault : firstFault P boxes ≡ some f → not-13 f
+  unfolding firstFault
+  first-fault = by-either _ _ f (by-unless _ 31 0 f (λ q. omega arith)) plan-fault
+
   entry-fault : (kinds tasks hours : List ℕ) → entryFault P boxes kinds tasks hours ≡ some f → not-13 f
   unfolding entryFault
   entry-fault kinds tasks hours = by-either _ _ f (by-unless _ 31 0 f (λ q. omega arith)) plan-fault
+
+-- where they find none, the boxes number one for each task
+module _ (P : Plan) (boxes : List ℕ) where
+  pub first-sized : firstFault P boxes ≡ none → length boxes ≡ 6 * taskCount P
+  unfolding firstFault
+  first-sized e = boxes-sized P boxes (unless-none _ 31 0 (neither _ _ e .0))
+
+  entry-sized : (kinds tasks hours : List ℕ) → entryFault P boxes kinds tasks hours ≡ none → length boxes ≡ 6 * taskCount P
+  unfolding entryFault
+  entry-sized kinds tasks hours e = boxes-sized P boxes (and-left _ _ (unless-none _ 31 0 (neither _ _ e .0)))
 
 -- ---- the log checker
 
 pub refused≢answered : {A C : Type 0} {f : Fault} {a : A} → refused f ≡ answered a → C
 refused≢answered e = absurd (let z : _≡_ {A = ℕ} 0 1 = cc in omega arith)
-
-module _ (P : Plan) (boxes kinds tasks hours : List ℕ) where
-  sized : entryFault P boxes kinds tasks hours ≡ none → length boxes ≡ 6 * taskCount P
-  unfolding entryFault
-  sized e = boxes-sized P boxes (and-left _ _ (unless-none _ 31 0 (neither _ _ e .0)))
-
-  refused-holds : (f : Fault) → entryFault P boxes kinds tasks hours ≡ some f → CheckedHolds P boxes kinds tasks hours (refused f) boxes
-  unfolding not-13
-  refused-holds f e =
-      record {
-        exactly = λ q. none≢some (sym q ∙ e);
-        keeps = λ σ F. F .inside;
-        noSchedule = λ steps q. refused≢answered q;
-        noScheduleAt = λ k q. absurd (entry-fault P boxes f kinds tasks hours e (let z : f ≡ fault 13 k = cc in ap (λ (g : Fault). g .number) z));
-      }
 
 -- a record that follows one which said impossible is refused by 13, and only such a one
 After-impossible : LogEnd → Type 0
@@ -116,34 +115,55 @@ unfolding answerUnless
 answer-some none a f e = refused≢answered (sym e)
 answer-some (some g) a f e = cc
 
-module _ (P : Plan) (boxes kinds tasks hours : List ℕ) where
-  abbrev end : LogEnd
-  end = replay P boxes (stepsIn kinds tasks hours)
+module _ (P : Plan) (boxes : List ℕ) (found : Option Fault) (log : List Step) where
+  refused-holds : (f : Fault) → found ≡ some f → not-13 f → CheckedHolds P boxes found log (refused f) boxes
+  unfolding not-13
+  refused-holds f e other =
+      record {
+        exactly = λ q. none≢some (sym q ∙ e);
+        keeps = λ σ F. F .inside;
+        noSchedule = λ steps q. refused≢answered q;
+        noScheduleAt = λ k q. absurd (other (let z : f ≡ fault 13 k = cc in ap (λ (g : Fault). g .number) z));
+      }
 
-  replayed-holds : length boxes ≡ 6 * taskCount P → CheckedHolds P boxes kinds tasks hours (checkAnswer end) (end .boxes)
+  abbrev end : LogEnd
+  end = replay P boxes log
+
+  replayed-holds : length boxes ≡ 6 * taskCount P → CheckedHolds P boxes found log (checkAnswer end) (end .boxes)
   unfolding checkAnswer After-impossible
   replayed-holds size =
       record {
         exactly = λ q. (
-          λ a. accepted-admitted P boxes (stepsIn kinds tasks hours) (answer-none (end .refusal) _ _ (a .1) .0),
-          λ a. let e = admitted-accepted P boxes (stepsIn kinds tasks hours) a in (record { steps = end .steps; impossible = end .impossible }, unfold answerUnless in (rw e)),
+          λ a. accepted-admitted P boxes log (answer-none (end .refusal) _ _ (a .1) .0),
+          λ a. let e = admitted-accepted P boxes log a in (record { steps = end .steps; impossible = end .impossible }, unfold answerUnless in (rw e)),
         );
-        keeps = λ σ F. replay-keeps P boxes (stepsIn kinds tasks hours) size σ F .inside;
+        keeps = λ σ F. replay-keeps P boxes log size σ F .inside;
         noSchedule = λ steps e σ F.
             no-schedule σ F (ap (λ (a : Accepted). a .impossible) (answer-none (end .refusal) _ _ e .1));
         noScheduleAt = λ k e σ F.
-            no-schedule σ F (unfold replay in (refused-13 P 0 boxes (stepsIn kinds tasks hours) k (answer-some (end .refusal) _ _ e)));
+            no-schedule σ F (unfold replay in (refused-13 P 0 boxes log k (answer-some (end .refusal) _ _ e)));
       }
     where
       no-schedule : (σ : ℕ → Triple) → Feasible P boxes σ → end .impossible ≡ true → ⊥
-      no-schedule σ F e = false≢true (sym (replay-possible P boxes (stepsIn kinds tasks hours) size σ F) ∙ e)
+      no-schedule σ F e = false≢true (sym (replay-possible P boxes log size σ F) ∙ e)
 
-  pub check-holds : CheckedHolds P boxes kinds tasks hours (checkAnswer (checkLog P boxes kinds tasks hours)) (checkLog P boxes kinds tasks hours .boxes)
-  unfolding checkLog
-  check-holds =
-      option-all (λ (e : LogEnd). CheckedHolds P boxes kinds tasks hours (checkAnswer e) (e .boxes)) (entryFault P boxes kinds tasks hours) _ _
-      (λ e. replayed-holds (sized P boxes kinds tasks hours e))
-      (λ f e. unfold checkAnswer answerUnless in (refused-holds P boxes kinds tasks hours f e))
+  -- the log's end, or at once a refusal that changes nothing
+  abbrev tested : LogEnd
+  tested = onOption found end (λ f. logEnd 0 false boxes (some f))
+
+  pub tested-holds : (found ≡ none → length boxes ≡ 6 * taskCount P) → ((f : Fault) → found ≡ some f → not-13 f)
+      → CheckedHolds P boxes found log (checkAnswer tested) (tested .boxes)
+  tested-holds size other =
+      option-all (λ (e : LogEnd). CheckedHolds P boxes found log (checkAnswer e) (e .boxes)) found _ _
+      (λ e. replayed-holds (size e))
+      (λ f e. unfold checkAnswer answerUnless in (refused-holds f e (other f e)))
+
+pub check-holds : (P : Plan) (boxes kinds tasks hours : List ℕ)
+    → CheckedHolds P boxes (entryFault P boxes kinds tasks hours) (stepsIn kinds tasks hours) (checkAnswer (checkLog P boxes kinds tasks hours))
+    (checkLog P boxes kinds tasks hours .boxes)
+unfolding checkLog
+check-holds P boxes kinds tasks hours =
+    tested-holds P boxes _ _ (entry-sized P boxes kinds tasks hours) (λ f e. entry-fault P boxes f kinds tasks hours e)
 
 -- ---- the filter
 
@@ -177,11 +197,8 @@ same-ending noRoom settled m n q = absurd (let z : _≡_ {A = ℕ} 0 1 = cc in o
 same-ending noRoom impossible m n q = absurd (let z : _≡_ {A = ℕ} 0 1 = cc in omega arith)
 same-ending noRoom noRoom m n q = (refl, cc)
 
-module _ (P : Plan) (boxes kinds tasks hours : List ℕ) where
-  abbrev Holds : FilterEnd → Type 0
-  Holds l = FilterHolds P boxes (length kinds) (l .answer) (l .boxes) (l .kinds) (l .tasks) (l .hours)
-
-  no-run-holds : (f : Fault) → Holds (record { answer = refusedBy f; boxes = boxes; kinds = kinds; tasks = tasks; hours = hours })
+module _ (P : Plan) (boxes : List ℕ) (room : ℕ) (first : ℕ → List Step) where
+  pub no-run-holds : (f : Fault) → FilterHolds P boxes room (refusedBy f) boxes first
   no-run-holds f =
       record {
         own = λ e n q. refused≢ending f e n q;
@@ -192,34 +209,38 @@ module _ (P : Plan) (boxes kinds tasks hours : List ℕ) where
         noSchedule = λ n q. refused≢ending f impossible n (unfold endingAnswer in q);
       }
 
-  run-holds : length boxes ≡ 6 * taskCount P → Holds (logged (run P boxes (length kinds)) kinds tasks hours)
-  unfolding logged written endingAnswer
-  run-holds size =
+  abbrev r : Run
+  r = run P boxes room
+
+  pub run-holds : length boxes ≡ 6 * taskCount P → first (count r) ≡ r .log → FilterHolds P boxes room (endingAnswer (r .ending) (count r)) (r .boxes) first
+  unfolding endingAnswer
+  run-holds size is-log =
       record {
         own = λ e n q.
             let s = same-ending (r .ending) e (count r) n q in
-            rw (← s .0, ← s .1) (ap (replay P boxes) (steps-written (r .log) _ _ _) ∙ run-replays P boxes (length kinds));
-        fits = λ e n q. rw (← (same-ending (r .ending) e (count r) n q .1)) (run-fits P boxes (length kinds));
-        short = λ e n q. rw (← (same-ending (r .ending) e (count r) n q .1)) (run-short P boxes (length kinds) size);
-        settles = λ n q. next-none P (r .boxes) (run-rests P boxes (length kinds) (same-ending (r .ending) settled (count r) n q .0));
-        keeps = λ σ F. subst (λ (l : LogEnd). (i : ℕ) → i < taskCount P → inBounds (boundsAt (l .boxes) i) (σ i) ≡ true) (run-replays P boxes (length kinds))
+            rw (← s .0, ← s .1) (ap (replay P boxes) is-log ∙ run-replays P boxes room);
+        fits = λ e n q. rw (← (same-ending (r .ending) e (count r) n q .1)) (run-fits P boxes room);
+        short = λ e n q. rw (← (same-ending (r .ending) e (count r) n q .1)) (run-short P boxes room size);
+        settles = λ n q. next-none P (r .boxes) (run-rests P boxes room (same-ending (r .ending) settled (count r) n q .0));
+        keeps = λ σ F. subst (λ (l : LogEnd). (i : ℕ) → i < taskCount P → inBounds (boundsAt (l .boxes) i) (σ i) ≡ true) (run-replays P boxes room)
             (replay-keeps P boxes (r .log) size σ F .inside);
         noSchedule = λ n q σ F.
             false≢true
             (sym (replay-possible P boxes (r .log) size σ F)
-            ∙ ap (λ (l : LogEnd). l .impossible) (run-replays P boxes (length kinds))
+            ∙ ap (λ (l : LogEnd). l .impossible) (run-replays P boxes room)
             ∙ said (same-ending (r .ending) impossible (count r) n q .0));
       }
     where
-      r : Run
-      r = run P boxes (length kinds)
-
       said : {e : Ending} → e ≡ impossible → saidImpossible e ≡ true
       said e = unfold saidImpossible in (rw e)
 
+module _ (P : Plan) (boxes kinds tasks hours : List ℕ) where
+  abbrev Holds : FilterEnd → Type 0
+  Holds l = FilterHolds P boxes (length kinds) (l .answer) (l .boxes) (stepsFrom (l .kinds) (l .tasks) (l .hours) 0)
+
   pub filter-holds : Holds (filterPlan P boxes kinds tasks hours)
-  unfolding filterPlan
+  unfolding filterPlan logged written
   filter-holds =
       option-all Holds (entryFault P boxes kinds tasks hours) _ _
-      (λ e. run-holds (sized P boxes kinds tasks hours e))
-      (λ f e. no-run-holds f)
+      (λ e. run-holds P boxes (length kinds) _ (entry-sized P boxes kinds tasks hours e) (steps-written (run P boxes (length kinds) .log) _ _ _))
+      (λ f e. no-run-holds P boxes (length kinds) _ f)

@@ -14,7 +14,7 @@ use Rattle.plan.proofs.Refusing.{unless-none, go-on, refuse}
 use Rattle.plan.proofs.Passed.{Passed, passed}
 use Rattle.propagation.specs.Log.{replay}
 use Rattle.propagation.specs.Filter.{run}
-use Rattle.propagation.specs.Entry.{stepsIn, oneForEachStep, entryFault, Accepted, checkLog, checkAnswer, FilterAnswer, refusedBy, Leaves, logged, filterPlan}
+use Rattle.propagation.specs.Entry.{stepsFrom, stepsIn, oneForEachStep, entryFault, Accepted, checkLog, checkAnswer, FilterAnswer, refusedBy, Leaves, logged, filterPlan}
 use Rattle.propagation.specs.Claim.{CheckedHolds, FilterHolds}
 use Rattle.propagation.proofs.Contracts.{check-holds, filter-holds}
 
@@ -49,7 +49,7 @@ module _ (P : Plan) (boxes kinds tasks hours : List ℕ) where
   abbrev pub Checks : Answer Accepted → List ℕ → Type 0
   Checks answer left =
       ((answer ≡ checkAnswer (checkLog P boxes kinds tasks hours)) × (left ≡ checkLog P boxes kinds tasks hours .boxes))
-      × CheckedHolds P boxes kinds tasks hours answer left
+      × CheckedHolds P boxes (entryFault P boxes kinds tasks hours) (stepsIn kinds tasks hours) answer left
 
   checks : (answer : Answer Accepted) (left : List ℕ) → answer ≡ checkAnswer (checkLog P boxes kinds tasks hours)
       → left ≡ checkLog P boxes kinds tasks hours .boxes → Checks answer left
@@ -67,7 +67,7 @@ module _ (P : Plan) (boxes kinds tasks hours : List ℕ) where
   -- the filter's contract
   abbrev pub Filters : FilterAnswer → List ℕ → List ℕ → List ℕ → List ℕ → Type 0
   Filters answer left ks ts hs =
-      Leaves (filterPlan P boxes kinds tasks hours) answer left ks ts hs × FilterHolds P boxes (length kinds) answer left ks ts hs
+      Leaves (filterPlan P boxes kinds tasks hours) answer left ks ts hs × FilterHolds P boxes (length kinds) answer left (stepsFrom ks ts hs 0)
 
   filters : (answer : FilterAnswer) (left ks ts hs : List ℕ) → Leaves (filterPlan P boxes kinds tasks hours) answer left ks ts hs
       → Filters answer left ks ts hs

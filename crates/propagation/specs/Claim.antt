@@ -3,20 +3,20 @@
 use mathlib.Core.Path.{_≡_}
 use mathlib.Core.Logic.{_↔_}
 use mathlib.Core.Bool.{Bool, true, false}
-use mathlib.Core.Option.{none}
+use mathlib.Core.Option.{Option, none}
 use mathlib.Core.List.{List}
 use Prim.Native.Nat.{ℕ, _+_, _≤_, _<_}
 use lib.ListN.{length}
 use Rattle.plan.specs.Plan.{Plan, taskCount}
 use Rattle.plan.specs.Boxes.{boundsAt}
-use Rattle.plan.specs.Refusals.{fault, Answer, refused, answered}
+use Rattle.plan.specs.Refusals.{Fault, fault, Answer, refused, answered}
 use Rattle.calendar.specs.declared.Triple.{Triple}
 use Rattle.calendar.specs.Triples.{inBounds}
 use Rattle.schedule.specs.Schedule.{Feasible}
 use Rattle.propagation.specs.declared.Step.{Step}
 use Rattle.propagation.specs.Log.{logEnd, replay, AllAdmitted}
 use Rattle.propagation.specs.Filter.{Ending, settled, impossible, noRoom, ifAdmitted, count, run}
-use Rattle.propagation.specs.Entry.{stepsFrom, stepsIn, entryFault, Accepted, FilterAnswer, settledAfter, impossibleAfter, endingAnswer}
+use Rattle.propagation.specs.Entry.{Accepted, FilterAnswer, settledAfter, impossibleAfter, endingAnswer}
 use Rattle.propagation.specs.Widths.{widths}
 
 -- the run's last step said impossible
@@ -41,23 +41,22 @@ pub record LogsHold (P : Plan) (boxes : List ℕ) (log : List Step) (room : ℕ)
   pub fits : count (run P boxes room) ≤ room
   pub short : count (run P boxes room) ≤ 1 + widths P boxes
 
--- The claim as the log checker's contract carries it: the log lent, the answer, and the boxes left in the memory lent.
-pub record CheckedHolds (P : Plan) (opening kinds tasks hours : List ℕ) (answer : Answer Accepted) (left : List ℕ) : Type 0 where
+-- The claim as a log checker's contract carries it: what its own tests found, the log lent, the answer, and the boxes left in the memory lent.
+pub record CheckedHolds (P : Plan) (opening : List ℕ) (found : Option Fault) (log : List Step) (answer : Answer Accepted) (left : List ℕ) : Type 0 where
   -- for a plan that passes the tests and memory of the right size: accepted exactly when each step is admitted at its turn and nothing follows
   -- one that says impossible
-  pub exactly : entryFault P opening kinds tasks hours ≡ none
-      → ((a : Accepted) × (answer ≡ answered a)) ↔ AllAdmitted P opening (stepsIn kinds tasks hours)
+  pub exactly : found ≡ none → ((a : Accepted) × (answer ≡ answered a)) ↔ AllAdmitted P opening log
   -- accepted or refused, a schedule that lies in the opening boxes and meets the definitions lies in the boxes left
   pub keeps : (σ : ℕ → Triple) → Feasible P opening σ → (i : ℕ) → i < taskCount P → inBounds (boundsAt left i) (σ i) ≡ true
   -- if a step said impossible, accepted as the last or followed by another (13), there is no such schedule
   pub noSchedule : (steps : ℕ) → answer ≡ answered (record { steps = steps; impossible = true }) → (σ : ℕ → Triple) → Feasible P opening σ → ⊥
   pub noScheduleAt : (k : ℕ) → answer ≡ refused (fault 13 k) → (σ : ℕ → Triple) → Feasible P opening σ → ⊥
 
--- The claim as the filter's contract carries it: the room lent, the answer, and the boxes and the log left in the memory lent. The filter's own
--- log is the first cells of the log lent, as many as its count.
-pub record FilterHolds (P : Plan) (opening : List ℕ) (room : ℕ) (answer : FilterAnswer) (left kinds tasks hours : List ℕ) : Type 0 where
+-- The claim as a filter's contract carries it: the room lent, the answer, and the boxes and the log left in the memory lent, of which `first` gives
+-- so many steps. The filter's own log is the first cells of the log lent, as many as its count.
+pub record FilterHolds (P : Plan) (opening : List ℕ) (room : ℕ) (answer : FilterAnswer) (left : List ℕ) (first : ℕ → List Step) : Type 0 where
   -- its own log is accepted, with its count, its boxes, and impossible exactly when it says so
-  pub own : (e : Ending) (n : ℕ) → answer ≡ endingAnswer e n → replay P opening (stepsFrom kinds tasks hours 0 n) ≡ logEnd n (saidImpossible e) left none
+  pub own : (e : Ending) (n : ℕ) → answer ≡ endingAnswer e n → replay P opening (first n) ≡ logEnd n (saidImpossible e) left none
   -- the count is at most the room, and at most one more than the opening boxes' widths
   pub fits : (e : Ending) (n : ℕ) → answer ≡ endingAnswer e n → n ≤ room
   pub short : (e : Ending) (n : ℕ) → answer ≡ endingAnswer e n → n ≤ 1 + widths P opening

@@ -16,7 +16,7 @@ ghost use lib.ListN.{length};
 ghost use Rattle.plan.specs.Plan.{plan};
 ghost use Rattle.plan.proofs.Passed.{Passed};
 ghost use Rattle.propagation.specs.Filter.{run};
-ghost use Rattle.propagation.specs.Entry.{oneForEachStep, logged, filterPlan, filterAnswer, Leaves};
+ghost use Rattle.propagation.specs.Entry.{stepsFrom, oneForEachStep, logged, filterPlan, filterAnswer, Leaves};
 ghost use Rattle.propagation.specs.Claim.{FilterHolds};
 
 // The run on a plan that passed its tests. The answers of the calendar rule are kept, and only the moved task's is worked out anew.
@@ -95,8 +95,8 @@ pub fn filter(
         (filterAnswer r) (now (boxes .exit)) (now («log_kinds» .exit)) (now («log_tasks» .exit)) (now («log_hours» .exit)) ⌝ }
     ensures holds { λ r. ⌜ FilterHolds
         (plan hours capacity (now (calendars .entry)) (now («task_calendars» .entry)) (now («work_times» .entry)) (now (heights .entry)))
-        (now (boxes .entry)) (length (now («log_kinds» .entry))) (filterAnswer r)
-        (now (boxes .exit)) (now («log_kinds» .exit)) (now («log_tasks» .exit)) (now («log_hours» .exit)) ⌝ }
+        (now (boxes .entry)) (length (now («log_kinds» .entry))) (filterAnswer r) (now (boxes .exit))
+        (stepsFrom (now («log_kinds» .exit)) (now («log_tasks» .exit)) (now («log_hours» .exit)) 0) ⌝ }
 {
     let tested = entry::test_entry(
         hours,

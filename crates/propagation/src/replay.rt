@@ -15,7 +15,7 @@ ghost use mathlib.Core.Path.{_≡_};
 ghost use Rattle.plan.specs.Plan.{plan};
 ghost use Rattle.plan.proofs.Passed.{Passed};
 ghost use Rattle.propagation.specs.Log.{replay};
-ghost use Rattle.propagation.specs.Entry.{stepsIn, oneForEachStep, checkLog, checkAnswer, logAnswer};
+ghost use Rattle.propagation.specs.Entry.{stepsIn, oneForEachStep, entryFault, checkLog, checkAnswer, logAnswer};
 ghost use Rattle.propagation.specs.Claim.{CheckedHolds};
 
 // The replay of a log on a plan that passed its tests. The answers of the calendar rule are kept, and only the moved task's is worked out anew.
@@ -98,7 +98,11 @@ pub fn check_log(
         (now (boxes .entry)) (now («log_kinds» .entry)) (now («log_tasks» .entry)) (now («log_hours» .entry)) .boxes) ⌝ }
     ensures holds { λ r. ⌜ CheckedHolds
         (plan hours capacity (now (calendars .entry)) (now («task_calendars» .entry)) (now («work_times» .entry)) (now (heights .entry)))
-        (now (boxes .entry)) (now («log_kinds» .entry)) (now («log_tasks» .entry)) (now («log_hours» .entry)) (logAnswer r) (now (boxes .exit)) ⌝ }
+        (now (boxes .entry))
+        (entryFault
+        (plan hours capacity (now (calendars .entry)) (now («task_calendars» .entry)) (now («work_times» .entry)) (now (heights .entry)))
+        (now (boxes .entry)) (now («log_kinds» .entry)) (now («log_tasks» .entry)) (now («log_hours» .entry)))
+        (stepsIn (now («log_kinds» .entry)) (now («log_tasks» .entry)) (now («log_hours» .entry))) (logAnswer r) (now (boxes .exit)) ⌝ }
 {
     let tested = entry::test_entry(
         hours,

@@ -1,9 +1,8 @@
-use mathlib.Core.Path.{_≡_, refl, sym, ap, _∙_}
-use Prim.Native.Nat.{ℕ, _+_, _-_, _*_, _≤_, _<_}
+use mathlib.Core.Path.{_≡_, refl, ap, _∙_}
+use Prim.Native.Nat.{ℕ, _-_, _≤_}
 use native.Mathlib.Omega.{arith}
 use lib.ListN.{length}
 use Rattle.plan.specs.Refusals.{answered}
-use Rattle.propagation.specs.Entry.{Accepted}
 use borrow.Author.Needs.{needs}
 use Rattle.plan.specs.Plan.{plan, taskCount}
 use Rattle.propagation.specs.Entry.{stepAt}
