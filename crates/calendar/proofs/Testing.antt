@@ -14,7 +14,7 @@ use Rattle.units.proofs.Choices.{else-none, else-some, neither}
 use Rattle.plan.specs.Plan.{plan, taskCount}
 use Rattle.plan.specs.Boxes.{boundsAt}
 use Rattle.plan.specs.Refusals.{Fault, fault, refused, answered, answerUnless}
-use Rattle.plan.specs.Faults.{oneForEachTask, planFault, firstFault}
+use Rattle.plan.specs.Faults.{oneForEachTask, planFault, inputFault}
 use Rattle.plan.proofs.Refusing.{unless-true, unless-false}
 use Rattle.plan.proofs.Passed.{passed}
 use Rattle.calendar.specs.Rule.{ruleOf}
@@ -29,17 +29,17 @@ module _ (cal : List ℕ) (p : ℕ) (b : Bounds) where
 
   -- the test that the code asks for, with H from its constructor
   pub one-test : (h : Duration) → duration (length cal) ≡ h
-      → firstFault (plan (h .0) 0 cal (0 ∷ []) (p ∷ []) (0 ∷ []))
+      → inputFault (plan (h .0) 0 cal (0 ∷ []) (p ∷ []) (0 ∷ []))
       (b .earliest .0 ∷ b .latest .0 ∷ b .shortest .0 ∷ b .longest .0 ∷ b .fewest .0 ∷ b .most .0 ∷ [])
-      ≡ firstFault (oneTask cal p) (oneBox b)
+      ≡ inputFault (oneTask cal p) (oneBox b)
   unfolding oneTask oneBox
   one-test h e = rw (← e)
 
-  pub refused-by : (f : Fault) → firstFault (oneTask cal p) (oneBox b) ≡ some f → calendarRule cal p b ≡ refused f
+  pub refused-by : (f : Fault) → inputFault (oneTask cal p) (oneBox b) ≡ some f → calendarRule cal p b ≡ refused f
   unfolding calendarRule answerUnless
   refused-by f e = rw e
 
-  pub answered-by : firstFault (oneTask cal p) (oneBox b) ≡ none → calendarRule cal p b ≡ answered (ruleOf cal p b)
+  pub answered-by : inputFault (oneTask cal p) (oneBox b) ≡ none → calendarRule cal p b ≡ answered (ruleOf cal p b)
   unfolding calendarRule answerUnless
   answered-by e = rw e
 
@@ -47,12 +47,12 @@ module _ (cal : List ℕ) (p : ℕ) (b : Bounds) where
   pub no-length : isPlanLength (length cal) ≡ false → calendarRule cal p b ≡ refused (fault 2 0)
   no-length e =
       refused-by (fault 2 0)
-      (unfold firstFault planFault oneTask in
+      (unfold inputFault planFault oneTask in
       (else-none _ _ (unless-true _ 31 0 one-each) ∙ else-some _ _ _ (unless-false _ 2 0 e)))
 
   -- what the core asks
-  pub ready : firstFault (oneTask cal p) (oneBox b) ≡ none → (1 ≤ b .shortest .0) × (b .latest .0 < length cal) × (length cal ≤ mostHours) × AllSymbols cal
-  unfolding firstFault oneTask oneBox boundsAt
+  pub ready : inputFault (oneTask cal p) (oneBox b) ≡ none → (1 ≤ b .shortest .0) × (b .latest .0 < length cal) × (length cal ≤ mostHours) × AllSymbols cal
+  unfolding inputFault oneTask oneBox boundsAt
   ready e =
       let faults = neither _ _ e in
       let P = passed (oneTask cal p) (oneBox b) one-each (faults .1) in

@@ -6,7 +6,7 @@ use lib.ListN.{length}
 use Rattle.units.specs.declared.Bounds.{Bounds}
 use Rattle.plan.specs.Plan.{Plan, plan}
 use Rattle.plan.specs.Refusals.{Answer, refused, answered, faultOf, answerUnless}
-use Rattle.plan.specs.Faults.{firstFault}
+use Rattle.plan.specs.Faults.{inputFault}
 use Rattle.calendar.specs.declared.Fit.{Fit}
 use Rattle.calendar.specs.declared.Fit.the-variants as fit
 use Rattle.calendar.specs.declared.RuleAnswer.{RuleAnswer}
@@ -22,7 +22,7 @@ unfoldable pub oneBox : Bounds → List ℕ
 oneBox b = b .earliest .0 ∷ b .latest .0 ∷ b .shortest .0 ∷ b .longest .0 ∷ b .fewest .0 ∷ b .most .0 ∷ []
 
 unfoldable pub calendarRule : List ℕ → ℕ → Bounds → Answer Fit
-calendarRule cal p b = answerUnless (firstFault (oneTask cal p) (oneBox b)) (ruleOf cal p b)
+calendarRule cal p b = answerUnless (inputFault (oneTask cal p) (oneBox b)) (ruleOf cal p b)
 
 -- the number and the values of each case of the answer
 abbrev pub ruleAnswer : RuleAnswer → Answer Fit

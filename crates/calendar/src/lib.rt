@@ -14,6 +14,7 @@ ghost use lib.ListN.{length};
 ghost use lib.Dec.{eqb};
 ghost use Rattle.units.specs.Limits.{mostHours};
 ghost use Rattle.units.specs.Sums.{oneIf};
+ghost use Rattle.plan.specs.Lent.{old};
 ghost use Rattle.calendar.specs.Triples.{endOf, validTriple, starting};
 ghost use Rattle.calendar.specs.Rule.{ruleOf};
 ghost use Rattle.calendar.specs.Entry.{calendarRule, ruleAnswer};
@@ -80,7 +81,7 @@ fn with_hour(n: Counts, symbol: u8) -> Counts
 // The counts of so many hours from the start on.
 fn count_hours(calendar: &[u8], start: Hour, hours: Duration) -> Counts
     requires { ⌜ (start .0 + hours .0 ≤ length (now calendar)) × (length (now calendar) ≤ mostHours) ⌝ }
-    ensures { λ r. ⌜ r ≡ countsOf (now (calendar .entry)) (start .0) (hours .0) ⌝ }
+    ensures { λ r. ⌜ r ≡ countsOf (old calendar) (start .0) (hours .0) ⌝ }
 {
     let first = start.0 as usize;
     let end = hours.0 as usize;
@@ -109,7 +110,7 @@ fn is_valid_by(calendar: &[u8], work_time: Duration, t: Triple, n: Counts) -> bo
     requires { ⌜ (1 ≤ t .elapsed .0)
         × (endOf t ≤ length (now calendar))
         × (n ≡ countsOf (now calendar) (t .start .0) (t .elapsed .0)) ⌝ }
-    ensures { λ r. ⌜ r ≡ validTriple (now (calendar .entry)) («work_time» .0) t ⌝ }
+    ensures { λ r. ⌜ r ≡ validTriple (old calendar) («work_time» .0) t ⌝ }
 {
     let s = t.start.0 as usize;
     let e = t.elapsed.0;
@@ -138,7 +139,7 @@ fn is_valid_by(calendar: &[u8], work_time: Duration, t: Triple, n: Counts) -> bo
 // Whether a triple is valid for a task with the calendar and the work time.
 pub fn is_valid(calendar: &[u8], work_time: Duration, t: Triple) -> bool
     requires { ⌜ length (now calendar) ≤ mostHours ⌝ }
-    ensures { λ r. ⌜ r ≡ validTriple (now (calendar .entry)) («work_time» .0) t ⌝ }
+    ensures { λ r. ⌜ r ≡ validTriple (old calendar) («work_time» .0) t ⌝ }
 {
     let start = t.start;
     let elapsed = t.elapsed;
@@ -168,7 +169,7 @@ fn with_start(
         × (length (now calendar) ≤ mostHours)
         × AllSymbols (now calendar)
         × Reaches (now calendar) («work_time» .0) b (s .0) shortest longest ⌝ }
-    ensures { λ r. ⌜ r ≡ after fit (starting (now (calendar .entry)) («work_time» .0) b (s .0)) ⌝ }
+    ensures { λ r. ⌜ r ≡ after fit (starting (old calendar) («work_time» .0) b (s .0)) ⌝ }
 {
     if calendar[s.0 as usize] == b'c' {
         return fit;
@@ -188,7 +189,7 @@ pub fn rule(calendar: &[u8], work_time: Duration, b: Bounds) -> Fit
         × (b .latest .0 < length (now calendar))
         × (length (now calendar) ≤ mostHours)
         × AllSymbols (now calendar) ⌝ }
-    ensures { λ r. ⌜ r ≡ ruleOf (now (calendar .entry)) («work_time» .0) b ⌝ }
+    ensures { λ r. ⌜ r ≡ ruleOf (old calendar) («work_time» .0) b ⌝ }
 {
     let last = b.latest.0;
     let mut s = b.earliest.0;
@@ -209,7 +210,7 @@ pub fn rule(calendar: &[u8], work_time: Duration, b: Bounds) -> Fit
 
 // The calendar rule. Its input is tested as a plan of one calendar and one task, with H the calendar's length.
 pub fn calendar_rule(calendar: &[u8], work_time: Duration, b: Bounds) -> RuleAnswer
-    ensures { λ r. ⌜ ruleAnswer r ≡ calendarRule (now (calendar .entry)) («work_time» .0) b ⌝ }
+    ensures { λ r. ⌜ ruleAnswer r ≡ calendarRule (old calendar) («work_time» .0) b ⌝ }
 {
     let MaybeDuration::Within(hours) = Duration::of_plan(calendar.len()) else {
         return RuleAnswer::Refused(Refusal::Hours);
@@ -225,7 +226,7 @@ pub fn calendar_rule(calendar: &[u8], work_time: Duration, b: Bounds) -> RuleAns
         b.fewest.0,
         b.most.0,
     ];
-    let tested = plan::test_plan(hours.0, 0, calendar, &number, &work, &height, &cells);
+    let tested = plan::test_input(hours.0, 0, calendar, &number, &work, &height, &cells);
     if let Tested::Refused(r) = tested {
         return RuleAnswer::Refused(r);
     }

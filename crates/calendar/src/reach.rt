@@ -14,6 +14,7 @@ ghost use Rattle.units.specs.Choice.{if_then_else_};
 ghost use Rattle.units.specs.Limits.{mostHours, duration};
 ghost use Rattle.units.specs.Sums.{oneIf};
 ghost use Rattle.plan.specs.Plan.{regular, closed, overtime};
+ghost use Rattle.plan.specs.Lent.{old};
 ghost use Rattle.calendar.specs.Scan.{uncounted, empty, stretchOf, mayEnd, mayLast, stopsAt, lengthened};
 
 // One hour less, where there is one.
@@ -65,7 +66,7 @@ fn longer(calendar: &[u8], s: Hour, a: Stretch) -> Stretch
     requires { ⌜ (s .0 + a .hours .0 < length (now calendar))
         × (length (now calendar) ≤ mostHours)
         × (a ≡ stretchOf (now calendar) (s .0) (a .hours .0)) ⌝ }
-    ensures { λ r. ⌜ r ≡ stretchOf (now (calendar .entry)) (s .0) (a .hours .0 + 1) ⌝ }
+    ensures { λ r. ⌜ r ≡ stretchOf (old calendar) (s .0) (a .hours .0 + 1) ⌝ }
 {
     let symbol = calendar[(s.0 as usize) + (a.hours.0 as usize)];
     Stretch {
@@ -79,7 +80,7 @@ fn longer(calendar: &[u8], s: Hour, a: Stretch) -> Stretch
 pub fn without_first(calendar: &[u8], s: Hour, a: Stretch) -> Stretch
     requires { ⌜ (s .0 < length (now calendar))
         × (a ≡ stretchOf (now calendar) (s .0) (a .hours .0)) ⌝ }
-    ensures { λ r. ⌜ r ≡ stretchOf (now (calendar .entry)) (s .0 + 1) (a .hours .0 - 1) ⌝ }
+    ensures { λ r. ⌜ r ≡ stretchOf (old calendar) (s .0 + 1) (a .hours .0 - 1) ⌝ }
 {
     if a.hours.0 < 1 {
         return a;
@@ -119,7 +120,7 @@ fn may_last(calendar: &[u8], work_time: Duration, b: Bounds, s: Hour, a: Stretch
     requires { ⌜ (s .0 + a .hours .0 < length (now calendar))
         × (length (now calendar) ≤ mostHours)
         × (a ≡ stretchOf (now calendar) (s .0) (a .hours .0)) ⌝ }
-    ensures { λ r. ⌜ r ≡ mayLast (now (calendar .entry)) («work_time» .0) b (s .0) (a .hours .0 + 1) ⌝ }
+    ensures { λ r. ⌜ r ≡ mayLast (old calendar) («work_time» .0) b (s .0) (a .hours .0 + 1) ⌝ }
 {
     let p = work_time.0;
     let first = s.0 as usize;
@@ -152,7 +153,7 @@ fn stops(
     requires { ⌜ (s .0 + a .hours .0 < length (now calendar))
         × (length (now calendar) ≤ mostHours)
         × (a ≡ stretchOf (now calendar) (s .0) (a .hours .0)) ⌝ }
-    ensures { λ r. ⌜ r ≡ stopsAt (now (calendar .entry)) («work_time» .0) b (s .0) shortest (a .hours .0) ⌝ }
+    ensures { λ r. ⌜ r ≡ stopsAt (old calendar) («work_time» .0) b (s .0) shortest (a .hours .0) ⌝ }
 {
     if shortest {
         return may_end(work_time, b, a);
@@ -172,8 +173,8 @@ pub fn lengthen(
     requires { ⌜ (s .0 + a .hours .0 ≤ length (now calendar))
         × (length (now calendar) ≤ mostHours)
         × (a ≡ stretchOf (now calendar) (s .0) (a .hours .0)) ⌝ }
-    ensures { λ r. ⌜ r ≡ stretchOf (now (calendar .entry)) (s .0)
-        (lengthened (now (calendar .entry)) (s .0) (stopsAt (now (calendar .entry)) («work_time» .0) b (s .0) shortest) (a .hours .0)) ⌝ }
+    ensures { λ r. ⌜ r ≡ stretchOf (old calendar) (s .0)
+        (lengthened (old calendar) (s .0) (stopsAt (old calendar) («work_time» .0) b (s .0) shortest) (a .hours .0)) ⌝ }
 {
     let room = calendar.len() - (s.0 as usize);
     let mut at = a;

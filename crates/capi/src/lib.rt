@@ -4,8 +4,8 @@ use units::Duration;
 ghost use mathlib.Core.Path.{_≡_};
 ghost use lib.ListN.{length};
 ghost use Rattle.units.specs.Cells.{written};
-ghost use Rattle.plan.specs.Plan.{plan};
 ghost use Rattle.plan.specs.Boxes.{boundsAt};
+ghost use Rattle.plan.specs.Lent.{old, left, oldPlan};
 ghost use Rattle.calendar.specs.Entry.{calendarRule};
 ghost use Rattle.schedule.specs.Entry.{checkSchedule};
 ghost use Rattle.propagation.specs.Entry.{checkLog, filterPlan};
@@ -24,7 +24,7 @@ pub extern "C" fn shimlantern_calendar_rule(
     bounds: &[u16; 6],
     answer: &mut [u64; 11],
 )
-    ensures { λ _. ⌜ now (answer .exit) ≡ ruleNumbers (calendarRule (now (calendar .entry)) «work_time» (boundsAt (now (bounds .entry)) 0)) ⌝ }
+    ensures { λ _. ⌜ left answer ≡ ruleNumbers (calendarRule (old calendar) «work_time» (boundsAt (old bounds) 0)) ⌝ }
 {
     let b = plan::bounds_at(bounds, 0);
     let found = calendar::calendar_rule(calendar, Duration(work_time), b);
@@ -44,9 +44,9 @@ pub extern "C" fn shimlantern_check_schedule(
     schedule: &[u16],
     answer: &mut [u64; 3],
 )
-    ensures { λ _. ⌜ now (answer .exit) ≡ scheduleNumbers (checkSchedule
-        (plan hours capacity (now (calendars .entry)) (now («task_calendars» .entry)) (now («work_times» .entry)) (now (heights .entry)))
-        (now (boxes .entry)) (now (schedule .entry))) ⌝ }
+    ensures { λ _. ⌜ left answer ≡ scheduleNumbers (checkSchedule
+        (oldPlan hours capacity calendars «task_calendars» «work_times» heights)
+        (old boxes) (old schedule)) ⌝ }
 {
     let checked = schedule::check_schedule(
         hours,
@@ -77,9 +77,9 @@ pub extern "C" fn shimlantern_check_log(
     answer: &mut [u64; 4],
 )
     ensures { λ _. ⌜ LeavesLog (checkLog
-        (plan hours capacity (now (calendars .entry)) (now («task_calendars» .entry)) (now («work_times» .entry)) (now (heights .entry)))
-        (now (boxes .entry)) (now («log_kinds» .entry)) (now («log_tasks» .entry)) (now («log_hours» .entry)))
-        (now (answer .exit)) (now (boxes .exit)) ⌝ }
+        (oldPlan hours capacity calendars «task_calendars» «work_times» heights)
+        (old boxes) (old «log_kinds») (old «log_tasks») (old «log_hours»))
+        (left answer) (left boxes) ⌝ }
 {
     let checked = propagation::replay::check_log(
         hours,
@@ -112,9 +112,9 @@ pub extern "C" fn shimlantern_filter(
     answer: &mut [u64; 4],
 )
     ensures { λ _. ⌜ LeavesRun (filterPlan
-        (plan hours capacity (now (calendars .entry)) (now («task_calendars» .entry)) (now («work_times» .entry)) (now (heights .entry)))
-        (now (boxes .entry)) (now («log_kinds» .entry)) (now («log_tasks» .entry)) (now («log_hours» .entry)))
-        (now (answer .exit)) (now (boxes .exit)) (now («log_kinds» .exit)) (now («log_tasks» .exit)) (now («log_hours» .exit)) ⌝ }
+        (oldPlan hours capacity calendars «task_calendars» «work_times» heights)
+        (old boxes) (old «log_kinds») (old «log_tasks») (old «log_hours»))
+        (left answer) (left boxes) (left «log_kinds») (left «log_tasks») (left «log_hours») ⌝ }
 {
     let filtered = propagation::filter::filter(
         hours,
@@ -143,8 +143,8 @@ pub extern "C" fn shimlantern_read_plan(
     answer: &mut [u64; 6],
 )
     ensures { λ _. ⌜ LeavesPlan
-        (readPlan (now (calendars .entry)) (now («task_calendars» .entry)) (now («work_times» .entry)) (now (heights .entry)) (now (boxes .entry)) (now (text .entry)))
-        (now (answer .exit)) (now (calendars .exit)) (now («task_calendars» .exit)) (now («work_times» .exit)) (now (heights .exit)) (now (boxes .exit)) ⌝ }
+        (readPlan (old calendars) (old «task_calendars») (old «work_times») (old heights) (old boxes) (old text))
+        (left answer) (left calendars) (left «task_calendars») (left «work_times») (left heights) (left boxes) ⌝ }
 {
     let reading = plan_text::read_plan(text, calendars, task_calendars, work_times, heights, boxes);
     *answer = numbers::read_numbers(reading);
@@ -153,7 +153,7 @@ pub extern "C" fn shimlantern_read_plan(
 // What the program prints for a plan text, and its length; the bytes past it are untouched.
 #[no_mangle]
 pub extern "C" fn shimlantern_list_text(text: &[u8], out: &mut [u8; listing::ROOM]) -> usize
-    ensures { λ r. ⌜ (r ≡ length (textListing (now (text .entry)))) × (now (out .exit) ≡ written (textListing (now (text .entry))) (now (out .entry))) ⌝ }
+    ensures { λ r. ⌜ (r ≡ length (textListing (old text))) × (left out ≡ written (textListing (old text)) (old out)) ⌝ }
 {
     listing::text::list_text(text, out)
 }

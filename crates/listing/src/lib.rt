@@ -10,6 +10,7 @@ ghost use lib.ListN.{length};
 ghost use Rattle.units.specs.Limits.{mostTasks};
 ghost use Rattle.units.specs.Cells.{written};
 ghost use Rattle.plan.specs.Refusals.{faultOf};
+ghost use Rattle.plan.specs.Lent.{old, left};
 ghost use Rattle.propagation.specs.Entry.{filterAnswer};
 ghost use Rattle.listing.specs.Decimal.{digitsBy, decimalText};
 ghost use Rattle.listing.specs.Listing.{tab, lineOf, taskLines, taskLine, refusedLine, listing};
@@ -23,7 +24,7 @@ pub const ROOM: usize = 4096;
 // Each function that puts something answers the place after it.
 fn put_byte(out: &mut [u8], at: usize, byte: u8) -> usize
     requires { ⌜ at < length (now out) ⌝ }
-    ensures { λ r. ⌜ Put (byte ∷ []) at (now (out .entry)) r (now (out .exit)) ⌝ }
+    ensures { λ r. ⌜ Put (byte ∷ []) at (old out) r (left out) ⌝ }
 {
     out[at] = byte;
     at + 1
@@ -31,7 +32,7 @@ fn put_byte(out: &mut [u8], at: usize, byte: u8) -> usize
 
 fn put_word(out: &mut [u8], at: usize, word: &[u8]) -> usize
     requires { ⌜ at + length (now word) ≤ length (now out) ⌝ }
-    ensures { λ r. ⌜ Put (now (word .entry)) at (now (out .entry)) r (now (out .exit)) ⌝ }
+    ensures { λ r. ⌜ Put (old word) at (old out) r (left out) ⌝ }
 {
     for k in 0..word.len() {
         out[at + k] = word[k];
@@ -42,7 +43,7 @@ fn put_word(out: &mut [u8], at: usize, word: &[u8]) -> usize
 // The last digits of n, at most so many, without leading zero.
 fn put_digits(out: &mut [u8], at: usize, n: usize, most: usize) -> usize
     requires { ⌜ at + most ≤ length (now out) ⌝ }
-    ensures { λ r. ⌜ Put (digitsBy most n) at (now (out .entry)) r (now (out .exit)) ⌝ }
+    ensures { λ r. ⌜ Put (digitsBy most n) at (old out) r (left out) ⌝ }
 {
     if most == 0 {
         return at;
@@ -57,7 +58,7 @@ fn put_digits(out: &mut [u8], at: usize, n: usize, most: usize) -> usize
 // A tab and a number.
 fn put_field(out: &mut [u8], at: usize, n: usize) -> usize
     requires { ⌜ at + 6 ≤ length (now out) ⌝ }
-    ensures { λ r. ⌜ Put (tab ∷ decimalText n) at (now (out .entry)) r (now (out .exit)) ⌝ }
+    ensures { λ r. ⌜ Put (tab ∷ decimalText n) at (old out) r (left out) ⌝ }
 {
     let digits = put_byte(out, at, b'\t');
     put_digits(out, digits, n, 5)
@@ -66,7 +67,7 @@ fn put_field(out: &mut [u8], at: usize, n: usize) -> usize
 // A lower bound and its upper.
 fn put_range(out: &mut [u8], at: usize, lower: u16, upper: u16) -> usize
     requires { ⌜ at + 12 ≤ length (now out) ⌝ }
-    ensures { λ r. ⌜ Put (tab ∷ (decimalText lower ++ (tab ∷ decimalText upper))) at (now (out .entry)) r (now (out .exit)) ⌝ }
+    ensures { λ r. ⌜ Put (tab ∷ (decimalText lower ++ (tab ∷ decimalText upper))) at (old out) r (left out) ⌝ }
 {
     let second = put_field(out, at, lower as usize);
     put_field(out, second, upper as usize)
@@ -75,7 +76,7 @@ fn put_range(out: &mut [u8], at: usize, lower: u16, upper: u16) -> usize
 // A line with a word and one number.
 fn put_count(out: &mut [u8], word: &[u8], n: usize) -> usize
     requires { ⌜ length (now word) + 7 ≤ length (now out) ⌝ }
-    ensures { λ r. ⌜ Put (lineOf (now (word .entry)) (n ∷ [])) 0 (now (out .entry)) r (now (out .exit)) ⌝ }
+    ensures { λ r. ⌜ Put (lineOf (old word) (n ∷ [])) 0 (old out) r (left out) ⌝ }
 {
     let count = put_word(out, 0, word);
     let end = put_field(out, count, n);
@@ -85,7 +86,7 @@ fn put_count(out: &mut [u8], word: &[u8], n: usize) -> usize
 // The line of task i.
 fn put_task(out: &mut [u8], at: usize, boxes: &[u16], i: usize) -> usize
     requires { ⌜ (at + 47 ≤ length (now out)) × (6 * i + 6 ≤ length (now boxes)) ⌝ }
-    ensures { λ r. ⌜ Put (taskLine (now (boxes .entry)) i) at (now (out .entry)) r (now (out .exit)) ⌝ }
+    ensures { λ r. ⌜ Put (taskLine (old boxes) i) at (old out) r (left out) ⌝ }
 {
     let b = bounds_at(boxes, i);
     let number = put_word(out, at, b"task");
@@ -99,7 +100,7 @@ fn put_task(out: &mut [u8], at: usize, boxes: &[u16], i: usize) -> usize
 // The lines of the first tasks.
 fn put_tasks(out: &mut [u8], at: usize, boxes: &[u16], tasks: usize) -> usize
     requires { ⌜ (at + 47 * tasks ≤ length (now out)) × (6 * tasks ≤ length (now boxes)) ⌝ }
-    ensures { λ r. ⌜ Put (taskLines (now (boxes .entry)) tasks) at (now (out .entry)) r (now (out .exit)) ⌝ }
+    ensures { λ r. ⌜ Put (taskLines (old boxes) tasks) at (old out) r (left out) ⌝ }
 {
     let mut end = at;
     for i in 0..tasks {
@@ -111,7 +112,7 @@ fn put_tasks(out: &mut [u8], at: usize, boxes: &[u16], tasks: usize) -> usize
 // The one line of a refusal, 20 bytes at most; the bytes past it are untouched.
 pub fn list_refusal(r: Refusal, out: &mut [u8]) -> usize
     requires { ⌜ 20 ≤ length (now out) ⌝ }
-    ensures { λ n. ⌜ (n ≡ length (refusedLine (faultOf r))) × (now (out .exit) ≡ written (refusedLine (faultOf r)) (now (out .entry))) ⌝ }
+    ensures { λ n. ⌜ (n ≡ length (refusedLine (faultOf r))) × (left out ≡ written (refusedLine (faultOf r)) (old out)) ⌝ }
 {
     let fault = fault_of(r);
     let number = put_word(out, 0, b"refused");
@@ -123,7 +124,7 @@ pub fn list_refusal(r: Refusal, out: &mut [u8]) -> usize
 // The first line with the count, then the tasks.
 fn list_tasks(word: &[u8], n: usize, boxes: &[u16], tasks: usize, out: &mut [u8]) -> usize
     requires { ⌜ (length (now word) + 7 + 47 * tasks ≤ length (now out)) × (6 * tasks ≤ length (now boxes)) ⌝ }
-    ensures { λ r. ⌜ Put (lineOf (now (word .entry)) (n ∷ []) ++ taskLines (now (boxes .entry)) tasks) 0 (now (out .entry)) r (now (out .exit)) ⌝ }
+    ensures { λ r. ⌜ Put (lineOf (old word) (n ∷ []) ++ taskLines (old boxes) tasks) 0 (old out) r (left out) ⌝ }
 {
     let first = put_count(out, word, n);
     put_tasks(out, first, boxes, tasks)
@@ -132,7 +133,7 @@ fn list_tasks(word: &[u8], n: usize, boxes: &[u16], tasks: usize, out: &mut [u8]
 // What a run of the filter answered, and the boxes that it left; the bytes past the listing are untouched.
 pub fn list_run(answer: Filtered, boxes: &[u16], tasks: usize, out: &mut [u8]) -> usize
     requires { ⌜ (tasks ≤ mostTasks) × (6 * tasks ≤ length (now boxes)) × (mostListing ≤ length (now out)) ⌝ }
-    ensures { λ n. ⌜ (n ≡ length (listing (filterAnswer answer) (now (boxes .entry)) tasks)) × (now (out .exit) ≡ written (listing (filterAnswer answer) (now (boxes .entry)) tasks) (now (out .entry))) ⌝ }
+    ensures { λ n. ⌜ (n ≡ length (listing (filterAnswer answer) (old boxes) tasks)) × (left out ≡ written (listing (filterAnswer answer) (old boxes) tasks) (old out)) ⌝ }
 {
     match answer {
         Filtered::Refused(r) => list_refusal(r, out),

@@ -10,15 +10,15 @@ ghost use Prim.Native.Nat.{_*_, _≤_};
 ghost use lib.ListN.{length};
 ghost use Rattle.units.specs.Limits.{mostTasks};
 ghost use Rattle.units.specs.Cells.{written};
-ghost use Rattle.plan.specs.Plan.{plan};
+ghost use Rattle.plan.specs.Lent.{old, left, oldPlan};
 ghost use Rattle.listing.specs.Putting.{mostListing};
 ghost use Rattle.listing.specs.Program.{planListing, textListing};
 
 // The most symbols of a plan, calendars joined.
-const SYMBOLS: usize = CalendarNumber::COUNT * Duration::MOST as usize;
+const SYMBOLS: usize = CalendarNumber::MOST * Duration::MOST as usize;
 
 // The most bounds of a plan, six a task.
-const BOUNDS: usize = 6 * Bounds::COUNT;
+const BOUNDS: usize = 6 * Bounds::MOST;
 
 // The steps that the log has room for.
 const STEPS: usize = 2048;
@@ -36,11 +36,11 @@ fn list_plan(
 ) -> usize
     requires { ⌜ (length (now «task_calendars») ≤ mostTasks) × (length (now boxes) ≡ 6 * length (now «task_calendars»)) × (mostListing ≤ length (now out)) ⌝ }
     ensures { λ r. ⌜ (r ≡ length (planListing
-        (plan hours capacity (now (calendars .entry)) (now («task_calendars» .entry)) (now («work_times» .entry)) (now (heights .entry)))
-        (now (boxes .entry))))
-        × (now (out .exit) ≡ written (planListing
-        (plan hours capacity (now (calendars .entry)) (now («task_calendars» .entry)) (now («work_times» .entry)) (now (heights .entry)))
-        (now (boxes .entry))) (now (out .entry))) ⌝ }
+        (oldPlan hours capacity calendars «task_calendars» «work_times» heights)
+        (old boxes)))
+        × (left out ≡ written (planListing
+        (oldPlan hours capacity calendars «task_calendars» «work_times» heights)
+        (old boxes)) (old out)) ⌝ }
 {
     let mut log_kinds = [0u8; STEPS];
     let mut log_tasks = [0u16; STEPS];
@@ -63,12 +63,12 @@ fn list_plan(
 // The listing of a text.
 pub fn list_text(text: &[u8], out: &mut [u8]) -> usize
     requires { ⌜ mostListing ≤ length (now out) ⌝ }
-    ensures { λ r. ⌜ (r ≡ length (textListing (now (text .entry)))) × (now (out .exit) ≡ written (textListing (now (text .entry))) (now (out .entry))) ⌝ }
+    ensures { λ r. ⌜ (r ≡ length (textListing (old text))) × (left out ≡ written (textListing (old text)) (old out)) ⌝ }
 {
     let mut symbols = [0u8; SYMBOLS];
-    let mut task_calendars = [0u16; Bounds::COUNT];
-    let mut work_times = [0u16; Bounds::COUNT];
-    let mut heights = [0u16; Bounds::COUNT];
+    let mut task_calendars = [0u16; Bounds::MOST];
+    let mut work_times = [0u16; Bounds::MOST];
+    let mut heights = [0u16; Bounds::MOST];
     let mut boxes = [0u16; BOUNDS];
     let reading = plan_text::read_plan(
         text,

@@ -46,32 +46,6 @@ module _ (P : Plan) where
     unfolding goneOn onOption
     ends-there f q = rw q
 
-  -- ---- numbered from n on
-
-  abbrev pub later : ℕ → Fault → Fault
-  later n f = fault (f .number) (n + f .place)
-
-  unfoldable pub shifted : ℕ → LogEnd → LogEnd
-  shifted n e = logEnd (n + e .steps) (e .impossible) (e .boxes) (onOption (e .refusal) none (λ f. some (later n f)))
-
-  shift-each : (n : ℕ) (J : Judgement) (u u′ v v′ i i′ : LogEnd) (m m′ : List ℕ → LogEnd) → u′ ≡ shifted n u → v′ ≡ shifted n v → i′ ≡ shifted n i
-      → ((left : List ℕ) → m′ left ≡ shifted n (m left)) → onJudgement J u′ v′ i′ m′ ≡ shifted n (onJudgement J u v i m)
-  unfolding onJudgement
-  shift-each n unknown u u′ v v′ i i′ m m′ p q r s = p
-  shift-each n notAdmitted u u′ v v′ i i′ m m′ p q r s = q
-  shift-each n impossible u u′ v v′ i i′ m m′ p q r s = r
-  shift-each n (moved left) u u′ v v′ i i′ m m′ p q r s = s left
-
-  pub replay-shift : (n k : ℕ) (said : Bool) (boxes : List ℕ) (xs : List Step) → replayFrom P (n + k) said boxes xs ≡ shifted n (replayFrom P k said boxes xs)
-  unfolding replayFrom shifted onOption
-  replay-shift n k said boxes [] = refl
-  replay-shift n k true boxes (x ∷ xs) = refl
-  replay-shift n k false boxes (x ∷ xs) =
-      let e : n + k + 1 ≡ n + (k + 1) = omega arith in
-      shift-each n (judge P boxes x) _ _ _ _ _ _ _ _ refl refl
-      (ap (λ (j : ℕ). replayFrom P j true boxes xs) e ∙ replay-shift n (k + 1) true boxes xs)
-      (λ left. ap (λ (j : ℕ). replayFrom P j false left xs) e ∙ replay-shift n (k + 1) false left xs)
-
   -- ---- how far it goes
 
   -- an end of n steps from step k on

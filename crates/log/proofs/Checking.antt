@@ -13,22 +13,22 @@ use Rattle.units.specs.Choice.{_and_, onOption, _orElse_}
 use Rattle.units.proofs.Choices.{none≢some, and-both}
 use Rattle.plan.specs.Plan.{Plan}
 use Rattle.plan.specs.Refusals.{Fault, fault, unless, Answer, refused, answered, answerUnless, faultOf}
-use Rattle.plan.specs.Faults.{oneForEachTask, planFault, firstFault}
+use Rattle.plan.specs.Faults.{oneForEachTask, planFault, inputFault}
 use Rattle.plan.specs.declared.Refusal.{Refusal}
-use Rattle.plan.specs.declared.Refusal.the-variants.{Malformed, Hours, Calendars, Symbol, Tasks, NoCalendar, WorkTime, TaskHeight, TaskBounds, Capacity, UnknownStep, NotAdmitted, AfterImpossible, OutsideBounds, NotValid, OverCapacity, MemorySize}
 use Rattle.propagation.specs.declared.Step.{Step}
 use Rattle.propagation.specs.declared.LogChecked.{LogChecked}
 use Rattle.propagation.specs.declared.LogChecked.the-variants as checked
 use Rattle.propagation.specs.Log.{LogEnd, logEnd, replayFrom, replay}
-use Rattle.propagation.specs.Entry.{stepsFrom, oneForEachStep, entryFault, Accepted, checkLog, checkAnswer, logAnswer}
+use Rattle.propagation.specs.Entry.{stepsFrom, oneForEachStep, entryFault, Accepted, checkAnswer, logAnswer}
+use Rattle.propagation.specs.Entry as entry
 use Rattle.propagation.proofs.Contracts.{refused≢answered}
 use Rattle.log.specs.declared.part.Part.{Part}
 use Rattle.log.specs.declared.part.PartChecked.{PartChecked}
 use Rattle.log.specs.Entry.{checkSteps}
-use Rattle.log.specs.Parts.{partSize, partSteps, Sized, placed, answerFrom, reached, checkedPart, checkFrom, CheckedAs}
+use Rattle.log.specs.Parts.{partSize, partSteps, Sized, checkedPart, checkFrom, CheckedAs}
 use Rattle.log.proofs.Copying.{part-length, steps-lent}
 use Rattle.log.proofs.Passing.{replay-passes}
-use Rattle.log.proofs.Appending.{replay-append, goes-on, ends-there, later, shifted, replay-shift, Reaches, replay-reaches}
+use Rattle.log.proofs.Appending.{replay-append, goes-on, ends-there, replay-reaches}
 
 -- ---- an answer and the end that it is of
 
@@ -64,8 +64,8 @@ end-accepted e q = rw q
 
 -- ---- the core's faults, lent three slices of one length
 
-pub same-fault : (P : Plan) (boxes ks ts hs : List ℕ) → length ts ≡ length ks → length hs ≡ length ks → entryFault P boxes ks ts hs ≡ firstFault P boxes
-unfolding entryFault firstFault oneForEachStep
+pub same-fault : (P : Plan) (boxes ks ts hs : List ℕ) → length ts ≡ length ks → length hs ≡ length ks → entryFault P boxes ks ts hs ≡ inputFault P boxes
+unfolding entryFault inputFault oneForEachStep
 same-fault P boxes ks ts hs t h =
     ap (λ (b : Bool). unless b 31 0 orElse planFault P boxes)
     (and-true (oneForEachTask (P .taskCalendars) (P .workTimes) (P .heights) boxes) _
@@ -77,85 +77,22 @@ same-fault P boxes ks ts hs t h =
 
 -- the first cells of three arrays
 pub lent-fault : (P : Plan) (boxes ks ts hs : List ℕ) (n : ℕ) → n ≤ length ks → n ≤ length ts → n ≤ length hs
-    → entryFault P boxes (take n ks) (take n ts) (take n hs) ≡ firstFault P boxes
+    → entryFault P boxes (take n ks) (take n ts) (take n hs) ≡ inputFault P boxes
 lent-fault P boxes ks ts hs n l m o =
     let k = length-take-le n ks l in
     same-fault P boxes (take n ks) (take n ts) (take n hs) (length-take-le n ts m ∙ sym k) (length-take-le n hs o ∙ sym k)
 
--- ---- the core's answer for a part, with its place in the log
+-- ---- the end from a step on
 
-placed-later : (n : ℕ) (r : Refusal) → 11 ≤ faultOf r .number → faultOf r .number ≤ 13 → faultOf (placed n r) ≡ fault (faultOf r .number) (n + faultOf r .place)
-placed-later n (Malformed line) l m = absurd (omega (arith, l))
-placed-later n Hours l m = absurd (omega (arith, l))
-placed-later n Calendars l m = absurd (omega (arith, l))
-placed-later n (Symbol index) l m = absurd (omega (arith, l))
-placed-later n Tasks l m = absurd (omega (arith, l))
-placed-later n (NoCalendar task) l m = absurd (omega (arith, l))
-placed-later n (WorkTime task) l m = absurd (omega (arith, l))
-placed-later n (TaskHeight task) l m = absurd (omega (arith, l))
-placed-later n (TaskBounds task) l m = absurd (omega (arith, l))
-placed-later n Capacity l m = absurd (omega (arith, l))
-placed-later n (UnknownStep k) l m = refl
-placed-later n (NotAdmitted k) l m = refl
-placed-later n (AfterImpossible k) l m = refl
-placed-later n (OutsideBounds task) l m = absurd (omega (arith, m))
-placed-later n (NotValid task) l m = absurd (omega (arith, m))
-placed-later n (OverCapacity hour) l m = absurd (omega (arith, m))
-placed-later n MemorySize l m = absurd (omega (arith, m))
+module _ (P : Plan) (boxes : List ℕ) (k : ℕ) (said : Bool) (steps : List Step) where
+  -- a plan that passes: the end is the log's
+  pub from-passed : inputFault P boxes ≡ none → checkFrom P k said boxes steps ≡ replayFrom P k said boxes steps
+  unfolding checkFrom onOption
+  from-passed e = rw e
 
-module _ (P : Plan) where
-  answer-later : (n m : ℕ) (e : LogEnd) → Reaches P 0 m e → (a : LogChecked) → logAnswer a ≡ checkAnswer e → logAnswer (answerFrom n a) ≡ checkAnswer (shifted P n e)
-  unfolding shifted onOption
-  answer-later n m e r (checked.Refused f) q =
-      let s = refused-end e (faultOf f) q in
-      let (l, k, p) = r .at-end (faultOf f) s in
-      ap refused (placed-later n f l k) ∙ end-refused (shifted P n e) (later P n (faultOf f)) (rw s)
-  answer-later n m e r (checked.Accepted k said) q =
-      let (s, t, u) = accepted-end e k said q in
-      ap (λ (j : ℕ). answered (record { steps = n + j; impossible = said })) t
-      ∙ ap (λ (b : Bool). answered (record { steps = n + e .steps; impossible = b })) u
-      ∙ end-accepted (shifted P n e) (rw s)
-
-  module _ (boxes : List ℕ) where
-    -- a plan that passes: the end is the log's
-    pub from-passed : (k : ℕ) (said : Bool) (steps : List Step) → firstFault P boxes ≡ none → checkFrom P k said boxes steps ≡ replayFrom P k said boxes steps
-    unfolding checkFrom onOption
-    from-passed k said steps e = rw e
-
-    from-refused : (k : ℕ) (said : Bool) (steps : List Step) (f : Fault) → firstFault P boxes ≡ some f
-        → checkFrom P k said boxes steps ≡ logEnd 0 false boxes (some f)
-    unfolding checkFrom onOption
-    from-refused k said steps f e = rw e
-
-    module _ (steps : List Step) (a : LogChecked) (passed : firstFault P boxes ≡ none) (is : logAnswer a ≡ checkAnswer (checkFrom P 0 false boxes steps)) where
-      end-is : logAnswer a ≡ checkAnswer (replayFrom P 0 false boxes steps)
-      end-is = is ∙ ap checkAnswer (from-passed 0 false steps passed)
-
-      -- no step past the last of the part
-      pub reached-inside : reached (logAnswer a) ≤ length steps
-      unfolding checkAnswer answerUnless
-      reached-inside = rw end-is (go (replayFrom P 0 false boxes steps .refusal) refl)
-        where
-          r : Reaches P 0 (length steps) (replayFrom P 0 false boxes steps)
-          r = replay-reaches P 0 false boxes steps
-
-          go : (o : Option Fault) → replayFrom P 0 false boxes steps .refusal ≡ o
-              → reached (answerUnless o (record { steps = replayFrom P 0 false boxes steps .steps; impossible = replayFrom P 0 false boxes steps .impossible })) ≤ length steps
-          go none e = omega (arith, r .most)
-          go (some f) e = omega (arith, r .most, r .at-end f e .2)
-
-      -- the answer for a part from the boxes as they are, as the answer from step n on
-      pub answers-later : (n : ℕ) → (logAnswer (answerFrom n a) ≡ checkAnswer (checkFrom P n false boxes steps))
-          × (checkFrom P 0 false boxes steps .boxes ≡ checkFrom P n false boxes steps .boxes)
-      answers-later n =
-          let moved : checkFrom P n false boxes steps ≡ shifted P n (replayFrom P 0 false boxes steps) =
-          from-passed n false steps passed
-          ∙ ap (λ (k : ℕ). replayFrom P k false boxes steps) (sym (add-zero n))
-          ∙ replay-shift P n 0 false boxes steps in
-          let same : replayFrom P 0 false boxes steps .boxes ≡ shifted P n (replayFrom P 0 false boxes steps) .boxes = unfold shifted in refl in (
-            answer-later n (length steps) _ (replay-reaches P 0 false boxes steps) a end-is ∙ ap checkAnswer (sym moved),
-            ap (λ (e : LogEnd). e .boxes) (from-passed 0 false steps passed) ∙ same ∙ ap (λ (e : LogEnd). e .boxes) (sym moved),
-          )
+  from-refused : (f : Fault) → inputFault P boxes ≡ some f → checkFrom P k said boxes steps ≡ logEnd 0 false boxes (some f)
+  unfolding checkFrom onOption
+  from-refused f e = rw e
 
 -- what the loop needs of a part
 pub checked-as : (e : LogEnd) (count : ℕ) (a : LogChecked) (left : List ℕ) → logAnswer a ≡ checkAnswer e → left ≡ e .boxes
@@ -180,78 +117,32 @@ pub checked-ends : (a : LogChecked) (r : Refusal) (count : ℕ) → a ≡ checke
     → _≡_ {A = PartChecked} (record { answer = a; more = false; steps = 0; impossible = false }) (checkedPart a count)
 checked-ends a r count e = rw e
 
--- ---- what each way through the code makes of a part
+pub lent-length : {n : ℕ} (l : List ℕ) → n ≤ partSize → length l ≡ partSize → n ≡ length (take n l)
+lent-length {n} l a b = sym (length-take-le n l (omega arith))
 
-module _ (P : Plan) (boxes : List ℕ) (from : ℕ) (part : Part) where
-  -- after a step that said impossible
-  module _ (said : Bool) (e : said ≡ true) (passed : firstFault P boxes ≡ none) where
-    said-is : checkFrom P from said boxes (partSteps part) ≡ replayFrom P from true boxes (partSteps part)
-    said-is = ap (λ (b : Bool). checkFrom P from b boxes (partSteps part)) e ∙ from-passed P boxes from true (partSteps part) passed
+-- by the core, lent the first cells of the part's arrays
+module _ (P : Plan) (boxes : List ℕ) (from : ℕ) (said : Bool) (part : Part) (few : part .count ≤ partSize) (size : Sized part) where
+  abbrev core : LogEnd
+  core = entry.checkFrom P boxes (take (part .count) (part .kinds)) (take (part .count) (part .tasks)) (take (part .count) (part .hours)) from said
 
-    pub said-none : part .count ≡ 0 → (r : PartChecked) → r ≡ checkedPart (checked.Accepted from true) (part .count)
-        → CheckedAs (checkFrom P from said boxes (partSteps part)) (part .count) r boxes
-    unfolding partSteps stepsFrom replayFrom checkAnswer answerUnless
-    said-none z r q =
-        let is : checkFrom P from said boxes (partSteps part) ≡ logEnd from true boxes none =
-        said-is ∙ ap (λ (n : ℕ). replayFrom P from true boxes (stepsFrom (part .kinds) (part .tasks) (part .hours) 0 n)) z in
-        subst (λ (s : PartChecked). CheckedAs (checkFrom P from said boxes (partSteps part)) (part .count) s boxes) (sym q)
-        (subst (λ (l : LogEnd). CheckedAs l (part .count) (checkedPart (checked.Accepted from true) (part .count)) boxes) (sym is)
-        (checked-as (logEnd from true boxes none) (part .count) (checked.Accepted from true) boxes refl refl))
+  core-is : core ≡ checkFrom P from said boxes (partSteps part)
+  unfolding entry.checkFrom checkFrom partSteps
+  core-is =
+      let l : part .count ≤ length (part .kinds) = omega (arith, size .all-kinds) in
+      let m : part .count ≤ length (part .tasks) = omega (arith, size .all-tasks) in
+      let o : part .count ≤ length (part .hours) = omega (arith, size .all-hours) in
+      rw (lent-fault P boxes (part .kinds) (part .tasks) (part .hours) (part .count) l m o, steps-lent (part .kinds) (part .tasks) (part .hours) (part .count) l)
 
-    pub said-some : (part .count ≡ 0 → ⊥) → (r : PartChecked) → r ≡ checkedPart (checked.Refused (AfterImpossible from)) (part .count)
-        → CheckedAs (checkFrom P from said boxes (partSteps part)) (part .count) r boxes
-    unfolding partSteps stepsFrom replayFrom checkAnswer answerUnless
-    said-some z r q =
-        let more : part .count ≡ suc (part .count - 1) = omega (arith, z) in
-        let is : checkFrom P from said boxes (partSteps part) ≡ logEnd from true boxes (some (fault 13 from)) =
-        said-is ∙ ap (λ (n : ℕ). replayFrom P from true boxes (stepsFrom (part .kinds) (part .tasks) (part .hours) 0 n)) more in
-        subst (λ (s : PartChecked). CheckedAs (checkFrom P from said boxes (partSteps part)) (part .count) s boxes) (sym q)
-        (subst (λ (l : LogEnd). CheckedAs l (part .count) (checkedPart (checked.Refused (AfterImpossible from)) (part .count)) boxes) (sym is)
-        (checked-as (logEnd from true boxes (some (fault 13 from))) (part .count) (checked.Refused (AfterImpossible from)) boxes refl refl))
-
-  -- by the core, lent the first cells of the part's arrays
-  module _ (few : part .count ≤ partSize) (size : Sized part) where
-    abbrev core : LogEnd
-    core = checkLog P boxes (take (part .count) (part .kinds)) (take (part .count) (part .tasks)) (take (part .count) (part .hours))
-
-    core-is : core ≡ checkFrom P 0 false boxes (partSteps part)
-    unfolding checkLog checkFrom replay partSteps
-    core-is =
-        let l : part .count ≤ length (part .kinds) = omega (arith, size .all-kinds) in
-        let m : part .count ≤ length (part .tasks) = omega (arith, size .all-tasks) in
-        let o : part .count ≤ length (part .hours) = omega (arith, size .all-hours) in
-        rw (lent-fault P boxes (part .kinds) (part .tasks) (part .hours) (part .count) l m o, steps-lent (part .kinds) (part .tasks) (part .hours) (part .count) l)
-
-    module _ (a : LogChecked) (left : List ℕ) (is : logAnswer a ≡ checkAnswer core) (leaves : left ≡ core .boxes) where
-      pub core-inside : firstFault P boxes ≡ none → reached (logAnswer a) ≤ part .count
-      core-inside passed =
-          omega (arith, reached-inside P boxes (partSteps part) a passed (is ∙ ap checkAnswer core-is), part-length part)
-
-      module _ (said : Bool) (e : said ≡ false) (r : PartChecked) where
-        as-said : CheckedAs (checkFrom P from false boxes (partSteps part)) (part .count) r left
-            → CheckedAs (checkFrom P from said boxes (partSteps part)) (part .count) r left
-        as-said = subst (λ (b : Bool). CheckedAs (checkFrom P from b boxes (partSteps part)) (part .count) r left) (sym e)
-
-        pub core-first : from ≡ 0 → r ≡ checkedPart a (part .count) → CheckedAs (checkFrom P from said boxes (partSteps part)) (part .count) r left
-        core-first z q =
-            as-said
-            (subst (λ (n : ℕ). CheckedAs (checkFrom P n false boxes (partSteps part)) (part .count) r left) (sym z)
-            (subst (λ (s : PartChecked). CheckedAs (checkFrom P 0 false boxes (partSteps part)) (part .count) s left) (sym q)
-            (checked-as _ (part .count) a left (is ∙ ap checkAnswer core-is) (leaves ∙ ap (λ (x : LogEnd). x .boxes) core-is))))
-
-        pub core-later : firstFault P boxes ≡ none → r ≡ checkedPart (answerFrom from a) (part .count)
-            → CheckedAs (checkFrom P from said boxes (partSteps part)) (part .count) r left
-        core-later passed q =
-            let (p, b) = answers-later P boxes (partSteps part) a passed (is ∙ ap checkAnswer core-is) from in
-            as-said
-            (subst (λ (s : PartChecked). CheckedAs (checkFrom P from false boxes (partSteps part)) (part .count) s left) (sym q)
-            (checked-as _ (part .count) (answerFrom from a) left p (leaves ∙ ap (λ (x : LogEnd). x .boxes) core-is ∙ b)))
+  pub core-checked : (a : LogChecked) (left : List ℕ) → (logAnswer a ≡ checkAnswer core) × (left ≡ core .boxes)
+      → (r : PartChecked) → r ≡ checkedPart a (part .count) → CheckedAs (checkFrom P from said boxes (partSteps part)) (part .count) r left
+  core-checked a left (is, leaves) r q =
+      rw q (checked-as _ (part .count) a left (is ∙ ap checkAnswer core-is) (leaves ∙ ap (λ (x : LogEnd). x .boxes) core-is))
 
 -- ---- a log in parts
 
 -- the rest of a log, after a part of n steps from step k on that is accepted
 pub record Rest (P : Plan) (k n : ℕ) (ys : List Step) (whole end : LogEnd) : Type 0 where
-  pub passes : firstFault P (end .boxes) ≡ none
+  pub passes : inputFault P (end .boxes) ≡ none
   pub all : end .steps ≡ k + n
   pub rest : checkFrom P (end .steps) (end .impossible) (end .boxes) ys ≡ whole
 
@@ -263,15 +154,15 @@ module _ (P : Plan) (k : ℕ) (said : Bool) (boxes : List ℕ) (xs ys : List Ste
   whole = checkFrom P k said boxes (xs ++ ys)
 
   pub part-accepted : end .refusal ≡ none → Rest P k (length xs) ys whole end
-  part-accepted a = go (firstFault P boxes) refl
+  part-accepted a = go (inputFault P boxes) refl
     where
-      go : (o : Option Fault) → firstFault P boxes ≡ o → Rest P k (length xs) ys whole end
+      go : (o : Option Fault) → inputFault P boxes ≡ o → Rest P k (length xs) ys whole end
       go (some f) e = none≢some (sym a ∙ ap (λ (l : LogEnd). l .refusal) (from-refused P boxes k said xs f e))
       go none e =
           let is = from-passed P boxes k said xs e in
           let r = replayFrom P k said boxes xs in
           let none-refused : r .refusal ≡ none = ap (λ (l : LogEnd). l .refusal) (sym is) ∙ a in
-          let passes : firstFault P (r .boxes) ≡ none = replay-passes P k said boxes xs e in
+          let passes : inputFault P (r .boxes) ≡ none = replay-passes P k said boxes xs e in
           subst (Rest P k (length xs) ys whole) (sym is)
           record {
             passes = passes;
@@ -282,9 +173,9 @@ module _ (P : Plan) (k : ℕ) (said : Bool) (boxes : List ℕ) (xs ys : List Ste
 
   -- a part that is refused ends the log
   pub part-refused : (f : Fault) → end .refusal ≡ some f → end ≡ whole
-  part-refused f a = go (firstFault P boxes) refl
+  part-refused f a = go (inputFault P boxes) refl
     where
-      go : (o : Option Fault) → firstFault P boxes ≡ o → end ≡ whole
+      go : (o : Option Fault) → inputFault P boxes ≡ o → end ≡ whole
       go (some g) e = from-refused P boxes k said xs g e ∙ sym (from-refused P boxes k said (xs ++ ys) g e)
       go none e =
           let is = from-passed P boxes k said xs e in
@@ -295,8 +186,6 @@ module _ (P : Plan) (k : ℕ) (said : Bool) (boxes : List ℕ) (xs ys : List Ste
 pub record Going (P : Plan) (opening : List ℕ) (log : List Step) (from : ℕ) (said : Bool) (boxes : List ℕ) : Type 0 where
   pub inside : from ≤ length log
   pub ends : checkFrom P from said boxes (drop from log) ≡ checkSteps P opening log
-  pub passes : 0 < from → firstFault P boxes ≡ none
-  pub after : said ≡ true → 0 < from
   pub same : length boxes ≡ length opening
 
 pub going-opens : (P : Plan) (opening : List ℕ) (log : List Step) → Going P opening log 0 false opening
@@ -304,8 +193,6 @@ going-opens P opening log =
     record {
       inside = omega arith;
       ends = unfold checkSteps checkFrom replay in refl;
-      passes = λ l. absurd (omega (arith, l));
-      after = λ e. absurd (false≢true e);
       same = refl;
     }
 
@@ -338,8 +225,6 @@ module _ (P : Plan) (opening : List ℕ) (log : List Step) (from : ℕ) (said : 
                 ∙ rw (number, said-is, c .leaves) (rest .rest)
                 ∙ ap (checkFrom P from said boxes) parts
                 ∙ g .ends;
-            passes = λ l. ap (firstFault P) (c .leaves) ∙ rest .passes;
-            after = λ e. omega (arith, at);
             same = kept ∙ g .same;
           },
           omega (arith, at),

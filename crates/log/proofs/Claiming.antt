@@ -8,7 +8,7 @@ use Rattle.units.specs.Cells.{written}
 use Rattle.units.proofs.Choices.{option-all}
 use Rattle.plan.specs.Plan.{Plan}
 use Rattle.plan.specs.Refusals.{Answer}
-use Rattle.plan.specs.Faults.{firstFault}
+use Rattle.plan.specs.Faults.{inputFault}
 use Rattle.propagation.specs.declared.Step.{Step}
 use Rattle.propagation.specs.Filter.{run}
 use Rattle.propagation.specs.Entry.{Accepted, checkAnswer, FilterAnswer}
@@ -17,14 +17,14 @@ use Rattle.propagation.proofs.Contracts.{first-fault, first-sized, tested-holds
 use Rattle.log.specs.Entry.{checkSteps, StepsEnd, LeavesSteps, loggedSteps, filterSteps}
 
 module _ (P : Plan) (boxes : List ℕ) (log : List Step) where
-  check-steps-hold : CheckedHolds P boxes (firstFault P boxes) log (checkAnswer (checkSteps P boxes log)) (checkSteps P boxes log .boxes)
+  check-steps-hold : CheckedHolds P boxes (inputFault P boxes) log (checkAnswer (checkSteps P boxes log)) (checkSteps P boxes log .boxes)
   unfolding checkSteps
   check-steps-hold = tested-holds P boxes _ log (first-sized P boxes) (λ f e. first-fault P boxes f e)
 
   pub checks-steps : (answer : Answer Accepted) (left : List ℕ)
       → (answer ≡ checkAnswer (checkSteps P boxes log)) × (left ≡ checkSteps P boxes log .boxes)
       → ((answer ≡ checkAnswer (checkSteps P boxes log)) × (left ≡ checkSteps P boxes log .boxes))
-      × CheckedHolds P boxes (firstFault P boxes) log answer left
+      × CheckedHolds P boxes (inputFault P boxes) log answer left
   checks-steps answer left (a, l) = ((a, l), rw (a, l) check-steps-hold)
 
   abbrev Holds : StepsEnd → Type 0
@@ -33,7 +33,7 @@ module _ (P : Plan) (boxes : List ℕ) (log : List Step) where
   filter-steps-hold : Holds (filterSteps P boxes log)
   unfolding filterSteps loggedSteps written
   filter-steps-hold =
-      option-all Holds (firstFault P boxes) _ _
+      option-all Holds (inputFault P boxes) _ _
       (λ e. run-holds P boxes (length log) _ (first-sized P boxes e) (take-append-seam (run P boxes (length log) .log) _))
       (λ f e. no-run-holds P boxes (length log) _ f)
 

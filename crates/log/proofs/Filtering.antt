@@ -16,7 +16,7 @@ use Rattle.units.specs.Cells.{written}
 use Rattle.units.proofs.Choices.{none≢some}
 use Rattle.plan.specs.Plan.{Plan}
 use Rattle.plan.specs.Refusals.{Fault}
-use Rattle.plan.specs.Faults.{firstFault}
+use Rattle.plan.specs.Faults.{inputFault}
 use Rattle.propagation.specs.declared.Step.{Step}
 use Rattle.propagation.specs.declared.Filtered.{Filtered}
 use Rattle.propagation.specs.declared.Filtered.the-variants as filtered
@@ -76,10 +76,10 @@ module _ (P : Plan) where
           ap (run P boxes) e ∙ run-more m (n - m) boxes (λ w. ne (omega (arith, h w)))
 
   -- the boxes that it leaves pass the tests again
-  pub run-passes : (a : ℕ) (boxes : List ℕ) → firstFault P boxes ≡ none → firstFault P (run P boxes a .boxes) ≡ none
+  pub run-passes : (a : ℕ) (boxes : List ℕ) → inputFault P boxes ≡ none → inputFault P (run P boxes a .boxes) ≡ none
   unfolding replay
   run-passes a boxes e =
-      ap (λ (l : LogEnd). firstFault P (l .boxes)) (sym (run-replays P boxes a)) ∙ replay-passes P 0 false boxes (run P boxes a .log) e
+      ap (λ (l : LogEnd). inputFault P (l .boxes)) (sym (run-replays P boxes a)) ∙ replay-passes P 0 false boxes (run P boxes a .log) e
 
 -- ---- what each case of the core's answer makes of a part
 
@@ -160,11 +160,11 @@ module _ (cells : ℕ) (l : cells ≤ partSize) where
     abbrev ran : Run
     ran = run P boxes cells
 
-    core-refused : (f : Fault) → firstFault P boxes ≡ some f → (core .answer ≡ refusedBy f) × (core .boxes ≡ boxes)
+    core-refused : (f : Fault) → inputFault P boxes ≡ some f → (core .answer ≡ refusedBy f) × (core .boxes ≡ boxes)
     unfolding filterPlan onOption
     core-refused f e = rw (lent-fault P boxes blank blank blank cells inside inside inside, e) (refl, refl)
 
-    core-runs : firstFault P boxes ≡ none → core ≡ logged ran (take cells blank) (take cells blank) (take cells blank)
+    core-runs : inputFault P boxes ≡ none → core ≡ logged ran (take cells blank) (take cells blank) (take cells blank)
     unfolding filterPlan onOption
     core-runs e =
         rw (lent-fault P boxes blank blank blank cells inside inside inside, e)
@@ -172,14 +172,14 @@ module _ (cells : ℕ) (l : cells ≤ partSize) where
 
     module _ (a : Filtered) (left ks ts hs : List ℕ) (is : Leaves core (filterAnswer a) left ks ts hs) where
       pub counted-inside : counted (filterAnswer a) ≤ cells
-      counted-inside = go (firstFault P boxes) refl
+      counted-inside = go (inputFault P boxes) refl
         where
           at-ending : (e : Ending) (n : ℕ) → counted (endingAnswer e n) ≡ n
           at-ending settled n = unfold endingAnswer in refl
           at-ending impossible n = unfold endingAnswer in refl
           at-ending noRoom n = unfold endingAnswer in refl
 
-          go : (o : Option Fault) → firstFault P boxes ≡ o → counted (filterAnswer a) ≤ cells
+          go : (o : Option Fault) → inputFault P boxes ≡ o → counted (filterAnswer a) ≤ cells
           go (some f) e = rw (is .answers ∙ core-refused f e .0) (omega arith)
           go none e =
               let q : filterAnswer a ≡ endingAnswer (ran .ending) (count ran) = is .answers ∙ ap (λ (x : FilterEnd). x .answer) (core-runs e) ∙ unfold logged in refl in
@@ -187,12 +187,12 @@ module _ (cells : ℕ) (l : cells ≤ partSize) where
 
       module _ (taken room : ℕ) (few : cells ≡ min partSize (room - taken)) (f : PartFiltered)
           (made : f ≡ filteredPart a taken room (ks ++ drop cells blank) (ts ++ drop cells blank) (hs ++ drop cells blank)) where
-        made-refused : (g : Fault) → firstFault P boxes ≡ some g → RefusedAs g boxes f left
+        made-refused : (g : Fault) → inputFault P boxes ≡ some g → RefusedAs g boxes f left
         made-refused g e =
             rw made
             (refused-as a g boxes left taken room _ _ _ (is .answers ∙ core-refused g e .0) (is .leaves-boxes ∙ core-refused g e .1))
 
-        made-ran : firstFault P boxes ≡ none → RanAs ran taken room f left
+        made-ran : inputFault P boxes ≡ none → RanAs ran taken room f left
         unfolding logged written
         made-ran e =
             let past : List ℕ → List ℕ = λ l. drop (length l) (take cells blank) in
@@ -228,8 +228,8 @@ pub record Running (P : Plan) (opening : List ℕ) (cells : List Step) (taken : 
   pub number : length steps ≡ taken
   pub inside : taken ≤ length cells
   pub logs : log ≡ steps ++ drop taken cells
-  pub goes-on : firstFault P opening ≡ none → (firstFault P boxes ≡ none) × (run P opening (length cells) ≡ resumed steps (run P boxes (length cells - taken)))
-  pub refuses : (f : Fault) → firstFault P opening ≡ some f → (boxes ≡ opening) × (taken ≡ 0)
+  pub goes-on : inputFault P opening ≡ none → (inputFault P boxes ≡ none) × (run P opening (length cells) ≡ resumed steps (run P boxes (length cells - taken)))
+  pub refuses : (f : Fault) → inputFault P opening ≡ some f → (boxes ≡ opening) × (taken ≡ 0)
   pub same : length boxes ≡ length opening
 
 pub running-opens : (P : Plan) (opening : List ℕ) (cells : List Step) → Running P opening cells 0 opening cells
@@ -259,9 +259,9 @@ module _ (P : Plan) (opening : List ℕ) (cells : List Step) (taken : ℕ) (boxe
     -- the part's steps fit the log
     pub steps-inside : (taken + f .steps .count ≤ length log) × (f .steps .count ≤ partSize)
     unfolding partRun
-    steps-inside = go (firstFault P boxes) refl
+    steps-inside = go (inputFault P boxes) refl
       where
-        go : (o : Option Fault) → firstFault P boxes ≡ o → (taken + f .steps .count ≤ length log) × (f .steps .count ≤ partSize)
+        go : (o : Option Fault) → inputFault P boxes ≡ o → (taken + f .steps .count ≤ length log) × (f .steps .count ≤ partSize)
         go (some g) e =
             (omega (arith, same-log, t .inside, c .refuses g e .number), omega (arith, c .refuses g e .number))
         go none e =
@@ -281,18 +281,18 @@ module _ (P : Plan) (opening : List ℕ) (cells : List Step) (taken : ℕ) (boxe
           ∙ ap (λ (s : List Step). t .steps ++ (l ++ s)) (drop-drop (length l) taken cells)
           ∙ sym (append-assoc (t .steps) l (drop (taken + length l) cells))
 
-      passed-opening : firstFault P boxes ≡ none → firstFault P opening ≡ none
-      passed-opening e = go (firstFault P opening) refl
+      passed-opening : inputFault P boxes ≡ none → inputFault P opening ≡ none
+      passed-opening e = go (inputFault P opening) refl
         where
-          go : (o : Option Fault) → firstFault P opening ≡ o → firstFault P opening ≡ none
+          go : (o : Option Fault) → inputFault P opening ≡ o → inputFault P opening ≡ none
           go none q = q
-          go (some g) q = none≢some (sym e ∙ ap (firstFault P) (t .refuses g q .0) ∙ q)
+          go (some g) q = none≢some (sym e ∙ ap (inputFault P) (t .refuses g q .0) ∙ q)
 
       pub part-runs-on : length left ≡ length boxes → f .more ≡ true → Running P opening cells (f .taken) left new × (taken < f .taken)
       unfolding partRun
-      part-runs-on kept more = go (firstFault P boxes) refl
+      part-runs-on kept more = go (inputFault P boxes) refl
         where
-          go : (o : Option Fault) → firstFault P boxes ≡ o → Running P opening cells (f .taken) left new × (taken < f .taken)
+          go : (o : Option Fault) → inputFault P boxes ≡ o → Running P opening cells (f .taken) left new × (taken < f .taken)
           go (some g) e = absurd (false≢true (sym (c .refuses g e .ends) ∙ more))
           go none e =
               let ran = c .runs e in
@@ -307,7 +307,7 @@ module _ (P : Plan) (opening : List ℕ) (cells : List Step) (taken : ℕ) (boxe
                   inside = omega (arith, number, inside);
                   logs = logs-more (r .log) (ran .steps) ∙ ap (λ (n : ℕ). (t .steps ++ r .log) ++ drop n cells) (sym number);
                   goes-on = λ q. (
-                    ap (firstFault P) (ran .leaves) ∙ run-passes P m boxes e,
+                    ap (inputFault P) (ran .leaves) ∙ run-passes P m boxes e,
                     t .goes-on q .1
                         ∙ ap (λ (n : ℕ). resumed (t .steps) (run P boxes n)) rest
                         ∙ ap (resumed (t .steps)) (run-resumes P boxes m (room - f .taken) full)
@@ -323,18 +323,18 @@ module _ (P : Plan) (opening : List ℕ) (cells : List Step) (taken : ℕ) (boxe
 
       pub part-leaves : f .more ≡ false → LeavesSteps (filterSteps P opening cells) (filterAnswer (f .answer)) left new
       unfolding partRun filterSteps loggedSteps onOption written
-      part-leaves more = go (firstFault P boxes) refl
+      part-leaves more = go (inputFault P boxes) refl
         where
-          go : (o : Option Fault) → firstFault P boxes ≡ o → LeavesSteps (filterSteps P opening cells) (filterAnswer (f .answer)) left new
-          go (some g) e = refused-so g e (firstFault P opening) refl
+          go : (o : Option Fault) → inputFault P boxes ≡ o → LeavesSteps (filterSteps P opening cells) (filterAnswer (f .answer)) left new
+          go (some g) e = refused-so g e (inputFault P opening) refl
             where
-              refused-so : (g : Fault) → firstFault P boxes ≡ some g → (o : Option Fault) → firstFault P opening ≡ o
+              refused-so : (g : Fault) → inputFault P boxes ≡ some g → (o : Option Fault) → inputFault P opening ≡ o
                   → LeavesSteps (filterSteps P opening cells) (filterAnswer (f .answer)) left new
               refused-so g e none q = none≢some (sym (t .goes-on q .0) ∙ e)
               refused-so g e (some h) q =
                   let (b, z) = t .refuses h q in
                   let no-steps : t .steps ≡ [] = empty (t .steps) (t .number ∙ z) in
-                  let same-fault : g ≡ h = let w : some g ≡ some h = sym e ∙ ap (firstFault P) b ∙ q in cc in
+                  let same-fault : g ≡ h = let w : some g ≡ some h = sym e ∙ ap (inputFault P) b ∙ q in cc in
                   rw q
                   record {
                     answers = c .refuses g e .answers ∙ ap refusedBy same-fault;

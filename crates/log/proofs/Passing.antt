@@ -12,7 +12,7 @@ use Rattle.units.specs.declared.Bounds.{Bounds}
 use Rattle.units.proofs.Choices.{neither, else-none, first-none, first-all-none}
 use Rattle.units.proofs.Ranges.{is-within, is-range, is-box, Boxed}
 use Rattle.plan.specs.Plan.{Plan, taskCount}
-use Rattle.plan.specs.Faults.{oneForEachTask, taskFault, planFault, firstFault}
+use Rattle.plan.specs.Faults.{oneForEachTask, taskFault, planFault, inputFault}
 use Rattle.plan.proofs.Refusing.{unless-none, unless-true}
 use Rattle.plan.proofs.Passed.{Passed, passed}
 use Rattle.propagation.specs.declared.Step.{Step}
@@ -33,8 +33,8 @@ boxed-is h p b x =
     (is-range (isOvertime p) (b .fewest .0) (b .most .0) (le-leb (b .fewest .0) p (omega (arith, x .overtimes, x .most))) (le-leb _ _ (x .most)) (x .overtimes))
 
 module _ (P : Plan) (boxes : List ℕ) where
-  pub first-passed : firstFault P boxes ≡ none → Passed P boxes
-  unfolding firstFault
+  pub first-passed : inputFault P boxes ≡ none → Passed P boxes
+  unfolding inputFault
   first-passed e = let (one, rest) = neither _ _ e in passed P boxes (unless-none _ 31 0 one) rest
 
   module _ (left : List ℕ) (again : Passed P left) (same : length left ≡ length boxes) where
@@ -65,16 +65,16 @@ module _ (P : Plan) (boxes : List ℕ) where
         ∙ first-all-none (taskFault P left) (taskCount P)
         (λ i l. task-passes i l (first-none (taskFault P boxes) (taskCount P) (after-10 .1) i l))
 
-    first-passes : firstFault P boxes ≡ none → firstFault P left ≡ none
-    unfolding firstFault oneForEachTask
+    first-passes : inputFault P boxes ≡ none → inputFault P left ≡ none
+    unfolding inputFault oneForEachTask
     first-passes e = let (one, rest) = neither _ _ e in else-none _ _ (rw same one) ∙ plan-passes rest
 
 -- with the boxes at the end of any log
 module _ (P : Plan) where
   abbrev Passes : LogEnd → Type 0
-  Passes e = firstFault P (e .boxes) ≡ none
+  Passes e = inputFault P (e .boxes) ≡ none
 
-  pub replay-passes : (k : ℕ) (said : Bool) (boxes : List ℕ) (log : List Step) → firstFault P boxes ≡ none → Passes (replayFrom P k said boxes log)
+  pub replay-passes : (k : ℕ) (said : Bool) (boxes : List ℕ) (log : List Step) → inputFault P boxes ≡ none → Passes (replayFrom P k said boxes log)
   unfolding replayFrom
   replay-passes k said boxes [] e = e
   replay-passes k true boxes (x ∷ xs) e = e

@@ -9,7 +9,7 @@ use lib.ListN.{length}
 use Rattle.units.specs.Choice.{onOption}
 use Rattle.units.specs.Cells.{written}
 use Rattle.plan.specs.Plan.{Plan}
-use Rattle.plan.specs.Faults.{firstFault}
+use Rattle.plan.specs.Faults.{inputFault}
 use Rattle.propagation.specs.declared.Step.{Step}
 use Rattle.propagation.specs.Log.{LogEnd, logEnd, replay}
 use Rattle.propagation.specs.Filter.{Run, count, run}
@@ -17,7 +17,7 @@ use Rattle.propagation.specs.Entry.{FilterAnswer, refusedBy, endingAnswer}
 
 -- The log checker: the log's end, or at once a refusal (31, then the plan's tests) that changes nothing.
 unfoldable pub checkSteps : Plan → List ℕ → List Step → LogEnd
-checkSteps P boxes log = onOption (firstFault P boxes) (replay P boxes log) (λ f. logEnd 0 false boxes (some f))
+checkSteps P boxes log = onOption (inputFault P boxes) (replay P boxes log) (λ f. logEnd 0 false boxes (some f))
 
 -- What the filter leaves: its answer, the boxes, and the log.
 pub record StepsEnd : Type 0 where
@@ -37,6 +37,6 @@ loggedSteps r log = record { answer = endingAnswer (r .ending) (count r); boxes 
 -- The filter, with the log lent as its room: the run, or a refusal that changes nothing.
 unfoldable pub filterSteps : Plan → List ℕ → List Step → StepsEnd
 filterSteps P boxes log =
-    onOption (firstFault P boxes)
+    onOption (inputFault P boxes)
     (loggedSteps (run P boxes (length log)) log)
     (λ f. record { answer = refusedBy f; boxes = boxes; log = log })

@@ -9,10 +9,8 @@ use lib.Dec.{leb, ltb}
 use lib.ListN.{length}
 use Rattle.units.specs.Choice.{onOption}
 use Rattle.plan.specs.Plan.{Plan}
-use Rattle.plan.specs.Refusals.{Fault, Answer, refused, answered}
-use Rattle.plan.specs.Faults.{firstFault}
-use Rattle.plan.specs.declared.Refusal.{Refusal}
-use Rattle.plan.specs.declared.Refusal.the-variants.{Malformed, Hours, Calendars, Symbol, Tasks, NoCalendar, WorkTime, TaskHeight, TaskBounds, Capacity, UnknownStep, NotAdmitted, AfterImpossible, OutsideBounds, NotValid, OverCapacity, MemorySize}
+use Rattle.plan.specs.Refusals.{Fault}
+use Rattle.plan.specs.Faults.{inputFault}
 use Rattle.propagation.specs.declared.Step.{Step}
 use Rattle.propagation.specs.declared.LogChecked.{LogChecked}
 use Rattle.propagation.specs.declared.LogChecked.the-variants as checked
@@ -43,42 +41,13 @@ pub record Sized (p : Part) : Type 0 where
 
 -- ---- the log checker
 
--- a refusal of a step, with its place in the log, where the part starts at step n
-abbrev pub placed : ℕ → Refusal → Refusal
-placed n (Malformed line) = Malformed line
-placed n Hours = Hours
-placed n Calendars = Calendars
-placed n (Symbol index) = Symbol index
-placed n Tasks = Tasks
-placed n (NoCalendar task) = NoCalendar task
-placed n (WorkTime task) = WorkTime task
-placed n (TaskHeight task) = TaskHeight task
-placed n (TaskBounds task) = TaskBounds task
-placed n Capacity = Capacity
-placed n (UnknownStep step) = UnknownStep (n + step)
-placed n (NotAdmitted step) = NotAdmitted (n + step)
-placed n (AfterImpossible step) = AfterImpossible (n + step)
-placed n (OutsideBounds task) = OutsideBounds task
-placed n (NotValid task) = NotValid task
-placed n (OverCapacity hour) = OverCapacity hour
-placed n MemorySize = MemorySize
-
-abbrev pub answerFrom : ℕ → LogChecked → LogChecked
-answerFrom n (checked.Refused r) = checked.Refused (placed n r)
-answerFrom n (checked.Accepted k said) = checked.Accepted (n + k) said
-
--- the step that an answer names, or the number of steps
-abbrev pub reached : Answer Accepted → ℕ
-reached (refused f) = f .place
-reached (answered a) = a .steps
-
 abbrev pub checkedPart : LogChecked → ℕ → PartChecked
 checkedPart (checked.Refused r) count = record { answer = checked.Refused r; more = false; steps = 0; impossible = false }
 checkedPart (checked.Accepted k said) count = record { answer = checked.Accepted k said; more = leb partSize count; steps = k; impossible = said }
 
 -- the end of a log from step number k on, or a refusal that changes nothing
 unfoldable pub checkFrom : Plan → ℕ → Bool → List ℕ → List Step → LogEnd
-checkFrom P k said boxes steps = onOption (firstFault P boxes) (replayFrom P k said boxes steps) (λ f. logEnd 0 false boxes (some f))
+checkFrom P k said boxes steps = onOption (inputFault P boxes) (replayFrom P k said boxes steps) (λ f. logEnd 0 false boxes (some f))
 
 -- What the log checker comes to with a part of so many steps, whose end this is.
 pub record CheckedAs (e : LogEnd) (count : ℕ) (r : PartChecked) (left : List ℕ) : Type 0 where
@@ -150,5 +119,5 @@ pub record RefusedAs (fault : Fault) (boxes : List ℕ) (f : PartFiltered) (left
   pub ends : f .more ≡ false
 
 pub record FilteredAs (P : Plan) (boxes : List ℕ) (taken room : ℕ) (f : PartFiltered) (left : List ℕ) : Type 0 where
-  pub runs : firstFault P boxes ≡ none → RanAs (partRun P boxes taken room) taken room f left
-  pub refuses : (fault : Fault) → firstFault P boxes ≡ some fault → RefusedAs fault boxes f left
+  pub runs : inputFault P boxes ≡ none → RanAs (partRun P boxes taken room) taken room f left
+  pub refuses : (fault : Fault) → inputFault P boxes ≡ some fault → RefusedAs fault boxes f left

@@ -9,8 +9,8 @@ ghost use mathlib.Core.List.{_++_};
 ghost use Prim.Native.Nat.{_+_, _≤_, _<_};
 ghost use lib.ListN.{length, getD, set, take, drop};
 ghost use Rattle.units.specs.Cells.{written};
-ghost use Rattle.plan.specs.Plan.{plan};
-ghost use Rattle.plan.specs.Faults.{firstFault};
+ghost use Rattle.plan.specs.Faults.{inputFault};
+ghost use Rattle.plan.specs.Lent.{old, left, oldPlan};
 ghost use Rattle.propagation.specs.Claim.{CheckedHolds, FilterHolds};
 ghost use Rattle.propagation.specs.Entry.{checkAnswer, logAnswer, filterAnswer};
 ghost use Rattle.log.specs.Entry.{checkSteps, filterSteps, LeavesSteps};
@@ -20,14 +20,14 @@ mod part;
 
 fn step_at(log: &[Step], i: usize) -> Step
     requires { ⌜ i < length (now log) ⌝ }
-    ensures { λ r. ⌜ r ≡ getD (now (log .entry)) i noStep ⌝ }
+    ensures { λ r. ⌜ r ≡ getD (old log) i noStep ⌝ }
 {
     log[i]
 }
 
 fn put_step(log: &mut [Step], i: usize, x: Step)
     requires { ⌜ i < length (now log) ⌝ }
-    ensures { λ _. ⌜ now (log .exit) ≡ set (now (log .entry)) i x ⌝ }
+    ensures { λ _. ⌜ left log ≡ set (old log) i x ⌝ }
 {
     log[i] = x;
 }
@@ -35,7 +35,7 @@ fn put_step(log: &mut [Step], i: usize, x: Step)
 // The steps from one on, as many as a part holds or the log has.
 fn part_at(log: &[Step], from: usize) -> Part
     requires { ⌜ from ≤ length (now log) ⌝ }
-    ensures { λ r. ⌜ (partSteps r ≡ take partSize (drop from (now (log .entry)))) × Sized r ⌝ }
+    ensures { λ r. ⌜ (partSteps r ≡ take partSize (drop from (old log))) × Sized r ⌝ }
 {
     let end = part::part_end(from, log.len());
     let mut steps = part::no_steps();
@@ -51,7 +51,7 @@ fn part_at(log: &[Step], from: usize) -> Part
 // The steps of a part become those of the log from one on.
 fn put_part(log: &mut [Step], from: usize, steps: Part)
     requires { ⌜ (from + steps .count ≤ length (now log)) × (steps .count ≤ partSize) ⌝ }
-    ensures { λ _. ⌜ now (log .exit) ≡ (take from (now (log .entry)) ++ written (partSteps steps) (drop from (now (log .entry)))) ⌝ }
+    ensures { λ _. ⌜ left log ≡ (take from (old log) ++ written (partSteps steps) (drop from (old log))) ⌝ }
 {
     let count = steps.count;
     let mut k = 0;
@@ -74,18 +74,18 @@ pub fn check_log(
     log: &[Step],
 ) -> LogChecked
     ensures { λ r. ⌜ (logAnswer r ≡ checkAnswer (checkSteps
-        (plan hours capacity (now (calendars .entry)) (now («task_calendars» .entry)) (now («work_times» .entry)) (now (heights .entry)))
-        (now (boxes .entry)) (now (log .entry))))
-        × (now (boxes .exit) ≡ checkSteps
-        (plan hours capacity (now (calendars .entry)) (now («task_calendars» .entry)) (now («work_times» .entry)) (now (heights .entry)))
-        (now (boxes .entry)) (now (log .entry)) .boxes) ⌝ }
+        (oldPlan hours capacity calendars «task_calendars» «work_times» heights)
+        (old boxes) (old log)))
+        × (left boxes ≡ checkSteps
+        (oldPlan hours capacity calendars «task_calendars» «work_times» heights)
+        (old boxes) (old log) .boxes) ⌝ }
     ensures holds { λ r. ⌜ CheckedHolds
-        (plan hours capacity (now (calendars .entry)) (now («task_calendars» .entry)) (now («work_times» .entry)) (now (heights .entry)))
-        (now (boxes .entry))
-        (firstFault
-        (plan hours capacity (now (calendars .entry)) (now («task_calendars» .entry)) (now («work_times» .entry)) (now (heights .entry)))
-        (now (boxes .entry)))
-        (now (log .entry)) (logAnswer r) (now (boxes .exit)) ⌝ }
+        (oldPlan hours capacity calendars «task_calendars» «work_times» heights)
+        (old boxes)
+        (inputFault
+        (oldPlan hours capacity calendars «task_calendars» «work_times» heights)
+        (old boxes))
+        (old log) (logAnswer r) (left boxes) ⌝ }
 {
     let mut from = 0;
     let mut said = false;
@@ -123,12 +123,12 @@ pub fn filter(
     log: &mut [Step],
 ) -> Filtered
     ensures { λ r. ⌜ LeavesSteps (filterSteps
-        (plan hours capacity (now (calendars .entry)) (now («task_calendars» .entry)) (now («work_times» .entry)) (now (heights .entry)))
-        (now (boxes .entry)) (now (log .entry)))
-        (filterAnswer r) (now (boxes .exit)) (now (log .exit)) ⌝ }
+        (oldPlan hours capacity calendars «task_calendars» «work_times» heights)
+        (old boxes) (old log))
+        (filterAnswer r) (left boxes) (left log) ⌝ }
     ensures holds { λ r. ⌜ FilterHolds
-        (plan hours capacity (now (calendars .entry)) (now («task_calendars» .entry)) (now («work_times» .entry)) (now (heights .entry)))
-        (now (boxes .entry)) (length (now (log .entry))) (filterAnswer r) (now (boxes .exit)) (λ n. take n (now (log .exit))) ⌝ }
+        (oldPlan hours capacity calendars «task_calendars» «work_times» heights)
+        (old boxes) (length (old log)) (filterAnswer r) (left boxes) (λ n. take n (left log)) ⌝ }
 {
     let room = log.len();
     let mut taken = 0;

@@ -1,18 +1,13 @@
 // A part of a log: as many of its steps as `propagation` is called with at a time, by value, and what it makes of them.
-use plan::Refusal;
 use propagation::Filtered;
 use propagation::LogChecked;
 use propagation::Step;
-ghost use mathlib.Core.Bool.{true};
-ghost use mathlib.Core.Option.{none};
 ghost use mathlib.Core.Path.{_≡_};
 ghost use mathlib.Core.List.{[], _∷_, _++_};
 ghost use Prim.Native.Nat.{_+_, _-_, _^_, _≤_, _<_, min};
-ghost use Rattle.plan.specs.Plan.{plan};
-ghost use Rattle.plan.specs.Faults.{firstFault};
-ghost use Rattle.plan.specs.Refusals.{faultOf};
-ghost use Rattle.propagation.specs.Entry.{stepAt, logAnswer, filterAnswer};
-ghost use Rattle.log.specs.Parts.{partSize, partSteps, Sized, placed, reached, answerFrom, checkedPart, checkFrom, CheckedAs, counted, filteredPart, FilteredAs};
+ghost use Rattle.plan.specs.Lent.{old, left, oldPlan};
+ghost use Rattle.propagation.specs.Entry.{stepAt, filterAnswer};
+ghost use Rattle.log.specs.Parts.{partSize, partSteps, Sized, checkedPart, checkFrom, CheckedAs, counted, filteredPart, FilteredAs};
 
 // The kinds, the tasks and the hours of its steps stand in the first cells, as many as the count.
 pub struct Part {
@@ -91,46 +86,6 @@ pub fn step_of(part: Part, k: usize) -> Step
     }
 }
 
-// A refusal of a part that starts at a step of the log, with its place in the log.
-fn placed_from(refusal: Refusal, from: usize) -> Refusal
-    requires { ⌜ from + faultOf refusal .place < 2 ^ 64 ⌝ }
-    ensures { λ r. ⌜ r ≡ placed from refusal ⌝ }
-{
-    match refusal {
-        Refusal::Malformed(_) => refusal,
-        Refusal::Hours => refusal,
-        Refusal::Calendars => refusal,
-        Refusal::Symbol(_) => refusal,
-        Refusal::Tasks => refusal,
-        Refusal::NoCalendar(_) => refusal,
-        Refusal::WorkTime(_) => refusal,
-        Refusal::TaskHeight(_) => refusal,
-        Refusal::TaskBounds(_) => refusal,
-        Refusal::Capacity => refusal,
-        Refusal::UnknownStep(step) => Refusal::UnknownStep(from + step),
-        Refusal::NotAdmitted(step) => Refusal::NotAdmitted(from + step),
-        Refusal::AfterImpossible(step) => Refusal::AfterImpossible(from + step),
-        Refusal::OutsideBounds(_) => refusal,
-        Refusal::NotValid(_) => refusal,
-        Refusal::OverCapacity(_) => refusal,
-        Refusal::MemorySize => refusal,
-    }
-}
-
-// The answer for a part that starts at a step of the log, as the log's.
-fn answer_from(checked: LogChecked, from: usize) -> LogChecked
-    requires { ⌜ from + reached (logAnswer checked) < 2 ^ 64 ⌝ }
-    ensures { λ r. ⌜ r ≡ answerFrom from checked ⌝ }
-{
-    match checked {
-        LogChecked::Refused(refusal) => LogChecked::Refused(placed_from(refusal, from)),
-        LogChecked::Accepted { steps, impossible } => LogChecked::Accepted {
-            steps: from + steps,
-            impossible,
-        },
-    }
-}
-
 // There may be more where all steps of a full part are accepted.
 fn checked_part(answer: LogChecked, count: usize) -> PartChecked
     ensures { λ r. ⌜ r ≡ checkedPart answer count ⌝ }
@@ -164,27 +119,16 @@ pub fn check_part(
     said: bool,
     part: Part,
 ) -> PartChecked
-    requires { ⌜ (part .count ≤ partSize) × Sized part × (from + part .count < 2 ^ 64) × (said ≡ true → 0 < from)
-        × (0 < from → firstFault (plan hours capacity (now calendars) (now «task_calendars») (now «work_times») (now heights)) (now boxes) ≡ none) ⌝ }
+    requires { ⌜ (part .count ≤ partSize) × Sized part × (from + part .count < 2 ^ 64) ⌝ }
     ensures { λ r. ⌜ CheckedAs (checkFrom
-        (plan hours capacity (now (calendars .entry)) (now («task_calendars» .entry)) (now («work_times» .entry)) (now (heights .entry)))
-        from said (now (boxes .entry)) (partSteps part)) (part .count) r (now (boxes .exit)) ⌝ }
+        (oldPlan hours capacity calendars «task_calendars» «work_times» heights)
+        from said (old boxes) (partSteps part)) (part .count) r (left boxes) ⌝ }
 {
     let count = part.count;
-    if said {
-        if count == 0 {
-            let accepted = LogChecked::Accepted {
-                steps: from,
-                impossible: true,
-            };
-            return checked_part(accepted, count);
-        }
-        return checked_part(LogChecked::Refused(Refusal::AfterImpossible(from)), count);
-    }
     let kinds = part.kinds;
     let tasks = part.tasks;
     let task_hours = part.hours;
-    let checked = propagation::replay::check_log(
+    let checked = propagation::replay::check_from(
         hours,
         capacity,
         calendars,
@@ -195,11 +139,10 @@ pub fn check_part(
         &kinds[..count],
         &tasks[..count],
         &task_hours[..count],
+        from,
+        said,
     );
-    if from == 0 {
-        return checked_part(checked, count);
-    }
-    checked_part(answer_from(checked, from), count)
+    checked_part(checked, count)
 }
 
 // What the run comes to with a part, from how it ended there, after so many steps and with room for so many in all.
@@ -276,8 +219,8 @@ pub fn filter_part(
 ) -> PartFiltered
     requires { ⌜ taken ≤ room ⌝ }
     ensures { λ r. ⌜ FilteredAs
-        (plan hours capacity (now (calendars .entry)) (now («task_calendars» .entry)) (now («work_times» .entry)) (now (heights .entry)))
-        (now (boxes .entry)) taken room r (now (boxes .exit)) ⌝ }
+        (oldPlan hours capacity calendars «task_calendars» «work_times» heights)
+        (old boxes) taken room r (left boxes) ⌝ }
 {
     let mut kinds = [0u8; Part::SIZE];
     let mut tasks = [0u16; Part::SIZE];

@@ -46,8 +46,8 @@ planFault P boxes =
     orElse firstOf (taskFault P boxes) (taskCount P)
 
 -- 31 before all others
-unfoldable pub firstFault : Plan → List ℕ → Option Fault
-firstFault P boxes = unless (oneForEachTask (P .taskCalendars) (P .workTimes) (P .heights) boxes) 31 0 orElse planFault P boxes
+unfoldable pub inputFault : Plan → List ℕ → Option Fault
+inputFault P boxes = unless (oneForEachTask (P .taskCalendars) (P .workTimes) (P .heights) boxes) 31 0 orElse planFault P boxes
 
 -- a plan passes the tests if none of 2 to 10 applies to it
 abbrev pub Passes : Plan → List ℕ → Type 0

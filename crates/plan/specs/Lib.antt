@@ -2,3 +2,4 @@ pub mod Plan
 pub mod Boxes
 pub mod Refusals
 pub mod Faults
+pub mod Lent

@@ -15,10 +15,11 @@ ghost use lib.Dec.{eqb};
 ghost use lib.ListN.{length, getD, take, drop};
 ghost use Rattle.units.specs.Choice.{_and_, _orElse_, firstOf};
 ghost use Rattle.units.specs.Limits.{isCalendarCount, isCalendarNumber, isWorkTime, isHeight, isBox};
-ghost use Rattle.plan.specs.Plan.{plan, firstSymbol};
+ghost use Rattle.plan.specs.Plan.{firstSymbol};
 ghost use Rattle.plan.specs.Boxes.{boundsAt, withBounds};
 ghost use Rattle.plan.specs.Refusals.{unless, faultOf, testedFault};
-ghost use Rattle.plan.specs.Faults.{oneForEachTask, isSymbol, taskFault, planFault, firstFault};
+ghost use Rattle.plan.specs.Faults.{oneForEachTask, isSymbol, taskFault, planFault, inputFault};
+ghost use Rattle.plan.specs.Lent.{old, left, oldPlan};
 
 // Why a call is refused, in document 01's order of numbers, with the place where 01 names one.
 pub enum Refusal {
@@ -88,7 +89,7 @@ pub fn fault_of(r: Refusal) -> Fault
 // The box of task i.
 pub fn bounds_at(boxes: &[u16], i: usize) -> Bounds
     requires { ⌜ 6 * i + 6 ≤ length (now boxes) ⌝ }
-    ensures { λ r. ⌜ r ≡ boundsAt (now (boxes .entry)) i ⌝ }
+    ensures { λ r. ⌜ r ≡ boundsAt (old boxes) i ⌝ }
 {
     let first = 6 * i;
     Bounds {
@@ -104,7 +105,7 @@ pub fn bounds_at(boxes: &[u16], i: usize) -> Bounds
 // Another box for task i.
 pub fn put_bounds(boxes: &mut [u16], i: usize, b: Bounds)
     requires { ⌜ 6 * i + 6 ≤ length (now boxes) ⌝ }
-    ensures { λ r. ⌜ now (boxes .exit) ≡ withBounds (now (boxes .entry)) i b ⌝ }
+    ensures { λ r. ⌜ left boxes ≡ withBounds (old boxes) i b ⌝ }
 {
     let first = 6 * i;
     boxes[first] = b.earliest.0;
@@ -125,7 +126,7 @@ pub fn first_symbol(number: u16, hours: Duration) -> usize
 // The symbols of one calendar.
 pub fn calendar_at(calendars: &[u8], hours: Duration, number: u16) -> &[u8]
     requires { ⌜ firstSymbol (hours .0) number + hours .0 ≤ length (now calendars) ⌝ }
-    ensures { λ r. ⌜ now r ≡ take (hours .0) (drop (firstSymbol (hours .0) number) (now (calendars .entry))) ⌝ }
+    ensures { λ r. ⌜ now r ≡ take (hours .0) (drop (firstSymbol (hours .0) number) (old calendars)) ⌝ }
 {
     let from = first_symbol(number, hours);
     let to = from + hours.0 as usize;
@@ -135,7 +136,7 @@ pub fn calendar_at(calendars: &[u8], hours: Duration, number: u16) -> &[u8]
 // How many calendars of so many hours there are.
 fn calendar_count(calendars: &[u8], hours: Duration) -> usize
     requires { ⌜ 1 ≤ hours .0 ⌝ }
-    ensures { λ r. ⌜ r ≡ length (now (calendars .entry)) / hours .0 ⌝ }
+    ensures { λ r. ⌜ r ≡ length (old calendars) / hours .0 ⌝ }
 {
     calendars.len() / hours.0 as usize
 }
@@ -147,7 +148,7 @@ pub fn has_one_for_each_task(
     heights: &[u16],
     boxes: &[u16],
 ) -> bool
-    ensures { λ r. ⌜ r ≡ oneForEachTask (now («task_calendars» .entry)) (now («work_times» .entry)) (now (heights .entry)) (now (boxes .entry)) ⌝ }
+    ensures { λ r. ⌜ r ≡ oneForEachTask (old «task_calendars») (old «work_times») (old heights) (old boxes) ⌝ }
 {
     let tasks = task_calendars.len();
     if work_times.len() != tasks {
@@ -165,7 +166,7 @@ pub fn has_one_for_each_task(
 // Whether the symbols make calendars of so many hours each, and as many as a plan may have.
 fn has_calendars(calendars: &[u8], hours: Duration) -> bool
     requires { ⌜ 1 ≤ hours .0 ⌝ }
-    ensures { λ r. ⌜ r ≡ eqb (length (now (calendars .entry)) % hours .0) 0 and isCalendarCount (length (now (calendars .entry)) / hours .0) ⌝ }
+    ensures { λ r. ⌜ r ≡ eqb (length (old calendars) % hours .0) 0 and isCalendarCount (length (old calendars) / hours .0) ⌝ }
 {
     if calendars.len() % hours.0 as usize != 0 {
         return false;
@@ -188,7 +189,7 @@ fn is_symbol(symbol: u8) -> bool
 
 // 4, at the first symbol other than r, c, o.
 fn test_symbols(calendars: &[u8]) -> Tested
-    ensures { λ r. ⌜ testedFault r ≡ firstOf (λ k. unless (isSymbol (getD (now (calendars .entry)) k 0)) 4 k) (length (now (calendars .entry))) ⌝ }
+    ensures { λ r. ⌜ testedFault r ≡ firstOf (λ k. unless (isSymbol (getD (old calendars) k 0)) 4 k) (length (old calendars)) ⌝ }
 {
     for k in 0..calendars.len() {
         if !is_symbol(calendars[k]) {
@@ -239,8 +240,8 @@ fn test_tasks(
 ) -> Tested
     requires { ⌜ (1 ≤ hours .0) × (oneForEachTask (now «task_calendars») (now «work_times») (now heights) (now boxes) ≡ true) ⌝ }
     ensures { λ r. ⌜ testedFault r ≡ firstOf
-        (taskFault (plan (hours .0) 0 (now (calendars .entry)) (now («task_calendars» .entry)) (now («work_times» .entry)) (now (heights .entry))) (now (boxes .entry)))
-        (length (now («task_calendars» .entry))) ⌝ }
+        (taskFault (oldPlan (hours .0) 0 calendars «task_calendars» «work_times» heights) (old boxes))
+        (length (old «task_calendars»)) ⌝ }
 {
     let count = calendar_count(calendars, hours);
     for i in 0..task_calendars.len() {
@@ -261,7 +262,7 @@ fn test_tasks(
 }
 
 // The plan's tests on memory of the right size: 2, 3, 4, 5, 10, then task by task.
-pub fn test_input(
+pub fn test_plan(
     hours: u16,
     capacity: u16,
     calendars: &[u8],
@@ -272,8 +273,8 @@ pub fn test_input(
 ) -> Tested
     requires { ⌜ oneForEachTask (now «task_calendars») (now «work_times») (now heights) (now boxes) ≡ true ⌝ }
     ensures { λ r. ⌜ testedFault r ≡ planFault
-        (plan hours capacity (now (calendars .entry)) (now («task_calendars» .entry)) (now («work_times» .entry)) (now (heights .entry)))
-        (now (boxes .entry)) ⌝ }
+        (oldPlan hours capacity calendars «task_calendars» «work_times» heights)
+        (old boxes) ⌝ }
 {
     let MaybeDuration::Within(plan_length) = Duration::of_plan(hours as usize) else {
         return Tested::Refused(Refusal::Hours);
@@ -302,7 +303,7 @@ pub fn test_input(
 }
 
 // The plan's tests: 31 before all others.
-pub fn test_plan(
+pub fn test_input(
     hours: u16,
     capacity: u16,
     calendars: &[u8],
@@ -311,14 +312,14 @@ pub fn test_plan(
     heights: &[u16],
     boxes: &[u16],
 ) -> Tested
-    ensures { λ r. ⌜ testedFault r ≡ firstFault
-        (plan hours capacity (now (calendars .entry)) (now («task_calendars» .entry)) (now («work_times» .entry)) (now (heights .entry)))
-        (now (boxes .entry)) ⌝ }
+    ensures { λ r. ⌜ testedFault r ≡ inputFault
+        (oldPlan hours capacity calendars «task_calendars» «work_times» heights)
+        (old boxes) ⌝ }
 {
     if !has_one_for_each_task(task_calendars, work_times, heights, boxes) {
         return Tested::Refused(Refusal::MemorySize);
     }
-    test_input(
+    test_plan(
         hours,
         capacity,
         calendars,

@@ -3,7 +3,7 @@ use mathlib.Core.Path.{_≡_, refl, sym, ap, _∙_}
 use mathlib.Core.Bool.{Bool, true, false}
 use mathlib.Core.Option.{none, some}
 use mathlib.Core.List.{List}
-use Prim.Native.Nat.{ℕ, suc, _+_, _≤_, _<_}
+use Prim.Native.Nat.{ℕ, suc, _+_, _-_, _≤_, _<_}
 use native.Mathlib.Numerals.{add-one}
 use native.Mathlib.Omega.{arith}
 use lib.Dec.{eqb}
@@ -21,8 +21,8 @@ use Rattle.plan_text.specs.declared.Scanned.the-variants.{Malformed, Who
 use Rattle.plan_text.specs.Fields.{lf, parts}
 use Rattle.plan_text.specs.Text.{Read, mostBytes, nothing, withLine, readLines, readText}
 use Rattle.plan_text.specs.Lines.{firstAt}
-use Rattle.plan_text.specs.Scanning.{Sized, Holds, Follows, Scans}
-use Rattle.plan_text.proofs.Parting.{parts-more, parts-last, parts-first}
+use Rattle.plan_text.specs.Scanning.{counted, Sized, Holds, Follows, Scans}
+use Rattle.plan_text.proofs.Parting.{parts-more, parts-last, parts-first, to-end, rest-length, end-in, part-length}
 use Rattle.plan_text.proofs.Following.{holds-empty, holds-later}
 
 module _ (whole : Bool) (k : ℕ) (r : Read) (rest : List ℕ) where
@@ -59,64 +59,82 @@ reached-none text whole sy tc wt hs bx =
       decides = refl;
     }
 
--- a turn of the loop: the text from an index on, and the end of its first line
+-- what is left of a text from an index on, as code takes it
+abbrev rest-of : List ℕ → ℕ → List ℕ
+rest-of text from = take (length text - from) (drop from text)
+
+-- a turn of the loop: the end of the first line of what is left
 module _ {text : List ℕ} {whole : Bool} {from line : ℕ} {s : Scan} {sy tc wt hs bx : List ℕ}
-    (at : Reached text whole from line s sy tc wt hs bx) (rest : List ℕ) (e : ℕ) (q : rest ≡ drop from text) (p : e ≡ firstAt lf rest)
+    (at : Reached text whole from line s sy tc wt hs bx) {e : ℕ} (p : e ≡ firstAt lf (rest-of text from))
   where
-    pub text-ends : length text ≤ mostBytes → e ≡ length rest → (whole and s .started and eqb e 0) ≡ true
+    from-here : readLines whole 1 nothing (parts lf text) ≡ readLines whole line (at .so-far) (parts lf (rest-of text from))
+    from-here = at .decides ∙ ap (λ (l : List ℕ). readLines whole line (at .so-far) (parts lf l)) (sym (to-end text from))
+
+    pub line-size : e ≡ length (take e (rest-of text from))
+    line-size = part-length lf text from e p
+
+    pub text-ends : length text ≤ mostBytes → e ≡ length (rest-of text from) → (whole and s .started and eqb e 0) ≡ true
         → Scans (readLines whole 1 nothing (parts lf text)) (Whole s) sy tc wt hs bx
     unfolding Scans
     text-ends m h t =
-        let t′ : (whole and at .so-far .started and eqb (length rest) 0) ≡ true = rw (at .held .started, h) at t in (
+        let t′ : (whole and at .so-far .started and eqb (length (rest-of text from)) 0) ≡ true = rw (at .held .started, h) at t in (
           at .so-far,
-          at .decides ∙ ap (λ (l : List ℕ). readLines whole line (at .so-far) (parts lf l)) (sym q)
-              ∙ lines-last whole line (at .so-far) rest (sym p ∙ h)
-              ∙ if-true _ _ _ t′,
+          from-here ∙ lines-last whole line (at .so-far) (rest-of text from) (sym p ∙ h) ∙ if-true _ _ _ t′,
           holds-later (at .held) mostBytes (omega (arith, at .inside)),
         )
 
-    pub text-stops : e ≡ length rest → (whole and s .started and eqb e 0) ≡ false
+    pub text-stops : e ≡ length (rest-of text from) → (whole and s .started and eqb e 0) ≡ false
         → Scans (readLines whole 1 nothing (parts lf text)) (Malformed line) sy tc wt hs bx
     unfolding Scans
     text-stops h t =
-        let t′ : (whole and at .so-far .started and eqb (length rest) 0) ≡ false = rw (at .held .started, h) at t in
-        at .decides ∙ ap (λ (l : List ℕ). readLines whole line (at .so-far) (parts lf l)) (sym q)
-        ∙ lines-last whole line (at .so-far) rest (sym p ∙ h)
-        ∙ if-false _ _ _ t′
+        let t′ : (whole and at .so-far .started and eqb (length (rest-of text from)) 0) ≡ false = rw (at .held .started, h) at t in
+        from-here ∙ lines-last whole line (at .so-far) (rest-of text from) (sym p ∙ h) ∙ if-false _ _ _ t′
 
-    pub line-broken : (x : MaybeScan) (m : ℕ) (sy′ tc′ wt′ hs′ bx′ : List ℕ) → e < length rest → x ≡ Broken
-        → Follows (withLine (at .so-far) (take e rest)) x m sy′ tc′ wt′ hs′ bx′
-        → Scans (readLines whole 1 nothing (parts lf text)) (Malformed line) sy′ tc′ wt′ hs′ bx′
-    unfolding Scans Follows onOption
-    line-broken x m sy′ tc′ wt′ hs′ bx′ h k f =
-        let f′ : withLine (at .so-far) (take (firstAt lf rest) rest) ≡ none = rw (k, p) at f in
-        at .decides ∙ ap (λ (l : List ℕ). readLines whole line (at .so-far) (parts lf l)) (sym q)
-        ∙ lines-line whole line (at .so-far) rest (omega arith)
-        ∙ rw f′
+    -- what `with_line` asks
+    pub line-asks : length text ≤ mostBytes → Sized tc wt hs bx
+        → (counted s ≤ mostBytes) × (length (take e (rest-of text from)) ≤ mostBytes) × Sized tc wt hs bx
+    line-asks m sized = (omega (arith, at .held .few, at .inside), omega (arith, line-size, end-in lf text from e p), sized)
 
-    line-next : (more : Scan) (sy′ tc′ wt′ hs′ bx′ : List ℕ) → e < length rest → from + (e + 1) ≤ length text → length (take e rest) ≡ e
-        → Follows (withLine (at .so-far) (take e rest)) (Next more) (from + (length (take e rest) + 1)) sy′ tc′ wt′ hs′ bx′
-        → Reached text whole (from + (e + 1)) (line + 1) more sy′ tc′ wt′ hs′ bx′
-    unfolding Follows onOption
-    line-next more sy′ tc′ wt′ hs′ bx′ h l len (r, f, held) =
-        let f′ : withLine (at .so-far) (take (firstAt lf rest) rest) ≡ some r = rw p at f in
-        let d : drop (suc (firstAt lf rest)) rest ≡ drop (from + (e + 1)) text = rw (q, drop-drop, p, q, add-one) in
-        record {
-          inside = l;
-          lines = omega (arith, at .lines);
-          so-far = r;
-          held = rw len at held;
-          decides =
-              at .decides ∙ ap (λ (l : List ℕ). readLines whole line (at .so-far) (parts lf l)) (sym q)
-              ∙ lines-line whole line (at .so-far) rest (omega arith)
-              ∙ rw (f′, d);
-        }
+    module _ (h : e ≡ length (rest-of text from) → ⊥) where
+      short : e < length (rest-of text from)
+      short = omega (arith, end-in lf text from e p, rest-length text from)
 
-    pub line-read : (x : MaybeScan) (more : Scan) (sy′ tc′ wt′ hs′ bx′ : List ℕ) → e < length rest → from + (e + 1) ≤ length text
-        → length (take e rest) ≡ e → x ≡ Next more
-        → Follows (withLine (at .so-far) (take e rest)) x (from + (length (take e rest) + 1)) sy′ tc′ wt′ hs′ bx′
-        → Reached text whole (from + (e + 1)) (line + 1) more sy′ tc′ wt′ hs′ bx′
-    line-read x more sy′ tc′ wt′ hs′ bx′ h l len k f = line-next more sy′ tc′ wt′ hs′ bx′ h l len (rw k at f)
+      pub next-from : from + (e + 1) ≤ length text
+      next-from = omega (arith, end-in lf text from e p, rest-length text from, at .inside)
+
+      line-next : (more : Scan) (sy′ tc′ wt′ hs′ bx′ : List ℕ)
+          → Follows (withLine (at .so-far) (take e (rest-of text from))) (Next more) (from + (length (take e (rest-of text from)) + 1))
+          sy′ tc′ wt′ hs′ bx′
+          → Reached text whole (from + (e + 1)) (line + 1) more sy′ tc′ wt′ hs′ bx′
+      unfolding Follows onOption
+      line-next more sy′ tc′ wt′ hs′ bx′ (r, f, held) =
+          let f′ : withLine (at .so-far) (take (firstAt lf (rest-of text from)) (rest-of text from)) ≡ some r = rw p at f in
+          let d : drop (suc (firstAt lf (rest-of text from))) (rest-of text from) ≡ drop (from + (e + 1)) text =
+          rw (to-end text from, drop-drop, p, to-end text from, add-one)
+          in
+          record {
+            inside = next-from;
+            lines = omega (arith, at .lines);
+            so-far = r;
+            held = rw (← line-size) at held;
+            decides = from-here ∙ lines-line whole line (at .so-far) (rest-of text from) (omega (arith, p, short)) ∙ rw (f′, d);
+          }
+
+      -- what `with_line` ensures, for what was read so far
+      module _ (x : MaybeScan) (sy′ tc′ wt′ hs′ bx′ : List ℕ)
+          (f : (r : Read) (n : ℕ) → Holds r s n sy tc wt hs bx
+          → Follows (withLine r (take e (rest-of text from))) x (n + (length (take e (rest-of text from)) + 1)) sy′ tc′ wt′ hs′ bx′)
+        where
+          pub line-broken : x ≡ Broken → Scans (readLines whole 1 nothing (parts lf text)) (Malformed line) sy′ tc′ wt′ hs′ bx′
+          unfolding Scans Follows onOption
+          line-broken k =
+              let g : withLine (at .so-far) (take (firstAt lf (rest-of text from)) (rest-of text from)) ≡ none =
+              rw (k, p) at (f (at .so-far) from (at .held))
+              in
+              from-here ∙ lines-line whole line (at .so-far) (rest-of text from) (omega (arith, p, short)) ∙ rw g
+
+          pub line-read : {more : Scan} → x ≡ Next more → Reached text whole (from + (e + 1)) (line + 1) more sy′ tc′ wt′ hs′ bx′
+          line-read k = line-next _ sy′ tc′ wt′ hs′ bx′ (rw k at (f (at .so-far) from (at .held)))
 
 -- memory is lent at one length
 pub record SameSizes (sy₀ tc₀ wt₀ hs₀ bx₀ sy tc wt hs bx : List ℕ) : Type 0 where
@@ -125,6 +143,23 @@ pub record SameSizes (sy₀ tc₀ wt₀ hs₀ bx₀ sy tc wt hs bx : List ℕ) :
   pub of-work-times : length wt ≡ length wt₀
   pub of-heights : length hs ≡ length hs₀
   pub of-boxes : length bx ≡ length bx₀
+
+pub same-yet : {sy tc wt hs bx : List ℕ} → SameSizes sy tc wt hs bx sy tc wt hs bx
+same-yet = record { of-symbols = refl; of-calendars = refl; of-work-times = refl; of-heights = refl; of-boxes = refl }
+
+-- what a callee that was lent it keeps
+pub same-again : {sy₀ tc₀ wt₀ hs₀ bx₀ sy tc wt hs bx sy′ tc′ wt′ hs′ bx′ : List ℕ} → SameSizes sy₀ tc₀ wt₀ hs₀ bx₀ sy tc wt hs bx
+    → (length sy′ ≡ length sy)
+    × ((length tc′ ≡ length tc) × ((length wt′ ≡ length wt) × ((length hs′ ≡ length hs) × ((length bx′ ≡ length bx) × Unit {0}))))
+    → SameSizes sy₀ tc₀ wt₀ hs₀ bx₀ sy′ tc′ wt′ hs′ bx′
+same-again same k =
+    record {
+      of-symbols = k .0 ∙ same .of-symbols;
+      of-calendars = k .1 .0 ∙ same .of-calendars;
+      of-work-times = k .1 .1 .0 ∙ same .of-work-times;
+      of-heights = k .1 .1 .1 .0 ∙ same .of-heights;
+      of-boxes = k .1 .1 .1 .1 .0 ∙ same .of-boxes;
+    }
 
 pub sized-still : {sy₀ tc₀ wt₀ hs₀ bx₀ sy tc wt hs bx : List ℕ} → SameSizes sy₀ tc₀ wt₀ hs₀ bx₀ sy tc wt hs bx → Sized tc₀ wt₀ hs₀ bx₀
     → Sized tc wt hs bx

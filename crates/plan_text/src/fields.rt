@@ -4,6 +4,7 @@ use crate::MaybeNumbers;
 ghost use mathlib.Core.Path.{_≡_};
 ghost use Prim.Native.Nat.{_≤_};
 ghost use lib.ListN.{length};
+ghost use Rattle.plan.specs.Lent.{old, left};
 ghost use Rattle.plan_text.specs.Fields.{tab, parts, same, isPlain, numberOf, numbersOf};
 ghost use Rattle.plan_text.specs.Lines.{firstAt, numberMade, numbersMade, atMost};
 
@@ -15,7 +16,7 @@ const MOST_NUMBER: usize = 65535;
 
 // Where the first separator stands, or the length.
 pub fn end_of(bytes: &[u8], separator: u8) -> usize
-    ensures { λ r. ⌜ r ≡ firstAt separator (now (bytes .entry)) ⌝ }
+    ensures { λ r. ⌜ r ≡ firstAt separator (old bytes) ⌝ }
 {
     for i in 0..bytes.len() {
         if bytes[i] == separator {
@@ -27,7 +28,7 @@ pub fn end_of(bytes: &[u8], separator: u8) -> usize
 
 // Whether a field is the word.
 pub fn is_word(field: &[u8], word: &[u8]) -> bool
-    ensures { λ r. ⌜ r ≡ same (now (field .entry)) (now (word .entry)) ⌝ }
+    ensures { λ r. ⌜ r ≡ same (old field) (old word) ⌝ }
 {
     if field.len() != word.len() {
         return false;
@@ -43,7 +44,7 @@ pub fn is_word(field: &[u8], word: &[u8]) -> bool
 // Whether a field is without leading zero.
 fn is_plain(field: &[u8]) -> bool
     requires { ⌜ 1 ≤ length (now field) ⌝ }
-    ensures { λ r. ⌜ r ≡ isPlain (now (field .entry)) ⌝ }
+    ensures { λ r. ⌜ r ≡ isPlain (old field) ⌝ }
 {
     if field.len() == 1 {
         return true;
@@ -53,7 +54,7 @@ fn is_plain(field: &[u8]) -> bool
 
 // The number that a field is.
 fn number_of(field: &[u8]) -> MaybeNumber
-    ensures { λ r. ⌜ numberMade r ≡ numberOf (now (field .entry)) ⌝ }
+    ensures { λ r. ⌜ numberMade r ≡ numberOf (old field) ⌝ }
 {
     if field.len() < 1 {
         return MaybeNumber::NotANumber;
@@ -80,7 +81,7 @@ fn number_of(field: &[u8]) -> MaybeNumber
 
 // The numbers that the fields are, if there is room for them.
 pub fn numbers_of(fields: &[u8], numbers: &mut [u16]) -> MaybeNumbers
-    ensures { λ r. ⌜ numbersMade r (now (numbers .exit)) ≡ atMost (length (now (numbers .entry))) (numbersOf (parts tab (now (fields .entry)))) ⌝ }
+    ensures { λ r. ⌜ numbersMade r (left numbers) ≡ atMost (length (old numbers)) (numbersOf (parts tab (old fields))) ⌝ }
 {
     let mut count = 0;
     let mut from = 0;

@@ -11,6 +11,7 @@ ghost use Prim.Native.Nat.{_≤_};
 ghost use lib.ListN.{length};
 ghost use Rattle.units.specs.Cells.{written};
 ghost use Rattle.plan.specs.Refusals.{testedFault};
+ghost use Rattle.plan.specs.Lent.{old, left};
 ghost use Rattle.plan_text.specs.Text.{Read, mostBytes};
 ghost use Rattle.plan_text.specs.Entry.{isEnough, readFault, readPlan, Leaves, readingAnswer};
 ghost use Rattle.plan_text.specs.Scanning.{Holds, Stored, tested};
@@ -75,10 +76,10 @@ pub enum PlanReading {
 }
 
 // The most symbols of a plan, calendars joined.
-const SYMBOLS: usize = CalendarNumber::COUNT * Duration::MOST as usize;
+const SYMBOLS: usize = CalendarNumber::MOST * Duration::MOST as usize;
 
 // The most bounds of a plan, six a task.
-const BOUNDS: usize = 6 * Bounds::COUNT;
+const BOUNDS: usize = 6 * Bounds::MOST;
 
 // Whether the memory lent is enough for the most that a plan can hold.
 fn is_enough(
@@ -88,18 +89,18 @@ fn is_enough(
     heights: &[u16],
     boxes: &[u16],
 ) -> bool
-    ensures { λ r. ⌜ r ≡ isEnough (now (calendars .entry)) (now («task_calendars» .entry)) (now («work_times» .entry)) (now (heights .entry)) (now (boxes .entry)) ⌝ }
+    ensures { λ r. ⌜ r ≡ isEnough (old calendars) (old «task_calendars») (old «work_times») (old heights) (old boxes) ⌝ }
 {
     if calendars.len() < SYMBOLS {
         return false;
     }
-    if task_calendars.len() < Bounds::COUNT {
+    if task_calendars.len() < Bounds::MOST {
         return false;
     }
-    if work_times.len() < Bounds::COUNT {
+    if work_times.len() < Bounds::MOST {
         return false;
     }
-    if heights.len() < Bounds::COUNT {
+    if heights.len() < Bounds::MOST {
         return false;
     }
     BOUNDS <= boxes.len()
@@ -116,7 +117,7 @@ fn test_read(
 ) -> Tested
     requires { ⌜ Stored scan (now symbols) (now «task_calendars») (now «work_times») (now heights) (now boxes) ⌝ }
     ensures { λ x. ⌜ ((r : Read)
-        → Holds r scan mostBytes (now (symbols .entry)) (now («task_calendars» .entry)) (now («work_times» .entry)) (now (heights .entry)) (now (boxes .entry))
+        → Holds r scan mostBytes (old symbols) (old «task_calendars») (old «work_times») (old heights) (old boxes)
         → testedFault x ≡ readFault true r) ⌝ }
 {
     let MaybeDuration::Within(_) = Duration::of_plan(scan.hours as usize) else {
@@ -130,7 +131,7 @@ fn test_read(
     }
     let calendars = &symbols[..scan.symbols];
     if Bounds::is_count(scan.tasks) {
-        return plan::test_input(
+        return plan::test_plan(
             scan.hours,
             scan.capacity,
             calendars,
@@ -140,7 +141,7 @@ fn test_read(
             &boxes[..6 * scan.tasks],
         );
     }
-    let tested = plan::test_input(
+    let tested = plan::test_plan(
         scan.hours,
         0,
         calendars,
@@ -173,11 +174,11 @@ fn store_plan(
         × (length (now «read_work_times») ≤ length (now «work_times»))
         × (length (now «read_heights») ≤ length (now heights))
         × (length (now «read_boxes») ≤ length (now boxes)) ⌝ }
-    ensures { λ _. ⌜ (now (calendars .exit) ≡ written (now (symbols .entry)) (now (calendars .entry)))
-        × (now («task_calendars» .exit) ≡ written (now («read_calendars» .entry)) (now («task_calendars» .entry)))
-        × (now («work_times» .exit) ≡ written (now («read_work_times» .entry)) (now («work_times» .entry)))
-        × (now (heights .exit) ≡ written (now («read_heights» .entry)) (now (heights .entry)))
-        × (now (boxes .exit) ≡ written (now («read_boxes» .entry)) (now (boxes .entry))) ⌝ }
+    ensures { λ _. ⌜ (left calendars ≡ written (old symbols) (old calendars))
+        × (left «task_calendars» ≡ written (old «read_calendars») (old «task_calendars»))
+        × (left «work_times» ≡ written (old «read_work_times») (old «work_times»))
+        × (left heights ≡ written (old «read_heights») (old heights))
+        × (left boxes ≡ written (old «read_boxes») (old boxes)) ⌝ }
 {
     lines::store_symbols(calendars, 0, symbols);
     lines::store_numbers(task_calendars, 0, read_calendars);
@@ -202,10 +203,10 @@ fn keep_plan(
 ) -> PlanReading
     requires { ⌜ Stored scan (now symbols) (now «read_calendars») (now «read_work_times») (now «read_heights») (now «read_boxes») ⌝ }
     ensures { λ x. ⌜ ((r : Read)
-        → Holds r scan mostBytes (now (symbols .entry)) (now («read_calendars» .entry)) (now («read_work_times» .entry)) (now («read_heights» .entry)) (now («read_boxes» .entry))
-        → Leaves (tested (now (calendars .entry)) (now («task_calendars» .entry)) (now («work_times» .entry)) (now (heights .entry)) (now (boxes .entry)) r)
+        → Holds r scan mostBytes (old symbols) (old «read_calendars») (old «read_work_times») (old «read_heights») (old «read_boxes»)
+        → Leaves (tested (old calendars) (old «task_calendars») (old «work_times») (old heights) (old boxes) r)
         (readingAnswer x)
-        (now (calendars .exit)) (now («task_calendars» .exit)) (now («work_times» .exit)) (now (heights .exit)) (now (boxes .exit))) ⌝ }
+        (left calendars) (left «task_calendars») (left «work_times») (left heights) (left boxes)) ⌝ }
 {
     if !is_enough(calendars, task_calendars, work_times, heights, boxes) {
         return PlanReading::Refused(Refusal::MemorySize);
@@ -253,14 +254,14 @@ pub fn read_plan(
     boxes: &mut [u16],
 ) -> PlanReading
     ensures { λ x. ⌜ Leaves
-        (readPlan (now (calendars .entry)) (now («task_calendars» .entry)) (now («work_times» .entry)) (now (heights .entry)) (now (boxes .entry)) (now (text .entry)))
+        (readPlan (old calendars) (old «task_calendars») (old «work_times») (old heights) (old boxes) (old text))
         (readingAnswer x)
-        (now (calendars .exit)) (now («task_calendars» .exit)) (now («work_times» .exit)) (now (heights .exit)) (now (boxes .exit)) ⌝ }
+        (left calendars) (left «task_calendars») (left «work_times») (left heights) (left boxes) ⌝ }
 {
     let mut symbols = [0u8; SYMBOLS];
-    let mut read_calendars = [0u16; Bounds::COUNT];
-    let mut read_work_times = [0u16; Bounds::COUNT];
-    let mut read_heights = [0u16; Bounds::COUNT];
+    let mut read_calendars = [0u16; Bounds::MOST];
+    let mut read_work_times = [0u16; Bounds::MOST];
+    let mut read_heights = [0u16; Bounds::MOST];
     let mut read_boxes = [0u16; BOUNDS];
     let scanned = lines::read_text(
         text,

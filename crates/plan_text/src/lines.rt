@@ -11,6 +11,7 @@ ghost use Prim.Native.Nat.{ℕ, _+_, _-_, _*_, _≤_, _<_};
 ghost use lib.Dec.{eqb};
 ghost use lib.ListN.{length, getD, set};
 ghost use Rattle.units.specs.Choice.{_and_};
+ghost use Rattle.plan.specs.Lent.{old, left};
 ghost use Rattle.plan_text.specs.Fields.{lf, parts};
 ghost use Rattle.plan_text.specs.Records.{planRecord, calRecord, taskRecord};
 ghost use Rattle.plan_text.specs.Text.{Read, mostBytes, nothing, withRecord, withLine, readLines, readText};
@@ -29,7 +30,7 @@ const MOST_NUMBERS: usize = 9;
 // Stores symbols from an index on.
 pub fn store_symbols(cells: &mut [u8], at: usize, symbols: &[u8])
     requires { ⌜ at + length (now symbols) ≤ length (now cells) ⌝ }
-    ensures { λ _. ⌜ now (cells .exit) ≡ writtenAt at (now (symbols .entry)) (now (cells .entry)) ⌝ }
+    ensures { λ _. ⌜ left cells ≡ writtenAt at (old symbols) (old cells) ⌝ }
 {
     for i in 0..symbols.len() {
         cells[at + i] = symbols[i];
@@ -39,7 +40,7 @@ pub fn store_symbols(cells: &mut [u8], at: usize, symbols: &[u8])
 // Stores numbers from an index on.
 pub fn store_numbers(cells: &mut [u16], at: usize, numbers: &[u16])
     requires { ⌜ at + length (now numbers) ≤ length (now cells) ⌝ }
-    ensures { λ _. ⌜ now (cells .exit) ≡ writtenAt at (now (numbers .entry)) (now (cells .entry)) ⌝ }
+    ensures { λ _. ⌜ left cells ≡ writtenAt at (old numbers) (old cells) ⌝ }
 {
     for i in 0..numbers.len() {
         cells[at + i] = numbers[i];
@@ -59,7 +60,7 @@ fn last_hour(hours: u16) -> u16
 // Stores a task's box: the bounds of its line, or all that its work time allows.
 fn store_box(boxes: &mut [u16], task: usize, hours: u16, numbers: &[u16])
     requires { ⌜ (6 * task + 6 ≤ length (now boxes)) × (3 ≤ length (now numbers)) ⌝ }
-    ensures { λ _. ⌜ now (boxes .exit) ≡ writtenAt (6 * task) (boxOf hours (now (numbers .entry))) (now (boxes .entry)) ⌝ }
+    ensures { λ _. ⌜ left boxes ≡ writtenAt (6 * task) (boxOf hours (old numbers)) (old boxes) ⌝ }
 {
     if numbers.len() == MOST_NUMBERS {
         store_numbers(boxes, 6 * task, &numbers[3..]);
@@ -83,10 +84,10 @@ fn store_task(
     requires { ⌜ (task < length (now «task_calendars»))
         × Sized (now «task_calendars») (now «work_times») (now heights) (now boxes)
         × (3 ≤ length (now numbers)) ⌝ }
-    ensures { λ _. ⌜ (now («task_calendars» .exit) ≡ set (now («task_calendars» .entry)) task (getD (now (numbers .entry)) 0 0))
-        × (now («work_times» .exit) ≡ set (now («work_times» .entry)) task (getD (now (numbers .entry)) 1 0))
-        × (now (heights .exit) ≡ set (now (heights .entry)) task (getD (now (numbers .entry)) 2 0))
-        × (now (boxes .exit) ≡ writtenAt (6 * task) (boxOf hours (now (numbers .entry))) (now (boxes .entry))) ⌝ }
+    ensures { λ _. ⌜ (left «task_calendars» ≡ set (old «task_calendars») task (getD (old numbers) 0 0))
+        × (left «work_times» ≡ set (old «work_times») task (getD (old numbers) 1 0))
+        × (left heights ≡ set (old heights) task (getD (old numbers) 2 0))
+        × (left boxes ≡ writtenAt (6 * task) (boxOf hours (old numbers)) (old boxes)) ⌝ }
 {
     task_calendars[task] = numbers[0];
     work_times[task] = numbers[1];
@@ -118,9 +119,9 @@ fn with_plan(scan: Scan, hours: u16, capacity: u16) -> MaybeScan
 fn with_calendar(scan: Scan, calendar: &[u8], symbols: &mut [u8]) -> MaybeScan
     requires { ⌜ (counted scan ≤ mostBytes) × (length (now calendar) ≤ mostBytes) ⌝ }
     ensures { λ x. ⌜ ((r : Read) (n : ℕ) (taskCalendars workTimes heights boxes : List ℕ)
-        → Holds r scan n (now (symbols .entry)) taskCalendars workTimes heights boxes
-        → Follows (withRecord r (calRecord (now (calendar .entry)))) x (n + (length (now (calendar .entry)) + 1))
-        (now (symbols .exit)) taskCalendars workTimes heights boxes) ⌝ }
+        → Holds r scan n (old symbols) taskCalendars workTimes heights boxes
+        → Follows (withRecord r (calRecord (old calendar))) x (n + (length (old calendar) + 1))
+        (left symbols) taskCalendars workTimes heights boxes) ⌝ }
 {
     if !scan.started {
         return MaybeScan::Broken;
@@ -166,9 +167,9 @@ fn with_task(
         × Sized (now «task_calendars») (now «work_times») (now heights) (now boxes)
         × (3 ≤ length (now numbers)) ⌝ }
     ensures { λ x. ⌜ ((r : Read) (n : ℕ) (symbols : List ℕ)
-        → Holds r scan n symbols (now («task_calendars» .entry)) (now («work_times» .entry)) (now (heights .entry)) (now (boxes .entry))
-        → Follows (withRecord r (taskRecord (now (numbers .entry)))) x (n + 1)
-        symbols (now («task_calendars» .exit)) (now («work_times» .exit)) (now (heights .exit)) (now (boxes .exit))) ⌝ }
+        → Holds r scan n symbols (old «task_calendars») (old «work_times») (old heights) (old boxes)
+        → Follows (withRecord r (taskRecord (old numbers))) x (n + 1)
+        symbols (left «task_calendars») (left «work_times») (left heights) (left boxes)) ⌝ }
 {
     if !scan.started {
         return MaybeScan::Broken;
@@ -210,9 +211,9 @@ fn with_line(
         × (length (now line) ≤ mostBytes)
         × Sized (now «task_calendars») (now «work_times») (now heights) (now boxes) ⌝ }
     ensures { λ x. ⌜ ((r : Read) (n : ℕ)
-        → Holds r scan n (now (symbols .entry)) (now («task_calendars» .entry)) (now («work_times» .entry)) (now (heights .entry)) (now (boxes .entry))
-        → Follows (withLine r (now (line .entry))) x (n + (length (now (line .entry)) + 1))
-        (now (symbols .exit)) (now («task_calendars» .exit)) (now («work_times» .exit)) (now (heights .exit)) (now (boxes .exit))) ⌝ }
+        → Holds r scan n (old symbols) (old «task_calendars») (old «work_times») (old heights) (old boxes)
+        → Follows (withLine r (old line)) x (n + (length (old line) + 1))
+        (left symbols) (left «task_calendars») (left «work_times») (left heights) (left boxes)) ⌝ }
 {
     let mut numbers = [0u16; MOST_NUMBERS];
     let found = records::record_of(line, &mut numbers);
@@ -255,8 +256,8 @@ fn read_lines(
     boxes: &mut [u16],
 ) -> Scanned
     requires { ⌜ (length (now text) ≤ mostBytes) × Sized (now «task_calendars») (now «work_times») (now heights) (now boxes) ⌝ }
-    ensures { λ x. ⌜ Scans (readLines whole 1 nothing (parts lf (now (text .entry)))) x
-        (now (symbols .exit)) (now («task_calendars» .exit)) (now («work_times» .exit)) (now (heights .exit)) (now (boxes .exit)) ⌝ }
+    ensures { λ x. ⌜ Scans (readLines whole 1 nothing (parts lf (old text))) x
+        (left symbols) (left «task_calendars») (left «work_times») (left heights) (left boxes) ⌝ }
 {
     let mut scan = Scan {
         started: false,
@@ -306,8 +307,8 @@ pub fn read_text(
     boxes: &mut [u16],
 ) -> Scanned
     requires { ⌜ Sized (now «task_calendars») (now «work_times») (now heights) (now boxes) ⌝ }
-    ensures { λ x. ⌜ Scans (readText (now (text .entry))) x
-        (now (symbols .exit)) (now («task_calendars» .exit)) (now («work_times» .exit)) (now (heights .exit)) (now (boxes .exit)) ⌝ }
+    ensures { λ x. ⌜ Scans (readText (old text)) x
+        (left symbols) (left «task_calendars») (left «work_times») (left heights) (left boxes) ⌝ }
 {
     if text.len() <= MOST_BYTES {
         return read_lines(

@@ -6,6 +6,7 @@ ghost use mathlib.Core.List.{List};
 ghost use mathlib.Core.Path.{_≡_};
 ghost use Prim.Native.Nat.{ℕ, _≤_};
 ghost use lib.ListN.{length, drop};
+ghost use Rattle.plan.specs.Lent.{old, left};
 ghost use Rattle.plan_text.specs.Fields.{tab, parts};
 ghost use Rattle.plan_text.specs.Records.{planOf, calOf, taskOf, recordOf};
 ghost use Rattle.plan_text.specs.Lines.{mostFields, lineRecord, Inside};
@@ -13,8 +14,8 @@ ghost use Rattle.plan_text.specs.Lines.{mostFields, lineRecord, Inside};
 // `plan`: two numbers, in the fields from an index of the line on.
 fn plan_of(line: &[u8], from: usize, numbers: &mut [u16]) -> LineRecord
     requires { ⌜ (from ≤ length (now line)) × (length (now numbers) ≡ mostFields) ⌝ }
-    ensures { λ r. ⌜ lineRecord r (now (line .entry)) (now (numbers .exit)) ≡ planOf (parts tab (drop from (now (line .entry)))) ⌝ }
-    ensures inside { λ r. ⌜ Inside r (length (now (line .entry))) ⌝ }
+    ensures { λ r. ⌜ lineRecord r (old line) (left numbers) ≡ planOf (parts tab (drop from (old line))) ⌝ }
+    ensures inside { λ r. ⌜ Inside r (length (old line)) ⌝ }
 {
     let MaybeNumbers::Count(count) = fields::numbers_of(&line[from..], numbers) else {
         return LineRecord::Other;
@@ -31,8 +32,8 @@ fn plan_of(line: &[u8], from: usize, numbers: &mut [u16]) -> LineRecord
 // `cal`: one field of symbols, from an index of the line on. It stores no numbers, so the contract takes any.
 fn cal_of(line: &[u8], from: usize) -> LineRecord
     requires { ⌜ from ≤ length (now line) ⌝ }
-    ensures { λ r. ⌜ ((ns : List ℕ) → lineRecord r (now (line .entry)) ns ≡ calOf (parts tab (drop from (now (line .entry))))) ⌝ }
-    ensures inside { λ r. ⌜ Inside r (length (now (line .entry))) ⌝ }
+    ensures { λ r. ⌜ ((ns : List ℕ) → lineRecord r (old line) ns ≡ calOf (parts tab (drop from (old line)))) ⌝ }
+    ensures inside { λ r. ⌜ Inside r (length (old line)) ⌝ }
 {
     let fields = &line[from..];
     if fields::end_of(fields, fields::TAB) != fields.len() {
@@ -47,8 +48,8 @@ fn cal_of(line: &[u8], from: usize) -> LineRecord
 // `task`: three numbers or nine, in the fields from an index of the line on.
 fn task_of(line: &[u8], from: usize, numbers: &mut [u16]) -> LineRecord
     requires { ⌜ (from ≤ length (now line)) × (length (now numbers) ≡ mostFields) ⌝ }
-    ensures { λ r. ⌜ lineRecord r (now (line .entry)) (now (numbers .exit)) ≡ taskOf (parts tab (drop from (now (line .entry)))) ⌝ }
-    ensures inside { λ r. ⌜ Inside r (length (now (line .entry))) ⌝ }
+    ensures { λ r. ⌜ lineRecord r (old line) (left numbers) ≡ taskOf (parts tab (drop from (old line))) ⌝ }
+    ensures inside { λ r. ⌜ Inside r (length (old line)) ⌝ }
 {
     let MaybeNumbers::Count(count) = fields::numbers_of(&line[from..], numbers) else {
         return LineRecord::Other;
@@ -65,8 +66,8 @@ fn task_of(line: &[u8], from: usize, numbers: &mut [u16]) -> LineRecord
 // A line's record, by its first field.
 pub fn record_of(line: &[u8], numbers: &mut [u16]) -> LineRecord
     requires { ⌜ length (now numbers) ≡ mostFields ⌝ }
-    ensures { λ r. ⌜ lineRecord r (now (line .entry)) (now (numbers .exit)) ≡ recordOf (now (line .entry)) ⌝ }
-    ensures inside { λ r. ⌜ Inside r (length (now (line .entry))) ⌝ }
+    ensures { λ r. ⌜ lineRecord r (old line) (left numbers) ≡ recordOf (old line) ⌝ }
+    ensures inside { λ r. ⌜ Inside r (length (old line)) ⌝ }
 {
     let end = fields::end_of(line, fields::TAB);
     if end == line.len() {

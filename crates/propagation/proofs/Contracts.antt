@@ -13,7 +13,7 @@ use Rattle.units.proofs.Choices.{and-left, none≢some, option-all, if-some, el
 use Rattle.plan.specs.Plan.{Plan, taskCount}
 use Rattle.plan.specs.Boxes.{boundsAt}
 use Rattle.plan.specs.Refusals.{Fault, fault, unless, refused, answered, answerUnless}
-use Rattle.plan.specs.Faults.{taskFault, planFault, firstFault}
+use Rattle.plan.specs.Faults.{taskFault, planFault, inputFault}
 use Rattle.plan.proofs.Refusing.{unless-none}
 use Rattle.propagation.specs.declared.Step.{Step}
 use Rattle.calendar.specs.declared.Triple.{Triple}
@@ -61,8 +61,8 @@ module _ (P : Plan) (boxes : List ℕ) (f : Fault) where
       (by-either _ _ f (by-unless _ 5 0 f (λ q. omega arith))
       (by-either _ _ f (by-unless _ 10 0 f (λ q. omega arith)) (by-first _ _ f task-fault)))))
 
-  pub first-fault : firstFault P boxes ≡ some f → not-13 f
-  unfolding firstFault
+  pub first-fault : inputFault P boxes ≡ some f → not-13 f
+  unfolding inputFault
   first-fault = by-either _ _ f (by-unless _ 31 0 f (λ q. omega arith)) plan-fault
 
   entry-fault : (kinds tasks hours : List ℕ) → entryFault P boxes kinds tasks hours ≡ some f → not-13 f
@@ -71,8 +71,8 @@ module _ (P : Plan) (boxes : List ℕ) (f : Fault) where
 
 -- where they find none, the boxes number one for each task
 module _ (P : Plan) (boxes : List ℕ) where
-  pub first-sized : firstFault P boxes ≡ none → length boxes ≡ 6 * taskCount P
-  unfolding firstFault
+  pub first-sized : inputFault P boxes ≡ none → length boxes ≡ 6 * taskCount P
+  unfolding inputFault
   first-sized e = boxes-sized P boxes (unless-none _ 31 0 (neither _ _ e .0))
 
   entry-sized : (kinds tasks hours : List ℕ) → entryFault P boxes kinds tasks hours ≡ none → length boxes ≡ 6 * taskCount P

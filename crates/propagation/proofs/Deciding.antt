@@ -26,8 +26,8 @@ use Rattle.propagation.specs.declared.Judged.{Judged}
 use Rattle.propagation.specs.declared.Judged.the-variants.{Unknown, NotAdmitted, Impossible, Moved}
 use Rattle.propagation.specs.Load.{mustRun}
 use Rattle.propagation.specs.Steps.{letterC, letterO, letterL, letterU, kindOf, isStep, onFit, sameBounds, withEarliest, withLatest}
-use Rattle.propagation.specs.Ready.{Ready}
-use Rattle.propagation.specs.Kept.{loadOf, crowded, calendarBy, lowerBy, upperBy, judgeKindBy, judgeBy}
+use Rattle.propagation.specs.inner.Ready.{Ready}
+use Rattle.propagation.specs.inner.Kept.{loadOf, crowded, calendarBy, lowerBy, upperBy, judgeKindBy, judgeBy}
 
 module _ (w : Window) (t : ℕ) where
   pub before-lst : t < lst w → mustRun (Within w) t ≡ false

@@ -12,9 +12,9 @@ use Rattle.plan.specs.Refusals.{Fault, fault, Answer, refused, answerUnless}
 use Rattle.plan.specs.Faults.{oneForEachTask, planFault}
 use Rattle.plan.proofs.Refusing.{unless-none, go-on, refuse}
 use Rattle.plan.proofs.Passed.{Passed, passed}
-use Rattle.propagation.specs.Log.{replay}
+use Rattle.propagation.specs.Log.{replayFrom, replay}
 use Rattle.propagation.specs.Filter.{run}
-use Rattle.propagation.specs.Entry.{stepsFrom, stepsIn, oneForEachStep, entryFault, Accepted, checkLog, checkAnswer, FilterAnswer, refusedBy, Leaves, logged, filterPlan}
+use Rattle.propagation.specs.Entry.{stepsFrom, stepsIn, oneForEachStep, entryFault, Accepted, checkLog, checkFrom, checkAnswer, FilterAnswer, refusedBy, Leaves, logged, filterPlan}
 use Rattle.propagation.specs.Claim.{CheckedHolds, FilterHolds}
 use Rattle.propagation.proofs.Contracts.{check-holds, filter-holds}
 
@@ -60,9 +60,26 @@ module _ (P : Plan) (boxes kinds tasks hours : List ℕ) where
   check-refuses f e = checks (refused f) boxes (rw e) (rw e)
 
   pub check-replays : entryFault P boxes kinds tasks hours ≡ none → (answer : Answer Accepted) (left : List ℕ)
-      → answer ≡ checkAnswer (replay P boxes (stepsIn kinds tasks hours)) → left ≡ replay P boxes (stepsIn kinds tasks hours) .boxes → Checks answer left
-  unfolding checkLog onOption
+      → answer ≡ checkAnswer (replayFrom P 0 false boxes (stepsIn kinds tasks hours))
+      → left ≡ replayFrom P 0 false boxes (stepsIn kinds tasks hours) .boxes → Checks answer left
+  unfolding checkLog replay onOption
   check-replays e answer left a l = checks answer left (rw e a) (rw e l)
+
+  -- the log checker from a step on
+  abbrev pub ChecksFrom : ℕ → Bool → Answer Accepted → List ℕ → Type 0
+  ChecksFrom k said answer left =
+      (answer ≡ checkAnswer (checkFrom P boxes kinds tasks hours k said)) × (left ≡ checkFrom P boxes kinds tasks hours k said .boxes)
+
+  pub from-refuses : (k : ℕ) (said : Bool) (f : Fault) → entryFault P boxes kinds tasks hours ≡ some f → ChecksFrom k said (refused f) boxes
+  unfolding checkFrom checkAnswer answerUnless onOption
+  from-refuses k said f e = (rw e, rw e)
+
+  pub from-replays : (k : ℕ) (said : Bool) → entryFault P boxes kinds tasks hours ≡ none → (answer : Answer Accepted) (left : List ℕ)
+      → (answer ≡ checkAnswer (replayFrom P k said boxes (stepsIn kinds tasks hours)))
+      × (left ≡ replayFrom P k said boxes (stepsIn kinds tasks hours) .boxes)
+      → ChecksFrom k said answer left
+  unfolding checkFrom onOption
+  from-replays k said e answer left (a, l) = (rw e a, rw e l)
 
   -- the filter's contract
   abbrev pub Filters : FilterAnswer → List ℕ → List ℕ → List ℕ → List ℕ → Type 0

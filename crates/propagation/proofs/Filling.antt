@@ -18,9 +18,9 @@ use Rattle.calendar.specs.declared.Fit.{Fit}
 use Rattle.calendar.specs.declared.Fit.the-variants.{Never, Within}
 use Rattle.calendar.specs.Rule.{lst, ect}
 use Rattle.propagation.specs.Load.{mustRun}
-use Rattle.propagation.specs.Kept.{loadOf}
-use Rattle.propagation.specs.Ready.{Ready}
-use Rattle.propagation.specs.Finding.{partAt, Loaded}
+use Rattle.propagation.specs.inner.Kept.{loadOf}
+use Rattle.propagation.specs.inner.Ready.{Ready}
+use Rattle.propagation.specs.inner.Finding.{partAt, Loaded}
 
 -- ---- numbers that are set to 0 one after the other
 

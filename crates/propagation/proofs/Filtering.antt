@@ -1,5 +1,6 @@
 -- Laws of the filter's loop: what the code finds and judges is the step that stands next, and what each case makes of a turn. Assumes nothing.
 use mathlib.Core.Path.{_≡_, refl, sym, ap, _∙_}
+use mathlib.Core.Bool.{true}
 use mathlib.Core.Option.{none, some}
 use mathlib.Core.List.{List, []}
 use Prim.Native.Nat.{ℕ, _+_, _≤_, _<_}
@@ -23,11 +24,11 @@ use Rattle.propagation.specs.Load.{fitAt}
 use Rattle.propagation.specs.Steps.{judge, Judgement, unknown, notAdmitted, moved}
 use Rattle.propagation.specs.Steps as judged
 use Rattle.propagation.specs.Filter.{Admitted, stops, moves, stepOf, next, run}
-use Rattle.propagation.specs.Entry.{settledAfter, impossibleAfter, noRoomFor, Leaves, logged}
-use Rattle.propagation.specs.Kept.{Kept, judgeBy, nextBy, foundStep}
+use Rattle.propagation.specs.Entry.{settledAfter, impossibleAfter, noRoomFor, oneForEachStep, Leaves, logged}
+use Rattle.propagation.specs.inner.Kept.{Kept, judgeBy, nextBy, foundStep}
 use Rattle.propagation.proofs.Runs.{Rightly, next-rightly}
 use Rattle.propagation.proofs.Keeping.{next-kept}
-use Rattle.propagation.proofs.Turns.{Taken, none-taken, step-taken, ends-settled, ends-full, ends-stopped}
+use Rattle.propagation.proofs.Turns.{one-each, Taken, none-taken, step-taken, ends-settled, ends-full, ends-stopped}
 use Rattle.propagation.proofs.Replaying.{Keeps, keeps-moved, judges-unknown, judges-not, judges-impossible, judges-moved}
 
 -- what holds at each turn of the filter
@@ -37,23 +38,27 @@ pub record Filtering (P : Plan) (opening kinds₀ tasks₀ hours₀ : List ℕ) 
   pub same-kinds : length kinds ≡ length kinds₀
   pub same-tasks : length tasks ≡ length tasks₀
   pub same-hours : length hours ≡ length hours₀
+  pub each-task : length tasks₀ ≡ length kinds₀
+  pub each-hour : length hours₀ ≡ length kinds₀
 
-pub filter-opens : (P : Plan) (boxes kinds tasks hours : List ℕ) (fits : List Fit) → Passed P boxes → Kept P boxes fits → length fits ≡ mostTasks
-    → Filtering P boxes kinds tasks hours 0 boxes kinds tasks hours fits
-filter-opens P boxes kinds tasks hours fits p q r =
+pub filter-opens : {P : Plan} {boxes kinds tasks hours : List ℕ} {fits : List Fit} → Passed P boxes × (oneForEachStep kinds tasks hours ≡ true)
+    → Kept P boxes fits → length fits ≡ mostTasks → Filtering P boxes kinds tasks hours 0 boxes kinds tasks hours fits
+filter-opens {P} {boxes} {kinds} {tasks} {hours} (p, e) q r =
     record {
       keeps = record { passed = p; kept = q; full = r; same = refl };
       taken = none-taken P boxes kinds tasks hours;
       same-kinds = refl;
       same-tasks = refl;
       same-hours = refl;
+      each-task = one-each kinds tasks hours e .0;
+      each-hour = one-each kinds tasks hours e .1;
     }
 
 -- two judgements of one step
 impossible≢moved : {C : Type 0} {left : List ℕ} → judged.impossible ≡ moved left → C
 impossible≢moved e = absurd (let z : _≡_ {A = ℕ} 0 1 = cc in omega arith)
 
-module _ (P : Plan) (opening kinds₀ tasks₀ hours₀ : List ℕ) (count : ℕ) (boxes kinds tasks hours : List ℕ) (fits : List Fit)
+module _ {P : Plan} {opening kinds₀ tasks₀ hours₀ : List ℕ} {count : ℕ} {boxes kinds tasks hours : List ℕ} {fits : List Fit}
     (at : Filtering P opening kinds₀ tasks₀ hours₀ count boxes kinds tasks hours fits) (r : Found)
     (is : foundStep r ≡ nextBy (P .hours) (P .capacity) (P .heights) boxes fits) where
   finds : foundStep r ≡ onOption (next P boxes) none (λ a. some (stepOf a))
@@ -64,7 +69,7 @@ module _ (P : Plan) (opening kinds₀ tasks₀ hours₀ : List ℕ) (count : ℕ
       ends-settled P opening kinds₀ tasks₀ hours₀ count boxes kinds tasks hours (at .taken)
       (option-case _ _ _ _ (sym finds ∙ ap foundStep e) (λ q b. q) (λ a q b. none≢some (sym b)))
 
-  module _ (x : Step) (found : r ≡ At x) where
+  module _ {x : Step} (found : r ≡ At x) where
     next-is : (a : Admitted) × (next P boxes ≡ some a) × (stepOf a ≡ x)
     next-is =
         option-case _ _ _ _ (sym finds ∙ ap foundStep found) (λ q b. none≢some b)
@@ -74,7 +79,7 @@ module _ (P : Plan) (opening kinds₀ tasks₀ hours₀ : List ℕ) (count : ℕ
         → Leaves (logged (run P opening (length kinds₀)) kinds₀ tasks₀ hours₀) (noRoomFor (fault 32 0) count) boxes kinds tasks hours
     fills l = ends-full P opening kinds₀ tasks₀ hours₀ count boxes kinds tasks hours (at .taken) (next-is .0) (next-is .1) (omega (arith, at .same-kinds))
 
-    module _ (j : Judged) (js : j ≡ judgeBy (P .hours) (P .capacity) (P .heights) boxes fits x) where
+    module _ {j : Judged} (js : j ≡ judgeBy (P .hours) (P .capacity) (P .heights) boxes fits x) where
       next-stops : judge P boxes x ≡ judged.impossible → next P boxes ≡ some (stops x)
       unfolding Rightly
       next-stops e = go (next-is .0) (next-is .1) (next-is .2) (next-rightly P boxes (next-is .0) (next-is .1))
@@ -102,42 +107,50 @@ module _ (P : Plan) (opening kinds₀ tasks₀ hours₀ : List ℕ) (count : ℕ
           go (stops y) s right = p (sym e ∙ ap (judge P boxes) (sym s) ∙ right)
           go (moves y left) s right = q left (sym e ∙ ap (judge P boxes) (sym s) ∙ right)
 
-      pub never-unknown : {C : Type 0} → j ≡ Unknown → C
-      never-unknown m =
-          absurd
-          (admitted unknown (judges-unknown P opening boxes fits (at .keeps) x j js m)
-          (λ e. let z : _≡_ {A = ℕ} 0 1 = cc in omega arith)
-          (λ left e. let z : _≡_ {A = ℕ} 0 1 = cc in omega arith))
+      never : {C : Type 0} (J : Judgement) → judge P boxes x ≡ J → (J ≡ judged.impossible → ⊥) → ((left : List ℕ) → J ≡ moved left → ⊥) → C
+      never J e p q = absurd (admitted J e p q)
 
-      pub never-refused : {C : Type 0} → j ≡ NotAdmitted → C
-      never-refused m =
-          absurd
-          (admitted notAdmitted (judges-not P opening boxes fits (at .keeps) x j js m)
-          (λ e. let z : _≡_ {A = ℕ} 0 1 = cc in omega arith)
-          (λ left e. let z : _≡_ {A = ℕ} 0 1 = cc in omega arith))
-
-      module _ (l : count < length kinds) (a : length tasks₀ ≡ length kinds₀) (b : length hours₀ ≡ length kinds₀) where
-        pub stops-at : j ≡ Impossible
+      module _ (l : count < length kinds) where
+        -- where it moves no bound, it says impossible
+        pub stops-at : ((b : Bounds) → j ≡ Moved b → ⊥)
             → Leaves (logged (run P opening (length kinds₀)) kinds₀ tasks₀ hours₀) (impossibleAfter (count + 1)) boxes
             (set kinds count (x .kind)) (set tasks count (x .task)) (set hours count (x .hour))
-        stops-at m =
-            ends-stopped P opening kinds₀ tasks₀ hours₀ count boxes kinds tasks hours (at .taken) x
-            (next-stops (judges-impossible P opening boxes fits (at .keeps) x j js m)) (omega (arith, at .same-kinds)) a b
+        stops-at still = go j refl
+          where
+            go : (k : Judged) → j ≡ k
+                → Leaves (logged (run P opening (length kinds₀)) kinds₀ tasks₀ hours₀) (impossibleAfter (count + 1)) boxes
+                (set kinds count (x .kind)) (set tasks count (x .task)) (set hours count (x .hour))
+            go Impossible m =
+                ends-stopped P opening kinds₀ tasks₀ hours₀ count boxes kinds tasks hours (at .taken) x
+                (next-stops (judges-impossible P opening boxes fits (at .keeps) x j js m)) (omega (arith, at .same-kinds)) (at .each-task) (at .each-hour)
+            go (Moved b) m = absurd (still b m)
+            go Unknown m =
+                never unknown (judges-unknown P opening boxes fits (at .keeps) x j js m)
+                (λ e. let z : _≡_ {A = ℕ} 0 1 = cc in omega arith)
+                (λ left e. let z : _≡_ {A = ℕ} 0 1 = cc in omega arith)
+            go NotAdmitted m =
+                never notAdmitted (judges-not P opening boxes fits (at .keeps) x j js m)
+                (λ e. let z : _≡_ {A = ℕ} 0 1 = cc in omega arith)
+                (λ left e. let z : _≡_ {A = ℕ} 0 1 = cc in omega arith)
 
-        pub goes-on : (c : Bounds) → j ≡ Moved c → (left : List ℕ) (fit : Fit) → left ≡ withBounds boxes (x .task) c
-            → fit ≡ fitAt (plan (P .hours) 0 (P .calendars) (P .taskCalendars) (P .workTimes) []) left (x .task)
-            → Filtering P opening kinds₀ tasks₀ hours₀ (count + 1) left (set kinds count (x .kind)) (set tasks count (x .task))
-            (set hours count (x .hour)) (set fits (x .task) fit)
-        goes-on c m left fit e f =
+        -- the next turn, on the boxes and the answers once the bounds are moved
+        pub goes-on : {c : Bounds} → j ≡ Moved c → {boxes′ : List ℕ} {fits′ : List Fit}
+            → (boxes′ ≡ withBounds boxes (x .task) c)
+            × (fits′ ≡ set fits (x .task) (fitAt (plan (P .hours) 0 (P .calendars) (P .taskCalendars) (P .workTimes) []) boxes′ (x .task)))
+            → Filtering P opening kinds₀ tasks₀ hours₀ (count + 1) boxes′ (set kinds count (x .kind)) (set tasks count (x .task))
+            (set hours count (x .hour)) fits′
+        goes-on {c} m {boxes′} {fits′} (e, f) =
             record {
-              keeps = keeps-moved P opening boxes fits (at .keeps) x j js c m left fit e f;
+              keeps = rw f (keeps-moved P opening boxes fits (at .keeps) x j js c m boxes′ _ e refl);
               taken =
-                  step-taken P opening kinds₀ tasks₀ hours₀ count boxes kinds tasks hours (at .taken) x left
-                  (next-moves left (judges-moved P opening boxes fits (at .keeps) x j js c m ∙ ap moved (sym e)))
+                  step-taken P opening kinds₀ tasks₀ hours₀ count boxes kinds tasks hours (at .taken) x boxes′
+                  (next-moves boxes′ (judges-moved P opening boxes fits (at .keeps) x j js c m ∙ ap moved (sym e)))
                   (omega (arith, at .same-kinds))
-                  a
-                  b;
+                  (at .each-task)
+                  (at .each-hour);
               same-kinds = length-set kinds count (x .kind) ∙ at .same-kinds;
               same-tasks = length-set tasks count (x .task) ∙ at .same-tasks;
               same-hours = length-set hours count (x .hour) ∙ at .same-hours;
+              each-task = at .each-task;
+              each-hour = at .each-hour;
             }

@@ -23,9 +23,9 @@ use Rattle.propagation.specs.declared.Step.{Step}
 use Rattle.propagation.specs.declared.Judged.{Judged}
 use Rattle.propagation.specs.declared.Judged.the-variants.{Unknown, NotAdmitted, Impossible, Moved}
 use Rattle.propagation.specs.Steps.{step, letterC, letterO, Kind, kindC, kindO, kindL, kindU, kindOf, isStep, onFit, sameBounds}
-use Rattle.propagation.specs.Kept.{loadOf, crowded, onJudged, calendarBy, lowerBy, upperBy, judgeKindBy, judgeBy, admittedBy, nextBy}
-use Rattle.propagation.specs.Ready.{Ready}
-use Rattle.propagation.specs.Finding.{admits, letterOf, firstHour, endHour, Loaded, firstCalendar, firstOverload, firstCrowded}
+use Rattle.propagation.specs.inner.Kept.{loadOf, crowded, onJudged, calendarBy, lowerBy, upperBy, judgeKindBy, judgeBy, admittedBy, nextBy}
+use Rattle.propagation.specs.inner.Ready.{Ready}
+use Rattle.propagation.specs.inner.Finding.{admits, letterOf, firstHour, endHour, Loaded, firstCalendar, firstOverload, firstCrowded}
 
 -- ---- the first of several
 

@@ -17,7 +17,7 @@ use Rattle.calendar.specs.declared.Fit.{Fit}
 use Rattle.calendar.specs.Rule.{ruleOf}
 use Rattle.calendar.specs.Scan.{AllSymbols}
 use Rattle.propagation.specs.Load.{fitAt}
-use Rattle.propagation.specs.Fitting.{Fitting}
+use Rattle.propagation.specs.inner.Fitting.{Fitting}
 
 -- a cell of a part
 in-drop : (n k : ℕ) (l : List ℕ) → getD (drop n l) k 0 ≡ getD l (n + k) 0

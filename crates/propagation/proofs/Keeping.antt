@@ -27,8 +27,8 @@ use Rattle.propagation.specs.declared.Judged.the-variants.{Unknown, NotA
 use Rattle.propagation.specs.Load.{fitAt, mustRun, load, othersLoad, excess}
 use Rattle.propagation.specs.Steps.{step, letterC, letterO, letterL, letterU, Kind, kindC, kindO, kindL, kindU, unknownKind, kindOf, isStep, Judgement, notAdmitted, impossible, moved, onJudgement, onFit, sameBounds, withEarliest, withLatest, judgeC, judgeO, judgeL, judgeU, judgeKind, judge}
 use Rattle.propagation.specs.Filter.{stops, moves, stepOf, ifAdmitted, firstByTask, firstByHour, firstByTaskHour, next}
-use Rattle.propagation.specs.Ready.{Ready}
-use Rattle.propagation.specs.Kept.{Kept, loadOf, crowded, onJudged, calendarBy, lowerBy, upperBy, judgeKindBy, judgeBy, admittedBy, nextBy, judgementOf}
+use Rattle.propagation.specs.inner.Ready.{Ready}
+use Rattle.propagation.specs.inner.Kept.{Kept, loadOf, crowded, onJudged, calendarBy, lowerBy, upperBy, judgeKindBy, judgeBy, admittedBy, nextBy, judgementOf}
 use Rattle.propagation.proofs.Changes.{judge-change, change-passes}
 
 -- ---- what passes the tests is small enough, before and after a step

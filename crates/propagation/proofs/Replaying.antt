@@ -19,12 +19,14 @@ use Rattle.propagation.specs.declared.Judged.the-variants.{Unknown, NotA
 use Rattle.propagation.specs.Load.{fitAt}
 use Rattle.propagation.specs.Steps.{Kind, judge, unknown, notAdmitted, moved}
 use Rattle.propagation.specs.Steps as judged
-use Rattle.propagation.specs.Log.{LogEnd, replay}
-use Rattle.propagation.specs.Entry.{stepAt, stepsIn, Accepted, checkAnswer}
-use Rattle.propagation.specs.Kept.{Kept, onJudged, judgeBy, judgementOf}
+use Rattle.propagation.specs.Log.{LogEnd, replayFrom}
+use Rattle.propagation.specs.Entry.{stepAt, stepsIn, oneForEachStep, Accepted, checkAnswer}
+use Rattle.propagation.specs.inner.Fitting.{Fitting}
+use Rattle.propagation.specs.inner.Kept.{Kept, onJudged, judgeBy, judgementOf}
+use Rattle.propagation.proofs.Fits.{fitting}
 use Rattle.propagation.proofs.Keeping.{judge-kept, moved-passes}
 use Rattle.propagation.proofs.Judgements.{Moves, movesC, movesL, movesU, judged-moved}
-use Rattle.propagation.proofs.Turns.{kept-moved, endFrom, end-opens, end-done, end-13, end-11, end-12, end-stops, end-moves, answers-refused, answers-accepted}
+use Rattle.propagation.proofs.Turns.{one-each, kept-moved, endFrom, end-opens, end-done, end-13, end-11, end-12, end-stops, end-moves, answers-refused, answers-accepted}
 
 -- a step that moves a bound is of a task that exists
 of-task : (P : Plan) (boxes left : List ℕ) (i t : ℕ) (k : Kind) → Moves P boxes i t left k → i < taskCount P
@@ -80,62 +82,88 @@ module _ (P : Plan) (opening boxes : List ℕ) (fits : List Fit) (k : Keeps P op
           same = ap length e ∙ length-with boxes (x .task) b ∙ k .same;
         }
 
+-- what `move_bounds` asks, at a turn whose step moves a bound
+pub may-move : {P : Plan} {opening boxes : List ℕ} {fits : List Fit} → Keeps P opening boxes fits → (x : Step) {r : Judged}
+    → r ≡ judgeBy (P .hours) (P .capacity) (P .heights) boxes fits x → {b : Bounds} → r ≡ Moved b
+    → (x .task < mostTasks) × Fitting (P .hours) (P .calendars) (P .taskCalendars) (P .workTimes) (withBounds boxes (x .task) b) (x .task)
+may-move {P} {opening} {boxes} {fits} k x {r} is {b} m =
+    let l = moves-task P opening boxes fits k x r is b m in
+    (omega (arith, l, k .passed .tasks), fitting P _ (passes-moved P opening boxes fits k x r is b m _ refl) (x .task) l)
+
 -- What holds at each turn of the log checker: the end from here is the log's end.
-pub record Replaying (P : Plan) (opening kinds tasks hours : List ℕ) (k : ℕ) (said : Bool) (boxes : List ℕ) (fits : List Fit) : Type 0 where
+pub record Replaying (P : Plan) (n : ℕ) (said₀ : Bool) (opening kinds tasks hours : List ℕ) (k : ℕ) (said : Bool) (boxes : List ℕ) (fits : List Fit) : Type 0 where
   pub keeps : Keeps P opening boxes fits
-  pub ends : endFrom P kinds tasks hours k said boxes ≡ replay P opening (stepsIn kinds tasks hours)
+  pub ends : endFrom P n kinds tasks hours k said boxes ≡ replayFrom P n said₀ opening (stepsIn kinds tasks hours)
+  pub each-task : length tasks ≡ length kinds
+  pub each-hour : length hours ≡ length kinds
+
+pub below : {k n m : ℕ} → k < n → n ≡ m → k < m
+below l q = omega arith
 
 -- What the log checker answers and leaves.
-pub record Replayed (P : Plan) (opening kinds tasks hours : List ℕ) (answer : Answer Accepted) (left : List ℕ) : Type 0 where
-  pub answers : answer ≡ checkAnswer (replay P opening (stepsIn kinds tasks hours))
-  pub leaves : left ≡ replay P opening (stepsIn kinds tasks hours) .boxes
+abbrev Replayed : Plan → ℕ → Bool → List ℕ → List ℕ → List ℕ → List ℕ → Answer Accepted → List ℕ → Type 0
+Replayed P n said₀ opening kinds tasks hours answer left =
+    (answer ≡ checkAnswer (replayFrom P n said₀ opening (stepsIn kinds tasks hours))) × (left ≡ replayFrom P n said₀ opening (stepsIn kinds tasks hours) .boxes)
 
-module _ (P : Plan) (opening kinds tasks hours : List ℕ) where
-  pub replay-opens : (fits : List Fit) → Passed P opening → Kept P opening fits → length fits ≡ mostTasks
-      → Replaying P opening kinds tasks hours 0 false opening fits
-  replay-opens fits p q r = record { keeps = record { passed = p; kept = q; full = r; same = refl }; ends = end-opens P kinds tasks hours opening }
+pub replay-opens : {P : Plan} {n : ℕ} {said₀ : Bool} {opening kinds tasks hours : List ℕ} {fits : List Fit} → Passed P opening × (oneForEachStep kinds tasks hours ≡ true)
+    → Kept P opening fits → length fits ≡ mostTasks → Replaying P n said₀ opening kinds tasks hours 0 said₀ opening fits
+replay-opens {P} {n} {said₀} {opening} {kinds} {tasks} {hours} (p, e) q r =
+    record {
+      keeps = record { passed = p; kept = q; full = r; same = refl };
+      ends = end-opens P n kinds tasks hours said₀ opening;
+      each-task = one-each kinds tasks hours e .0;
+      each-hour = one-each kinds tasks hours e .1;
+    }
 
-  module _ (k : ℕ) (said : Bool) (boxes : List ℕ) (fits : List Fit) (at : Replaying P opening kinds tasks hours k said boxes fits) where
-    pub replay-done : length kinds ≤ k → Replayed P opening kinds tasks hours (answered (record { steps = k; impossible = said })) boxes
-    replay-done l =
-        let e = sym (at .ends) ∙ end-done P kinds tasks hours k boxes said l in
-        record { answers = answers-accepted _ e; leaves = sym (ap (λ (n : LogEnd). n .boxes) e) }
+module _ {P : Plan} {n : ℕ} {said₀ : Bool} {opening kinds tasks hours : List ℕ} {k : ℕ} {said : Bool} {boxes : List ℕ} {fits : List Fit}
+    (at : Replaying P n said₀ opening kinds tasks hours k said boxes fits) where
+  pub replay-done : k ≡ length kinds → Replayed P n said₀ opening kinds tasks hours (answered (record { steps = n + length kinds; impossible = said })) boxes
+  replay-done l =
+      let e = sym (at .ends) ∙ end-done P n kinds tasks hours k boxes said (omega arith) in
+      rw (← l) ((answers-accepted _ e, sym (ap (λ (x : LogEnd). x .boxes) e)))
 
-    pub replay-13 : k < length kinds → said ≡ true → Replayed P opening kinds tasks hours (refused (fault 13 k)) boxes
-    replay-13 l s =
-        let e = sym (at .ends) ∙ ap (λ (b : Bool). endFrom P kinds tasks hours k b boxes) s ∙ end-13 P kinds tasks hours k boxes l in
-        record { answers = answers-refused _ e; leaves = sym (ap (λ (n : LogEnd). n .boxes) e) }
+  pub replay-13 : k < length kinds → said ≡ true → Replayed P n said₀ opening kinds tasks hours (refused (fault 13 (n + k))) boxes
+  replay-13 l s =
+      let e = sym (at .ends) ∙ ap (λ (b : Bool). endFrom P n kinds tasks hours k b boxes) s ∙ end-13 P n kinds tasks hours k boxes l in
+      (answers-refused _ e, sym (ap (λ (x : LogEnd). x .boxes) e))
 
-    module _ (l : k < length kinds) (s : said ≡ false) (r : Judged)
-        (is : r ≡ judgeBy (P .hours) (P .capacity) (P .heights) boxes fits (stepAt kinds tasks hours k)) where
-      going : endFrom P kinds tasks hours k false boxes ≡ replay P opening (stepsIn kinds tasks hours)
-      going = ap (λ (b : Bool). endFrom P kinds tasks hours k b boxes) (sym s) ∙ at .ends
+  module _ (l : k < length kinds) (s : said ≡ false) {r : Judged}
+      (is : r ≡ judgeBy (P .hours) (P .capacity) (P .heights) boxes fits (stepAt kinds tasks hours k)) where
+    going : endFrom P n kinds tasks hours k false boxes ≡ replayFrom P n said₀ opening (stepsIn kinds tasks hours)
+    going = ap (λ (b : Bool). endFrom P n kinds tasks hours k b boxes) (sym s) ∙ at .ends
 
-      pub replay-11 : r ≡ Unknown → Replayed P opening kinds tasks hours (refused (fault 11 k)) boxes
-      replay-11 m =
-          let e = sym going ∙ end-11 P kinds tasks hours k boxes l (judges-unknown P opening boxes fits (at .keeps) _ r is m) in
-          record { answers = answers-refused _ e; leaves = sym (ap (λ (n : LogEnd). n .boxes) e) }
+    pub replay-11 : r ≡ Unknown → Replayed P n said₀ opening kinds tasks hours (refused (fault 11 (n + k))) boxes
+    replay-11 m =
+        let e = sym going ∙ end-11 P n kinds tasks hours k boxes l (judges-unknown P opening boxes fits (at .keeps) _ r is m) in
+        (answers-refused _ e, sym (ap (λ (x : LogEnd). x .boxes) e))
 
-      pub replay-12 : r ≡ NotAdmitted → Replayed P opening kinds tasks hours (refused (fault 12 k)) boxes
-      replay-12 m =
-          let e = sym going ∙ end-12 P kinds tasks hours k boxes l (judges-not P opening boxes fits (at .keeps) _ r is m) in
-          record { answers = answers-refused _ e; leaves = sym (ap (λ (n : LogEnd). n .boxes) e) }
+    pub replay-12 : r ≡ NotAdmitted → Replayed P n said₀ opening kinds tasks hours (refused (fault 12 (n + k))) boxes
+    replay-12 m =
+        let e = sym going ∙ end-12 P n kinds tasks hours k boxes l (judges-not P opening boxes fits (at .keeps) _ r is m) in
+        (answers-refused _ e, sym (ap (λ (x : LogEnd). x .boxes) e))
 
-      pub replay-stops : r ≡ Impossible → Replaying P opening kinds tasks hours (k + 1) true boxes fits
-      replay-stops m =
-          record {
-            keeps = at .keeps;
-            ends = sym (end-stops P kinds tasks hours k boxes l (judges-impossible P opening boxes fits (at .keeps) _ r is m)) ∙ going;
-          }
+    pub replay-stops : r ≡ Impossible → Replaying P n said₀ opening kinds tasks hours (k + 1) true boxes fits
+    replay-stops m =
+        record {
+          keeps = at .keeps;
+          ends = sym (end-stops P n kinds tasks hours k boxes l (judges-impossible P opening boxes fits (at .keeps) _ r is m)) ∙ going;
+          each-task = at .each-task;
+          each-hour = at .each-hour;
+        }
 
-      pub replay-moves : (b : Bounds) → r ≡ Moved b → (left : List ℕ) (fit : Fit) → left ≡ withBounds boxes (stepAt kinds tasks hours k .task) b
-          → fit ≡ fitAt (plan (P .hours) 0 (P .calendars) (P .taskCalendars) (P .workTimes) []) left (stepAt kinds tasks hours k .task)
-          → Replaying P opening kinds tasks hours (k + 1) said left (set fits (stepAt kinds tasks hours k .task) fit)
-      replay-moves b m left fit e f =
-          record {
-            keeps = keeps-moved P opening boxes fits (at .keeps) _ r is b m left fit e f;
-            ends =
-                ap (λ (n : Bool). endFrom P kinds tasks hours (k + 1) n left) s
-                ∙ sym (end-moves P kinds tasks hours k boxes l left (judges-moved P opening boxes fits (at .keeps) _ r is b m ∙ ap moved (sym e)))
-                ∙ going;
-          }
+    pub replay-moves : {b : Bounds} → r ≡ Moved b → {boxes′ : List ℕ} {fits′ : List Fit}
+        → (boxes′ ≡ withBounds boxes (stepAt kinds tasks hours k .task) b)
+        × (fits′
+        ≡ set fits (stepAt kinds tasks hours k .task)
+        (fitAt (plan (P .hours) 0 (P .calendars) (P .taskCalendars) (P .workTimes) []) boxes′ (stepAt kinds tasks hours k .task)))
+        → Replaying P n said₀ opening kinds tasks hours (k + 1) said boxes′ fits′
+    replay-moves {b} m {boxes′} {fits′} (e, f) =
+        record {
+          keeps = rw f (keeps-moved P opening boxes fits (at .keeps) _ r is b m boxes′ _ e refl);
+          ends =
+              ap (λ (b : Bool). endFrom P n kinds tasks hours (k + 1) b boxes′) s
+              ∙ sym (end-moves P n kinds tasks hours k boxes l boxes′ (judges-moved P opening boxes fits (at .keeps) _ r is b m ∙ ap moved (sym e)))
+              ∙ going;
+          each-task = at .each-task;
+          each-hour = at .each-hour;
+        }

@@ -6,6 +6,7 @@ use mathlib.Core.Option.{none, some}
 use mathlib.Core.List.{List, [], _∷_, _++_, map, append-assoc, append-nil, map-append}
 use Prim.Native.Nat.{ℕ, suc, _+_, _-_, _≤_, _<_}
 use native.Mathlib.Decide.{ℕ-discrete}
+use native.Mathlib.Nat.{add-zero}
 use native.Mathlib.Omega.{arith}
 use lib.ListN.{length, getD, set, drop, length-map, length-append}
 use lib.Seq.{getD-set-same, getD-set-other, drop-cons, set-at}
@@ -23,10 +24,10 @@ use Rattle.propagation.specs.declared.Step.{Step}
 use Rattle.propagation.specs.Load.{fitAt}
 use Rattle.propagation.specs.Steps.{judge, unknown, notAdmitted, moved, onJudgement}
 use Rattle.propagation.specs.Steps as judged
-use Rattle.propagation.specs.Log.{LogEnd, logEnd, replayFrom, replay}
+use Rattle.propagation.specs.Log.{LogEnd, logEnd, replayFrom}
 use Rattle.propagation.specs.Filter.{Admitted, stops, moves, next, Ending, settled, impossible, noRoom, Run, ended, after, run}
 use Rattle.propagation.specs.Entry.{stepAt, stepsFrom, stepsIn, oneForEachStep, checkAnswer, settledAfter, impossibleAfter, noRoomFor, endingAnswer, Leaves, logged}
-use Rattle.propagation.specs.Kept.{Kept}
+use Rattle.propagation.specs.inner.Kept.{Kept}
 use Rattle.propagation.proofs.Fits.{fit-alone}
 use Rattle.propagation.proofs.Runs.{run-settled, run-full, run-stops, run-moves, resumed}
 
@@ -65,43 +66,49 @@ module _ (kinds tasks hours : List ℕ) (k : ℕ) where
       let e : length kinds - k ≡ 0 = omega arith in
       rw e
 
--- the end of the log, from step k on
-unfoldable pub endFrom : Plan → List ℕ → List ℕ → List ℕ → ℕ → Bool → List ℕ → LogEnd
-endFrom P kinds tasks hours k said boxes = replayFrom P k said boxes (stepsFrom kinds tasks hours k (length kinds - k))
+-- the end of a log whose first step has the number n, from its step k on
+unfoldable pub endFrom : Plan → ℕ → List ℕ → List ℕ → List ℕ → ℕ → Bool → List ℕ → LogEnd
+endFrom P n kinds tasks hours k said boxes = replayFrom P (n + k) said boxes (stepsFrom kinds tasks hours k (length kinds - k))
 
-pub end-opens : (P : Plan) (kinds tasks hours boxes : List ℕ) → endFrom P kinds tasks hours 0 false boxes ≡ replay P boxes (stepsIn kinds tasks hours)
-unfolding endFrom replay stepsIn
-end-opens P kinds tasks hours boxes =
+pub end-opens : (P : Plan) (n : ℕ) (kinds tasks hours : List ℕ) (said : Bool) (boxes : List ℕ)
+    → endFrom P n kinds tasks hours 0 said boxes ≡ replayFrom P n said boxes (stepsIn kinds tasks hours)
+unfolding endFrom stepsIn
+end-opens P n kinds tasks hours said boxes =
     let e : length kinds - 0 ≡ length kinds = omega arith in
-    rw e
+    rw (add-zero n, e)
 
-module _ (P : Plan) (kinds tasks hours : List ℕ) (k : ℕ) (boxes : List ℕ) where
-  pub end-done : (said : Bool) → length kinds ≤ k → endFrom P kinds tasks hours k said boxes ≡ logEnd k said boxes none
+module _ (P : Plan) (n : ℕ) (kinds tasks hours : List ℕ) (k : ℕ) (boxes : List ℕ) where
+  pub end-done : (said : Bool) → length kinds ≤ k → endFrom P n kinds tasks hours k said boxes ≡ logEnd (n + k) said boxes none
   unfolding endFrom replayFrom
   end-done said l = rw (steps-done kinds tasks hours k l)
 
   module _ (l : k < length kinds) where
-    pub end-13 : endFrom P kinds tasks hours k true boxes ≡ logEnd k true boxes (some (fault 13 k))
+    next-number : n + k + 1 ≡ n + (k + 1)
+    next-number = omega arith
+
+    pub end-13 : endFrom P n kinds tasks hours k true boxes ≡ logEnd (n + k) true boxes (some (fault 13 (n + k)))
     unfolding endFrom replayFrom
     end-13 = rw (steps-next kinds tasks hours k l)
 
-    pub end-11 : judge P boxes (stepAt kinds tasks hours k) ≡ unknown → endFrom P kinds tasks hours k false boxes ≡ logEnd k false boxes (some (fault 11 k))
+    pub end-11 : judge P boxes (stepAt kinds tasks hours k) ≡ unknown
+        → endFrom P n kinds tasks hours k false boxes ≡ logEnd (n + k) false boxes (some (fault 11 (n + k)))
     unfolding endFrom replayFrom onJudgement
     end-11 e = rw (steps-next kinds tasks hours k l, e)
 
-    pub end-12 : judge P boxes (stepAt kinds tasks hours k) ≡ notAdmitted → endFrom P kinds tasks hours k false boxes ≡ logEnd k false boxes (some (fault 12 k))
+    pub end-12 : judge P boxes (stepAt kinds tasks hours k) ≡ notAdmitted
+        → endFrom P n kinds tasks hours k false boxes ≡ logEnd (n + k) false boxes (some (fault 12 (n + k)))
     unfolding endFrom replayFrom onJudgement
     end-12 e = rw (steps-next kinds tasks hours k l, e)
 
     pub end-stops : judge P boxes (stepAt kinds tasks hours k) ≡ judged.impossible
-        → endFrom P kinds tasks hours k false boxes ≡ endFrom P kinds tasks hours (k + 1) true boxes
+        → endFrom P n kinds tasks hours k false boxes ≡ endFrom P n kinds tasks hours (k + 1) true boxes
     unfolding endFrom replayFrom onJudgement
-    end-stops e = rw (steps-next kinds tasks hours k l, e)
+    end-stops e = rw (steps-next kinds tasks hours k l, e, next-number)
 
     pub end-moves : (left : List ℕ) → judge P boxes (stepAt kinds tasks hours k) ≡ moved left
-        → endFrom P kinds tasks hours k false boxes ≡ endFrom P kinds tasks hours (k + 1) false left
+        → endFrom P n kinds tasks hours k false boxes ≡ endFrom P n kinds tasks hours (k + 1) false left
     unfolding endFrom replayFrom onJudgement
-    end-moves left e = rw (steps-next kinds tasks hours k l, e)
+    end-moves left e = rw (steps-next kinds tasks hours k l, e, next-number)
 
 -- what an end answers
 pub answers-refused : (e : LogEnd) {k : ℕ} {said : Bool} {boxes : List ℕ} {f : Fault} → e ≡ logEnd k said boxes (some f) → refused f ≡ checkAnswer e

@@ -17,7 +17,7 @@ use Rattle.propagation.specs.declared.LogChecked.the-variants as checked
 use Rattle.propagation.specs.declared.Filtered.{Filtered}
 use Rattle.propagation.specs.declared.Filtered.the-variants as filtered
 use Rattle.propagation.specs.Steps.{step}
-use Rattle.propagation.specs.Log.{LogEnd, logEnd, replay}
+use Rattle.propagation.specs.Log.{LogEnd, logEnd, replayFrom, replay}
 use Rattle.propagation.specs.Filter.{Ending, settled, impossible, noRoom, Run, count, run}
 
 -- the log in lent memory: the kinds, the tasks and the hours of its steps, each in a slice of its own
@@ -46,6 +46,11 @@ entryFault P boxes kinds tasks hours =
 unfoldable pub checkLog : Plan → List ℕ → List ℕ → List ℕ → List ℕ → LogEnd
 checkLog P boxes kinds tasks hours =
     onOption (entryFault P boxes kinds tasks hours) (replay P boxes (stepsIn kinds tasks hours)) (λ f. logEnd 0 false boxes (some f))
+
+-- from a step of the log on, with the number of the first step lent, and whether the one before it said impossible
+unfoldable pub checkFrom : Plan → List ℕ → List ℕ → List ℕ → List ℕ → ℕ → Bool → LogEnd
+checkFrom P boxes kinds tasks hours k said =
+    onOption (entryFault P boxes kinds tasks hours) (replayFrom P k said boxes (stepsIn kinds tasks hours)) (λ f. logEnd 0 false boxes (some f))
 
 -- accepting, it answers the number of steps and whether the last said impossible
 pub record Accepted : Type 0 where

@@ -5,8 +5,5 @@ pub mod Filter
 pub mod Widths
 pub mod Entry
 pub mod Claim
-pub mod Fitting
-pub mod Kept
 pub mod Weeks
-pub mod Ready
-pub mod Finding
+pub mod inner

@@ -8,7 +8,7 @@ use Rattle.units.specs.Limits.{hour, duration}
 use Rattle.units.specs.declared.Bounds.{Bounds}
 use Rattle.plan.specs.Plan.{Plan, plan, regular, closed, overtime}
 use Rattle.plan.specs.Refusals.{Answer, answered, answerUnless}
-use Rattle.plan.specs.Faults.{firstFault}
+use Rattle.plan.specs.Faults.{inputFault}
 use Rattle.calendar.specs.declared.Triple.{Triple}
 use Rattle.calendar.specs.declared.Fit.{Fit}
 use Rattle.calendar.specs.declared.Fit.the-variants.{Never, Within}
@@ -57,7 +57,7 @@ outcomeOf (rule cal p b) = fits (calendarRule cal p b)
 outcomeOf (compulsoryPart cal p b) = hours (hoursHeld (ruleOf cal p b) (length cal))
 outcomeOf (triplesAndEnds cal p b) = triples (validTriples cal p b) (map (λ t. endOf t) (validTriples cal p b))
 outcomeOf (isValid cal p t) = holds (validTriple cal p t)
-outcomeOf (filter P boxes room) = runs (answerUnless (firstFault P boxes) (run P boxes room))
+outcomeOf (filter P boxes room) = runs (answerUnless (inputFault P boxes) (run P boxes room))
 
 pub record Starred : Type 0 where
   pub week : Week

@@ -2,13 +2,13 @@
 use plan::Refusal;
 use plan::Tested;
 ghost use mathlib.Core.Path.{_≡_};
-ghost use Rattle.plan.specs.Plan.{plan};
 ghost use Rattle.plan.specs.Refusals.{testedFault};
+ghost use Rattle.plan.specs.Lent.{old, oldPlan};
 ghost use Rattle.propagation.specs.Entry.{oneForEachStep, entryFault};
 
 // Whether the slices of a log number one for each step.
 fn has_one_for_each_step(log_kinds: &[u8], log_tasks: &[u16], log_hours: &[u16]) -> bool
-    ensures { λ r. ⌜ r ≡ oneForEachStep (now («log_kinds» .entry)) (now («log_tasks» .entry)) (now («log_hours» .entry)) ⌝ }
+    ensures { λ r. ⌜ r ≡ oneForEachStep (old «log_kinds») (old «log_tasks») (old «log_hours») ⌝ }
 {
     if log_tasks.len() != log_kinds.len() {
         return false;
@@ -29,9 +29,9 @@ pub fn test_entry(
     log_tasks: &[u16],
     log_hours: &[u16],
 ) -> Tested
-    ensures { λ r. ⌜ testedFault r ≡ entryFault
-        (plan hours capacity (now (calendars .entry)) (now («task_calendars» .entry)) (now («work_times» .entry)) (now (heights .entry)))
-        (now (boxes .entry)) (now («log_kinds» .entry)) (now («log_tasks» .entry)) (now («log_hours» .entry)) ⌝ }
+    ensures { λ r.
+        let P = oldPlan hours capacity calendars «task_calendars» «work_times» heights in
+        ⌜ testedFault r ≡ entryFault P (old boxes) (old «log_kinds») (old «log_tasks») (old «log_hours») ⌝ }
 {
     if !plan::has_one_for_each_task(task_calendars, work_times, heights, boxes) {
         return Tested::Refused(Refusal::MemorySize);
@@ -39,7 +39,7 @@ pub fn test_entry(
     if !has_one_for_each_step(log_kinds, log_tasks, log_hours) {
         return Tested::Refused(Refusal::MemorySize);
     }
-    plan::test_input(
+    plan::test_plan(
         hours,
         capacity,
         calendars,

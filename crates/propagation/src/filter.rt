@@ -13,7 +13,7 @@ use units::Duration;
 ghost use mathlib.Core.Bool.{true};
 ghost use mathlib.Core.Path.{_≡_};
 ghost use lib.ListN.{length};
-ghost use Rattle.plan.specs.Plan.{plan};
+ghost use Rattle.plan.specs.Lent.{old, left, planOf, oldPlan};
 ghost use Rattle.plan.proofs.Passed.{Passed};
 ghost use Rattle.propagation.specs.Filter.{run};
 ghost use Rattle.propagation.specs.Entry.{stepsFrom, oneForEachStep, logged, filterPlan, filterAnswer, Leaves};
@@ -32,13 +32,12 @@ fn run_filter(
     log_tasks: &mut [u16],
     log_hours: &mut [u16],
 ) -> Filtered
-    requires { ⌜ Passed (plan (hours .0) capacity (now calendars) (now «task_calendars») (now «work_times») (now heights)) (now boxes)
+    requires { ⌜ Passed (planOf (hours .0) capacity calendars «task_calendars» «work_times» heights) (now boxes)
         × (oneForEachStep (now «log_kinds») (now «log_tasks») (now «log_hours») ≡ true) ⌝ }
-    ensures { λ r. ⌜ Leaves (logged
-        (run (plan (hours .0) capacity (now (calendars .entry)) (now («task_calendars» .entry)) (now («work_times» .entry)) (now (heights .entry)))
-        (now (boxes .entry)) (length (now («log_kinds» .entry))))
-        (now («log_kinds» .entry)) (now («log_tasks» .entry)) (now («log_hours» .entry)))
-        (filterAnswer r) (now (boxes .exit)) (now («log_kinds» .exit)) (now («log_tasks» .exit)) (now («log_hours» .exit)) ⌝ }
+    ensures { λ r.
+        let P = oldPlan (hours .0) capacity calendars «task_calendars» «work_times» heights in
+        let e = logged (run P (old boxes) (length (old «log_kinds»))) (old «log_kinds») (old «log_tasks») (old «log_hours») in
+        ⌜ Leaves e (filterAnswer r) (left boxes) (left «log_kinds») (left «log_tasks») (left «log_hours») ⌝ }
 {
     let mut fits = kept::all_fits(hours, calendars, task_calendars, work_times, boxes);
     let mut count: usize = 0;
@@ -55,23 +54,21 @@ fn run_filter(
         log_hours[count] = x.hour;
         count += 1;
         let judged = judge::judge_step(hours, capacity, heights, boxes, fits, x);
-        match judged {
-            Judged::Moved(b) => {
-                let i = x.task as usize;
-                plan::put_bounds(boxes, i, b);
-                fits[i] = kept::fit_of(hours, calendars, task_calendars, work_times, boxes, i);
-            }
-            // A step that was found is admitted: where it moves no bound, it says impossible.
-            Judged::Impossible => {
-                break Filtered::Impossible(count);
-            }
-            Judged::NotAdmitted => {
-                break Filtered::Impossible(count);
-            }
-            Judged::Unknown => {
-                break Filtered::Impossible(count);
-            }
-        }
+        // A step that was found is admitted: where it moves no bound, it says impossible.
+        let Judged::Moved(b) = judged else {
+            break Filtered::Impossible(count);
+        };
+        let next = kept::move_bounds(
+            hours,
+            calendars,
+            task_calendars,
+            work_times,
+            boxes,
+            fits,
+            x.task,
+            b,
+        );
+        fits = next;
     };
     answer
 }
@@ -89,14 +86,14 @@ pub fn filter(
     log_tasks: &mut [u16],
     log_hours: &mut [u16],
 ) -> Filtered
-    ensures { λ r. ⌜ Leaves (filterPlan
-        (plan hours capacity (now (calendars .entry)) (now («task_calendars» .entry)) (now («work_times» .entry)) (now (heights .entry)))
-        (now (boxes .entry)) (now («log_kinds» .entry)) (now («log_tasks» .entry)) (now («log_hours» .entry)))
-        (filterAnswer r) (now (boxes .exit)) (now («log_kinds» .exit)) (now («log_tasks» .exit)) (now («log_hours» .exit)) ⌝ }
-    ensures holds { λ r. ⌜ FilterHolds
-        (plan hours capacity (now (calendars .entry)) (now («task_calendars» .entry)) (now («work_times» .entry)) (now (heights .entry)))
-        (now (boxes .entry)) (length (now («log_kinds» .entry))) (filterAnswer r) (now (boxes .exit))
-        (stepsFrom (now («log_kinds» .exit)) (now («log_tasks» .exit)) (now («log_hours» .exit)) 0) ⌝ }
+    ensures { λ r.
+        let P = oldPlan hours capacity calendars «task_calendars» «work_times» heights in
+        let e = filterPlan P (old boxes) (old «log_kinds») (old «log_tasks») (old «log_hours») in
+        ⌜ Leaves e (filterAnswer r) (left boxes) (left «log_kinds») (left «log_tasks») (left «log_hours») ⌝ }
+    ensures holds { λ r.
+        let P = oldPlan hours capacity calendars «task_calendars» «work_times» heights in
+        let steps = stepsFrom (left «log_kinds») (left «log_tasks») (left «log_hours») 0 in
+        ⌜ FilterHolds P (old boxes) (length (old «log_kinds»)) (filterAnswer r) (left boxes) steps ⌝ }
 {
     let tested = entry::test_entry(
         hours,

@@ -15,10 +15,11 @@ ghost use lib.Dec.{ltb};
 ghost use lib.ListN.{length, getD};
 ghost use Rattle.units.specs.Choice.{someIf, firstOf, _orElse_};
 ghost use Rattle.units.specs.Limits.{mostHours, mostTasks};
+ghost use Rattle.plan.specs.Lent.{old};
 ghost use Rattle.propagation.specs.Steps.{step, letterO};
-ghost use Rattle.propagation.specs.Kept.{calendarBy, foundStep, nextBy};
-ghost use Rattle.propagation.specs.Ready.{Ready};
-ghost use Rattle.propagation.specs.Finding.{admits, letterOf, firstHour, endHour, Loaded, firstCalendar, firstOverload, firstCrowded};
+ghost use Rattle.propagation.specs.inner.Kept.{calendarBy, foundStep, nextBy};
+ghost use Rattle.propagation.specs.inner.Ready.{Ready};
+ghost use Rattle.propagation.specs.inner.Finding.{admits, letterOf, firstHour, endHour, Loaded, firstCalendar, firstOverload, firstCrowded};
 
 // Whether C is admitted: the task has no valid triple, or a bound changes.
 fn is_narrowed(fit: Fit, b: Bounds) -> bool
@@ -31,9 +32,9 @@ fn is_narrowed(fit: Fit, b: Bounds) -> bool
 }
 
 // The first C, by task. It asks for neither H nor the capacity, so the contract puts 0 there.
-pub fn first_calendar(heights: &[u16], boxes: &[u16], fits: [Fit; Bounds::COUNT]) -> Found
+pub fn first_calendar(heights: &[u16], boxes: &[u16], fits: [Fit; Bounds::MOST]) -> Found
     requires { ⌜ (length (now heights) ≤ mostTasks) × (length (now boxes) ≡ 6 * length (now heights)) ⌝ }
-    ensures { λ r. ⌜ foundStep r ≡ firstCalendar 0 0 (now (heights .entry)) (now (boxes .entry)) fits ⌝ }
+    ensures { λ r. ⌜ foundStep r ≡ firstCalendar 0 0 (old heights) (old boxes) fits ⌝ }
 {
     for i in 0..heights.len() {
         if is_narrowed(fits[i], plan::bounds_at(boxes, i)) {
@@ -50,7 +51,7 @@ pub fn first_calendar(heights: &[u16], boxes: &[u16], fits: [Fit; Bounds::COUNT]
 // The first O, by hour: the first hour whose load exceeds the capacity.
 pub fn first_overload(loads: &[u16], capacity: u16) -> Found
     requires { ⌜ length (now loads) ≤ mostHours ⌝ }
-    ensures { λ r. ⌜ foundStep r ≡ firstOf (λ t. someIf (ltb capacity (getD (now (loads .entry)) t 0)) (step letterO 0 t)) (length (now (loads .entry))) ⌝ }
+    ensures { λ r. ⌜ foundStep r ≡ firstOf (λ t. someIf (ltb capacity (getD (old loads) t 0)) (step letterO 0 t)) (length (old loads)) ⌝ }
 {
     for t in 0..loads.len() {
         if capacity < loads[t] {
@@ -101,12 +102,12 @@ pub fn first_crowded(
     capacity: u16,
     heights: &[u16],
     boxes: &[u16],
-    fits: [Fit; Bounds::COUNT],
+    fits: [Fit; Bounds::MOST],
     loads: &[u16],
 ) -> Found
     requires { ⌜ Ready (length (now loads)) (now heights) (now boxes) ⌝ }
     requires { ⌜ Loaded (now loads) fits (now heights) ⌝ }
-    ensures { λ r. ⌜ foundStep r ≡ firstCrowded (length (now (loads .entry))) capacity (now (heights .entry)) (now (boxes .entry)) fits lower ⌝ }
+    ensures { λ r. ⌜ foundStep r ≡ firstCrowded (length (old loads)) capacity (old heights) (old boxes) fits lower ⌝ }
 {
     let mut found = Found::Nothing;
     let kind = letter(lower);
@@ -136,15 +137,15 @@ fn first_by_load(
     capacity: u16,
     heights: &[u16],
     boxes: &[u16],
-    fits: [Fit; Bounds::COUNT],
+    fits: [Fit; Bounds::MOST],
     loads: &[u16],
 ) -> Found
     requires { ⌜ Ready (length (now loads)) (now heights) (now boxes) ⌝ }
     requires { ⌜ Loaded (now loads) fits (now heights) ⌝ }
     ensures { λ r. ⌜ foundStep r ≡
-        (firstOverload (length (now (loads .entry))) capacity (now (heights .entry)) (now (boxes .entry)) fits
-        orElse firstCrowded (length (now (loads .entry))) capacity (now (heights .entry)) (now (boxes .entry)) fits true
-        orElse firstCrowded (length (now (loads .entry))) capacity (now (heights .entry)) (now (boxes .entry)) fits false) ⌝ }
+        (firstOverload (length (old loads)) capacity (old heights) (old boxes) fits
+        orElse firstCrowded (length (old loads)) capacity (old heights) (old boxes) fits true
+        orElse firstCrowded (length (old loads)) capacity (old heights) (old boxes) fits false) ⌝ }
 {
     let overload = first_overload(loads, capacity);
     let Found::Nothing = overload else {
@@ -163,10 +164,10 @@ pub fn next_step(
     capacity: u16,
     heights: &[u16],
     boxes: &[u16],
-    fits: [Fit; Bounds::COUNT],
+    fits: [Fit; Bounds::MOST],
 ) -> Found
     requires { ⌜ Ready (hours .0) (now heights) (now boxes) ⌝ }
-    ensures { λ r. ⌜ foundStep r ≡ nextBy (hours .0) capacity (now (heights .entry)) (now (boxes .entry)) fits ⌝ }
+    ensures { λ r. ⌜ foundStep r ≡ nextBy (hours .0) capacity (old heights) (old boxes) fits ⌝ }
 {
     let calendar = first_calendar(heights, boxes, fits);
     let Found::Nothing = calendar else {

@@ -13,10 +13,11 @@ ghost use lib.Dec.{ltb};
 ghost use lib.ListN.{length, getD};
 ghost use Rattle.units.specs.Choice.{_and_, if_then_else_};
 ghost use Rattle.units.specs.Limits.{mostHours, mostTasks, mostHeight, isHour};
+ghost use Rattle.plan.specs.Lent.{old};
 ghost use Rattle.propagation.specs.Load.{mustRun};
 ghost use Rattle.propagation.specs.Steps.{kindOf, isStep, onFit, sameBounds};
-ghost use Rattle.propagation.specs.Ready.{Ready};
-ghost use Rattle.propagation.specs.Kept.{loadOf, crowded, calendarBy, lowerBy, upperBy, judgeBy};
+ghost use Rattle.propagation.specs.inner.Ready.{Ready};
+ghost use Rattle.propagation.specs.inner.Kept.{loadOf, crowded, calendarBy, lowerBy, upperBy, judgeBy};
 
 // Whether the compulsory part of a task with the window holds the hour.
 pub fn must_run(w: Window, t: u16) -> bool
@@ -63,9 +64,9 @@ pub fn same_bounds(a: Bounds, b: Bounds) -> bool
 }
 
 // The heights of the tasks whose compulsory part holds the hour, added. A task with no valid triple has none.
-pub fn load_at(fits: [Fit; Bounds::COUNT], heights: &[u16], t: u16) -> u16
+pub fn load_at(fits: [Fit; Bounds::MOST], heights: &[u16], t: u16) -> u16
     requires { ⌜ (length (now heights) ≤ mostTasks) × ((i : ℕ) → getD (now heights) i 0 ≤ mostHeight) ⌝ }
-    ensures { λ r. ⌜ r ≡ loadOf fits (now (heights .entry)) t ⌝ }
+    ensures { λ r. ⌜ r ≡ loadOf fits (old heights) t ⌝ }
 {
     let mut sum = 0;
     for i in 0..heights.len() {
@@ -155,13 +156,13 @@ fn judge_upper(w: Window, b: Bounds, excess: bool, t: u16) -> Judged
 fn has_excess(
     capacity: u16,
     heights: &[u16],
-    fits: [Fit; Bounds::COUNT],
+    fits: [Fit; Bounds::MOST],
     w: Window,
     i: usize,
     t: u16,
 ) -> bool
     requires { ⌜ (i < length (now heights)) × (length (now heights) ≤ mostTasks) × ((j : ℕ) → getD (now heights) j 0 ≤ mostHeight) ⌝ }
-    ensures { λ r. ⌜ r ≡ crowded w (getD (now (heights .entry)) i 0) (loadOf fits (now (heights .entry)) t) capacity t ⌝ }
+    ensures { λ r. ⌜ r ≡ crowded w (getD (old heights) i 0) (loadOf fits (old heights) t) capacity t ⌝ }
 {
     let load = load_at(fits, heights, t);
     is_crowded(w, heights[i], load, capacity, t)
@@ -171,7 +172,7 @@ fn has_excess(
 fn judge_start(
     capacity: u16,
     heights: &[u16],
-    fits: [Fit; Bounds::COUNT],
+    fits: [Fit; Bounds::MOST],
     b: Bounds,
     i: usize,
     t: u16,
@@ -181,7 +182,7 @@ fn judge_start(
         × (length (now heights) ≤ mostTasks)
         × ((j : ℕ) → getD (now heights) j 0 ≤ mostHeight) ⌝ }
     ensures { λ r. ⌜ r ≡ onFit (getD fits i Fit.Never) Judged.NotAdmitted
-        (λ w. lowerBy w b (crowded w (getD (now (heights .entry)) i 0) (loadOf fits (now (heights .entry)) t) capacity t) t) ⌝ }
+        (λ w. lowerBy w b (crowded w (getD (old heights) i 0) (loadOf fits (old heights) t) capacity t) t) ⌝ }
 {
     let fit = fits[i];
     let Fit::Within(w) = fit else {
@@ -195,7 +196,7 @@ fn judge_start(
 fn judge_end(
     capacity: u16,
     heights: &[u16],
-    fits: [Fit; Bounds::COUNT],
+    fits: [Fit; Bounds::MOST],
     b: Bounds,
     i: usize,
     t: u16,
@@ -206,7 +207,7 @@ fn judge_end(
         × (length (now heights) ≤ mostTasks)
         × ((j : ℕ) → getD (now heights) j 0 ≤ mostHeight) ⌝ }
     ensures { λ r. ⌜ r ≡ onFit (getD fits i Fit.Never) Judged.NotAdmitted
-        (λ w. upperBy w b (crowded w (getD (now (heights .entry)) i 0) (loadOf fits (now (heights .entry)) t) capacity t) t) ⌝ }
+        (λ w. upperBy w b (crowded w (getD (old heights) i 0) (loadOf fits (old heights) t) capacity t) t) ⌝ }
 {
     let fit = fits[i];
     let Fit::Within(w) = fit else {
@@ -258,11 +259,11 @@ pub fn judge_step(
     capacity: u16,
     heights: &[u16],
     boxes: &[u16],
-    fits: [Fit; Bounds::COUNT],
+    fits: [Fit; Bounds::MOST],
     x: Step,
 ) -> Judged
     requires { ⌜ Ready (hours .0) (now heights) (now boxes) ⌝ }
-    ensures { λ r. ⌜ r ≡ judgeBy (hours .0) capacity (now (heights .entry)) (now (boxes .entry)) fits x ⌝ }
+    ensures { λ r. ⌜ r ≡ judgeBy (hours .0) capacity (old heights) (old boxes) fits x ⌝ }
 {
     if !is_step(heights.len(), hours, x) {
         return Judged::Unknown;

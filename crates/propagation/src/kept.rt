@@ -5,11 +5,13 @@ use units::Duration;
 ghost use mathlib.Core.List.{[]};
 ghost use mathlib.Core.Path.{_≡_};
 ghost use Prim.Native.Nat.{ℕ, _≤_, _<_};
-ghost use lib.ListN.{length, getD};
+ghost use lib.ListN.{length, getD, set};
 ghost use Rattle.units.specs.Limits.{mostTasks};
 ghost use Rattle.plan.specs.Plan.{plan};
+ghost use Rattle.plan.specs.Boxes.{withBounds};
+ghost use Rattle.plan.specs.Lent.{old, left};
 ghost use Rattle.propagation.specs.Load.{fitAt};
-ghost use Rattle.propagation.specs.Fitting.{Fitting};
+ghost use Rattle.propagation.specs.inner.Fitting.{Fitting};
 
 // What the calendar rule answers for task i. It asks for neither the capacity nor the heights, so the contract puts none there.
 pub fn fit_of(
@@ -21,7 +23,7 @@ pub fn fit_of(
     i: usize,
 ) -> Fit
     requires { ⌜ Fitting (hours .0) (now calendars) (now «task_calendars») (now «work_times») (now boxes) i ⌝ }
-    ensures { λ r. ⌜ r ≡ fitAt (plan (hours .0) 0 (now (calendars .entry)) (now («task_calendars» .entry)) (now («work_times» .entry)) []) (now (boxes .entry)) i ⌝ }
+    ensures { λ r. ⌜ r ≡ fitAt (plan (hours .0) 0 (old calendars) (old «task_calendars») (old «work_times») []) (old boxes) i ⌝ }
 {
     let work_time = Duration(work_times[i]);
     let b = plan::bounds_at(boxes, i);
@@ -36,15 +38,38 @@ pub fn all_fits(
     task_calendars: &[u16],
     work_times: &[u16],
     boxes: &[u16],
-) -> [Fit; Bounds::COUNT]
+) -> [Fit; Bounds::MOST]
     requires { ⌜ (length (now «task_calendars») ≤ mostTasks)
         × ((i : ℕ) → i < length (now «task_calendars») → Fitting (hours .0) (now calendars) (now «task_calendars») (now «work_times») (now boxes) i) ⌝ }
-    ensures { λ r. ⌜ (length r ≡ mostTasks) × ((i : ℕ) → i < length (now («task_calendars» .entry)) → getD r i Fit.Never
-        ≡ fitAt (plan (hours .0) 0 (now (calendars .entry)) (now («task_calendars» .entry)) (now («work_times» .entry)) []) (now (boxes .entry)) i) ⌝ }
+    ensures { λ r. ⌜ (length r ≡ mostTasks) × ((i : ℕ) → i < length (old «task_calendars») → getD r i Fit.Never
+        ≡ fitAt (plan (hours .0) 0 (old calendars) (old «task_calendars») (old «work_times») []) (old boxes) i) ⌝ }
 {
-    let mut fits = [Fit::Never; Bounds::COUNT];
+    let mut fits = [Fit::Never; Bounds::MOST];
     for i in 0..task_calendars.len() {
         fits[i] = fit_of(hours, calendars, task_calendars, work_times, boxes, i);
     }
     fits
+}
+
+// Stores the bounds that a task has now, and works its answer out anew.
+pub fn move_bounds(
+    hours: Duration,
+    calendars: &[u8],
+    task_calendars: &[u16],
+    work_times: &[u16],
+    boxes: &mut [u16],
+    fits: [Fit; Bounds::MOST],
+    task: u16,
+    b: Bounds,
+) -> [Fit; Bounds::MOST]
+    requires { ⌜ (task < mostTasks)
+        × Fitting (hours .0) (now calendars) (now «task_calendars») (now «work_times») (withBounds (now boxes) task b) task ⌝ }
+    ensures { λ r. ⌜ (left boxes ≡ withBounds (old boxes) task b)
+        × (r ≡ set fits task (fitAt (plan (hours .0) 0 (old calendars) (old «task_calendars») (old «work_times») []) (left boxes) task)) ⌝ }
+{
+    let i = task as usize;
+    plan::put_bounds(boxes, i, b);
+    let mut next = fits;
+    next[i] = fit_of(hours, calendars, task_calendars, work_times, boxes, i);
+    next
 }

@@ -6,8 +6,9 @@ ghost use mathlib.Core.Path.{_≡_};
 ghost use Prim.Native.Nat.{ℕ, _+_, _≤_, _<_, min};
 ghost use lib.ListN.{length, getD};
 ghost use Rattle.units.specs.Limits.{mostHours, mostTasks, mostHeight};
-ghost use Rattle.propagation.specs.Kept.{loadOf};
-ghost use Rattle.propagation.specs.Finding.{partAt};
+ghost use Rattle.plan.specs.Lent.{old, left};
+ghost use Rattle.propagation.specs.inner.Kept.{loadOf};
+ghost use Rattle.propagation.specs.inner.Finding.{partAt};
 
 // Where a stretch of hours ends in a plan of so many hours.
 pub fn clipped(end: u16, hours: usize) -> u16
@@ -22,8 +23,8 @@ pub fn clipped(end: u16, hours: usize) -> u16
 
 // Sets every number to 0.
 fn clear(loads: &mut [u16])
-    ensures { λ _. ⌜ (length (now (loads .exit)) ≡ length (now (loads .entry)))
-        × ((t : ℕ) → t < length (now (loads .entry)) → getD (now (loads .exit)) t 0 ≡ 0) ⌝ }
+    ensures { λ _. ⌜ (length (left loads) ≡ length (old loads))
+        × ((t : ℕ) → t < length (old loads) → getD (left loads) t 0 ≡ 0) ⌝ }
 {
     for t in 0..loads.len() {
         loads[t] = 0;
@@ -33,8 +34,8 @@ fn clear(loads: &mut [u16])
 // Adds the height in the hours of the compulsory part of a task with the window.
 fn add_part(loads: &mut [u16], w: Window, height: u16)
     requires { ⌜ (length (now loads) ≤ mostHours) × ((t : ℕ) → t < length (now loads) → getD (now loads) t 0 + height < 65536) ⌝ }
-    ensures { λ _. ⌜ (length (now (loads .exit)) ≡ length (now (loads .entry)))
-        × ((t : ℕ) → t < length (now (loads .entry)) → getD (now (loads .exit)) t 0 ≡ getD (now (loads .entry)) t 0 + partAt (Fit.Within w) height t) ⌝ }
+    ensures { λ _. ⌜ (length (left loads) ≡ length (old loads))
+        × ((t : ℕ) → t < length (old loads) → getD (left loads) t 0 ≡ getD (old loads) t 0 + partAt (Fit.Within w) height t) ⌝ }
 {
     let end = clipped(w.ect.0, loads.len());
     for t in w.bounds.latest.0..end {
@@ -44,12 +45,12 @@ fn add_part(loads: &mut [u16], w: Window, height: u16)
 }
 
 // Each number becomes the load of its hour. A task with no valid triple has no part in it.
-pub fn fill_loads(loads: &mut [u16], fits: [Fit; Bounds::COUNT], heights: &[u16])
+pub fn fill_loads(loads: &mut [u16], fits: [Fit; Bounds::MOST], heights: &[u16])
     requires { ⌜ (length (now loads) ≤ mostHours)
         × (length (now heights) ≤ mostTasks)
         × ((i : ℕ) → i < length (now heights) → getD (now heights) i 0 ≤ mostHeight) ⌝ }
-    ensures { λ _. ⌜ (length (now (loads .exit)) ≡ length (now (loads .entry)))
-        × ((t : ℕ) → t < length (now (loads .entry)) → getD (now (loads .exit)) t 0 ≡ loadOf fits (now (heights .entry)) t) ⌝ }
+    ensures { λ _. ⌜ (length (left loads) ≡ length (old loads))
+        × ((t : ℕ) → t < length (old loads) → getD (left loads) t 0 ≡ loadOf fits (old heights) t) ⌝ }
 {
     clear(loads);
     for j in 0..heights.len() {

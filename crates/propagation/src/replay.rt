@@ -12,13 +12,16 @@ use units::Bounds;
 use units::Duration;
 ghost use mathlib.Core.Bool.{true};
 ghost use mathlib.Core.Path.{_≡_};
-ghost use Rattle.plan.specs.Plan.{plan};
+ghost use Prim.Native.Nat.{_+_, _^_, _<_};
+ghost use lib.ListN.{length};
+ghost use Rattle.plan.specs.Lent.{old, left, planOf, oldPlan};
 ghost use Rattle.plan.proofs.Passed.{Passed};
-ghost use Rattle.propagation.specs.Log.{replay};
-ghost use Rattle.propagation.specs.Entry.{stepsIn, oneForEachStep, entryFault, checkLog, checkAnswer, logAnswer};
+ghost use Rattle.propagation.specs.Log.{replayFrom};
+ghost use Rattle.propagation.specs.Entry.{stepsIn, oneForEachStep, entryFault, checkLog, checkFrom, checkAnswer, logAnswer};
 ghost use Rattle.propagation.specs.Claim.{CheckedHolds};
 
-// The replay of a log on a plan that passed its tests. The answers of the calendar rule are kept, and only the moved task's is worked out anew.
+// The replay of a log on a plan that passed its tests, from the boxes that the step before its first left, and whether that one said impossible;
+// its first step has the number `from`. The answers of the calendar rule are kept, and only the moved task's is worked out anew.
 fn replay_log(
     hours: Duration,
     capacity: u16,
@@ -30,21 +33,22 @@ fn replay_log(
     log_kinds: &[u8],
     log_tasks: &[u16],
     log_hours: &[u16],
+    from: usize,
+    said: bool,
 ) -> LogChecked
-    requires { ⌜ Passed (plan (hours .0) capacity (now calendars) (now «task_calendars») (now «work_times») (now heights)) (now boxes)
+    requires { ⌜ Passed (planOf (hours .0) capacity calendars «task_calendars» «work_times» heights) (now boxes)
         × (oneForEachStep (now «log_kinds») (now «log_tasks») (now «log_hours») ≡ true) ⌝ }
-    ensures { λ r. ⌜ (logAnswer r ≡ checkAnswer (replay
-        (plan (hours .0) capacity (now (calendars .entry)) (now («task_calendars» .entry)) (now («work_times» .entry)) (now (heights .entry)))
-        (now (boxes .entry)) (stepsIn (now («log_kinds» .entry)) (now («log_tasks» .entry)) (now («log_hours» .entry)))))
-        × (now (boxes .exit) ≡ replay
-        (plan (hours .0) capacity (now (calendars .entry)) (now («task_calendars» .entry)) (now («work_times» .entry)) (now (heights .entry)))
-        (now (boxes .entry)) (stepsIn (now («log_kinds» .entry)) (now («log_tasks» .entry)) (now («log_hours» .entry))) .boxes) ⌝ }
+    requires { ⌜ from + length (now «log_kinds») < 2 ^ 64 ⌝ }
+    ensures { λ r.
+        let P = oldPlan (hours .0) capacity calendars «task_calendars» «work_times» heights in
+        let e = replayFrom P from said (old boxes) (stepsIn (old «log_kinds») (old «log_tasks») (old «log_hours»)) in
+        ⌜ (logAnswer r ≡ checkAnswer e) × (left boxes ≡ e .boxes) ⌝ }
 {
     let mut fits = kept::all_fits(hours, calendars, task_calendars, work_times, boxes);
-    let mut said = false;
+    let mut impossible = said;
     for k in 0..log_kinds.len() {
-        if said {
-            return LogChecked::Refused(Refusal::AfterImpossible(k));
+        if impossible {
+            return LogChecked::Refused(Refusal::AfterImpossible(from + k));
         }
         let task = log_tasks[k];
         let x = Step {
@@ -55,25 +59,33 @@ fn replay_log(
         let judged = judge::judge_step(hours, capacity, heights, boxes, fits, x);
         match judged {
             Judged::Unknown => {
-                return LogChecked::Refused(Refusal::UnknownStep(k));
+                return LogChecked::Refused(Refusal::UnknownStep(from + k));
             }
             Judged::NotAdmitted => {
-                return LogChecked::Refused(Refusal::NotAdmitted(k));
+                return LogChecked::Refused(Refusal::NotAdmitted(from + k));
             }
             Judged::Impossible => {
-                said = true;
+                impossible = true;
                 continue;
             }
             Judged::Moved(b) => {
-                let i = task as usize;
-                plan::put_bounds(boxes, i, b);
-                fits[i] = kept::fit_of(hours, calendars, task_calendars, work_times, boxes, i);
+                let next = kept::move_bounds(
+                    hours,
+                    calendars,
+                    task_calendars,
+                    work_times,
+                    boxes,
+                    fits,
+                    task,
+                    b,
+                );
+                fits = next;
             }
         }
     }
     LogChecked::Accepted {
-        steps: log_kinds.len(),
-        impossible: said,
+        steps: from + log_kinds.len(),
+        impossible,
     }
 }
 
@@ -90,19 +102,13 @@ pub fn check_log(
     log_tasks: &[u16],
     log_hours: &[u16],
 ) -> LogChecked
-    ensures { λ r. ⌜ (logAnswer r ≡ checkAnswer (checkLog
-        (plan hours capacity (now (calendars .entry)) (now («task_calendars» .entry)) (now («work_times» .entry)) (now (heights .entry)))
-        (now (boxes .entry)) (now («log_kinds» .entry)) (now («log_tasks» .entry)) (now («log_hours» .entry))))
-        × (now (boxes .exit) ≡ checkLog
-        (plan hours capacity (now (calendars .entry)) (now («task_calendars» .entry)) (now («work_times» .entry)) (now (heights .entry)))
-        (now (boxes .entry)) (now («log_kinds» .entry)) (now («log_tasks» .entry)) (now («log_hours» .entry)) .boxes) ⌝ }
-    ensures holds { λ r. ⌜ CheckedHolds
-        (plan hours capacity (now (calendars .entry)) (now («task_calendars» .entry)) (now («work_times» .entry)) (now (heights .entry)))
-        (now (boxes .entry))
-        (entryFault
-        (plan hours capacity (now (calendars .entry)) (now («task_calendars» .entry)) (now («work_times» .entry)) (now (heights .entry)))
-        (now (boxes .entry)) (now («log_kinds» .entry)) (now («log_tasks» .entry)) (now («log_hours» .entry)))
-        (stepsIn (now («log_kinds» .entry)) (now («log_tasks» .entry)) (now («log_hours» .entry))) (logAnswer r) (now (boxes .exit)) ⌝ }
+    ensures { λ r.
+        let P = oldPlan hours capacity calendars «task_calendars» «work_times» heights in
+        let e = checkLog P (old boxes) (old «log_kinds») (old «log_tasks») (old «log_hours») in
+        let refusal = entryFault P (old boxes) (old «log_kinds») (old «log_tasks») (old «log_hours») in
+        let steps = stepsIn (old «log_kinds») (old «log_tasks») (old «log_hours») in
+        ⌜ (logAnswer r ≡ checkAnswer e) × (left boxes ≡ e .boxes) ⌝
+        ∗ ⌜ CheckedHolds P (old boxes) refusal steps (logAnswer r) (left boxes) ⌝ }
 {
     let tested = entry::test_entry(
         hours,
@@ -130,5 +136,60 @@ pub fn check_log(
         log_kinds,
         log_tasks,
         log_hours,
+        0,
+        false,
+    )
+}
+
+// The log checker from a step on: over the log's steps from number `from`, on the boxes that the step before it left, and whether that one said
+// impossible. The answer counts from the log's first step.
+pub fn check_from(
+    hours: u16,
+    capacity: u16,
+    calendars: &[u8],
+    task_calendars: &[u16],
+    work_times: &[u16],
+    heights: &[u16],
+    boxes: &mut [u16],
+    log_kinds: &[u8],
+    log_tasks: &[u16],
+    log_hours: &[u16],
+    from: usize,
+    said: bool,
+) -> LogChecked
+    requires { ⌜ from + length (now «log_kinds») < 2 ^ 64 ⌝ }
+    ensures { λ r.
+        let P = oldPlan hours capacity calendars «task_calendars» «work_times» heights in
+        let e = checkFrom P (old boxes) (old «log_kinds») (old «log_tasks») (old «log_hours») from said in
+        ⌜ (logAnswer r ≡ checkAnswer e) × (left boxes ≡ e .boxes) ⌝ }
+{
+    let tested = entry::test_entry(
+        hours,
+        capacity,
+        calendars,
+        task_calendars,
+        work_times,
+        heights,
+        boxes,
+        log_kinds,
+        log_tasks,
+        log_hours,
+    );
+    if let Tested::Refused(refusal) = tested {
+        return LogChecked::Refused(refusal);
+    }
+    replay_log(
+        Duration(hours),
+        capacity,
+        calendars,
+        task_calendars,
+        work_times,
+        heights,
+        boxes,
+        log_kinds,
+        log_tasks,
+        log_hours,
+        from,
+        said,
     )
 }

@@ -16,6 +16,7 @@ ghost use Rattle.units.specs.Limits.{mostHours, within};
 ghost use Rattle.units.specs.Sums.{maxTo};
 ghost use Rattle.plan.specs.Plan.{plan};
 ghost use Rattle.plan.specs.Refusals.{unless, answerUnless, testedFault};
+ghost use Rattle.plan.specs.Lent.{old, oldPlan};
 ghost use Rattle.calendar.specs.Triples.{endOf, validTriple, inBounds};
 ghost use Rattle.schedule.specs.Schedule.{tripleAt, runs, makespan};
 ghost use Rattle.schedule.specs.Ready.{TriplesReady, HoursReady, EndsReady, runningHeights};
@@ -31,7 +32,7 @@ pub enum ScheduleChecked {
 // The triple of task i.
 fn triple_at(schedule: &[u16], i: usize) -> Triple
     requires { ⌜ 3 * i + 3 ≤ length (now schedule) ⌝ }
-    ensures { λ r. ⌜ r ≡ tripleAt (now (schedule .entry)) i ⌝ }
+    ensures { λ r. ⌜ r ≡ tripleAt (old schedule) i ⌝ }
 {
     let first = 3 * i;
     Triple {
@@ -43,7 +44,7 @@ fn triple_at(schedule: &[u16], i: usize) -> Triple
 
 // Whether there are three numbers for each task. The length is divided, since three times a length may not fit.
 fn has_triples(schedule: &[u16], tasks: usize) -> bool
-    ensures { λ r. ⌜ r ≡ eqb (length (now (schedule .entry))) (3 * tasks) ⌝ }
+    ensures { λ r. ⌜ r ≡ eqb (length (old schedule)) (3 * tasks) ⌝ }
 {
     if schedule.len() % 3 != 0 {
         return false;
@@ -83,7 +84,7 @@ fn test_triple(
 ) -> Tested
     requires { ⌜ length (now calendar) ≤ mostHours ⌝ }
     ensures { λ r. ⌜ testedFault r ≡ (unless (inBounds bounds t) 14 task
-        orElse unless (validTriple (now (calendar .entry)) («work_time» .0) t) 15 task) ⌝ }
+        orElse unless (validTriple (old calendar) («work_time» .0) t) 15 task) ⌝ }
 {
     if !is_in_bounds(bounds, t) {
         return Tested::Refused(Refusal::OutsideBounds(task));
@@ -105,9 +106,9 @@ fn test_triples(
 ) -> Tested
     requires { ⌜ TriplesReady (hours .0) (now calendars) (now «task_calendars») (now «work_times») (now boxes) (now schedule) ⌝ }
     ensures { λ r. ⌜ testedFault r ≡ firstOf
-        (tripleFault (plan (hours .0) 0 (now (calendars .entry)) (now («task_calendars» .entry)) (now («work_times» .entry)) []) (now (boxes .entry))
-        (tripleAt (now (schedule .entry))))
-        (length (now («task_calendars» .entry))) ⌝ }
+        (tripleFault (plan (hours .0) 0 (old calendars) (old «task_calendars») (old «work_times») []) (old boxes)
+        (tripleAt (old schedule)))
+        (length (old «task_calendars»)) ⌝ }
 {
     for i in 0..task_calendars.len() {
         let tested = test_triple(
@@ -138,7 +139,7 @@ fn is_running(t: Triple, hour: Hour) -> bool
 // The heights of the tasks that run in the hour, added.
 fn running_heights(heights: &[u16], schedule: &[u16], hour: Hour) -> u16
     requires { ⌜ HoursReady (now heights) (now schedule) ⌝ }
-    ensures { λ r. ⌜ r ≡ runningHeights (now (heights .entry)) (now (schedule .entry)) (hour .0) ⌝ }
+    ensures { λ r. ⌜ r ≡ runningHeights (old heights) (old schedule) (hour .0) ⌝ }
 {
     let mut sum = 0;
     for i in 0..heights.len() {
@@ -153,7 +154,7 @@ fn running_heights(heights: &[u16], schedule: &[u16], hour: Hour) -> u16
 fn test_hours(hours: Duration, capacity: Height, heights: &[u16], schedule: &[u16]) -> Tested
     requires { ⌜ HoursReady (now heights) (now schedule) ⌝ }
     ensures { λ r. ⌜ testedFault r ≡ firstOf
-        (λ t. unless (leb (runningHeights (now (heights .entry)) (now (schedule .entry)) t) (capacity .0)) 16 t)
+        (λ t. unless (leb (runningHeights (old heights) (old schedule) t) (capacity .0)) 16 t)
         (hours .0) ⌝ }
 {
     for hour in 0..hours.0 {
@@ -176,10 +177,10 @@ fn test_schedule(
     schedule: &[u16],
 ) -> Tested
     ensures { λ r. ⌜ answerUnless (testedFault r) (makespan
-        (plan hours capacity (now (calendars .entry)) (now («task_calendars» .entry)) (now («work_times» .entry)) (now (heights .entry)))
-        (tripleAt (now (schedule .entry)))) ≡ checkSchedule
-        (plan hours capacity (now (calendars .entry)) (now («task_calendars» .entry)) (now («work_times» .entry)) (now (heights .entry)))
-        (now (boxes .entry)) (now (schedule .entry)) ⌝ }
+        (oldPlan hours capacity calendars «task_calendars» «work_times» heights)
+        (tripleAt (old schedule))) ≡ checkSchedule
+        (oldPlan hours capacity calendars «task_calendars» «work_times» heights)
+        (old boxes) (old schedule) ⌝ }
 {
     if !plan::has_one_for_each_task(task_calendars, work_times, heights, boxes) {
         return Tested::Refused(Refusal::MemorySize);
@@ -187,7 +188,7 @@ fn test_schedule(
     if !has_triples(schedule, task_calendars.len()) {
         return Tested::Refused(Refusal::MemorySize);
     }
-    let input = plan::test_input(
+    let input = plan::test_plan(
         hours,
         capacity,
         calendars,
@@ -224,7 +225,7 @@ fn later(a: Hour, b: Hour) -> Hour
 // The largest end.
 fn latest_end(schedule: &[u16], tasks: usize) -> Hour
     requires { ⌜ EndsReady (now schedule) tasks ⌝ }
-    ensures { λ r. ⌜ r .0 ≡ maxTo (λ i. endOf (tripleAt (now (schedule .entry)) i)) tasks ⌝ }
+    ensures { λ r. ⌜ r .0 ≡ maxTo (λ i. endOf (tripleAt (old schedule) i)) tasks ⌝ }
 {
     let mut latest = Hour(0);
     for i in 0..tasks {
@@ -247,11 +248,11 @@ pub fn check_schedule(
     schedule: &[u16],
 ) -> ScheduleChecked
     ensures { λ r. ⌜ scheduleAnswer r ≡ checkSchedule
-        (plan hours capacity (now (calendars .entry)) (now («task_calendars» .entry)) (now («work_times» .entry)) (now (heights .entry)))
-        (now (boxes .entry)) (now (schedule .entry)) ⌝ }
+        (oldPlan hours capacity calendars «task_calendars» «work_times» heights)
+        (old boxes) (old schedule) ⌝ }
     ensures exactly { λ r. ⌜ Decides
-        (plan hours capacity (now (calendars .entry)) (now («task_calendars» .entry)) (now («work_times» .entry)) (now (heights .entry)))
-        (now (boxes .entry)) (now (schedule .entry)) (scheduleAnswer r) ⌝ }
+        (oldPlan hours capacity calendars «task_calendars» «work_times» heights)
+        (old boxes) (old schedule) (scheduleAnswer r) ⌝ }
 {
     let tested = test_schedule(
         hours,

@@ -54,7 +54,7 @@ pub enum MaybeBounds {
 
 impl Hour {
     // The end of the longest plan: no task ends later.
-    pub const LAST: u16 = Duration::MOST;
+    pub const LATEST_END: u16 = Duration::MOST;
 
     // An hour of a plan of so many hours.
     pub fn of_plan(number: u16, hours: Duration) -> MaybeHour
@@ -68,7 +68,7 @@ impl Hour {
 
     // The hour so much later: where a task that starts here ends.
     pub fn plus(self, elapsed: Duration) -> Hour
-        requires { do ⌜ self .0 + elapsed .0 ≤ (← ⟦Hour::LAST⟧) ⌝ }
+        requires { do ⌜ self .0 + elapsed .0 ≤ (← ⟦Hour::LATEST_END⟧) ⌝ }
         ensures { λ r. ⌜ r ≡ hour (self .0 + elapsed .0) ⌝ }
     {
         Hour(self.0 + elapsed.0)
@@ -129,7 +129,7 @@ impl Height {
     pub const MOST: u16 = 1000;
 
     // The greatest capacity.
-    pub const CAPACITY: u16 = 60000;
+    pub const MOST_CAPACITY: u16 = 60000;
 
     // The height of a task.
     pub fn of_task(number: u16) -> MaybeHeight
@@ -145,7 +145,7 @@ impl Height {
     pub fn of_plan(number: u16) -> MaybeHeight
         ensures { λ r. ⌜ heightMade r ≡ someIf (isCapacity number) (height number) ⌝ }
     {
-        if Height::CAPACITY < number {
+        if Height::MOST_CAPACITY < number {
             return MaybeHeight::Outside;
         }
         MaybeHeight::Within(Height(number))
@@ -154,7 +154,7 @@ impl Height {
 
 impl CalendarNumber {
     // The most calendars of a plan.
-    pub const COUNT: usize = 16;
+    pub const MOST: usize = 16;
 
     // Whether a plan may have so many calendars.
     pub fn is_count(calendars: usize) -> bool
@@ -163,7 +163,7 @@ impl CalendarNumber {
         if calendars < 1 {
             return false;
         }
-        calendars <= CalendarNumber::COUNT
+        calendars <= CalendarNumber::MOST
     }
 
     // A calendar of a plan that has so many.
@@ -179,13 +179,13 @@ impl CalendarNumber {
 
 impl Bounds {
     // The most boxes of a plan, one for each task.
-    pub const COUNT: usize = 64;
+    pub const MOST: usize = 64;
 
     // Whether a plan may have so many tasks.
     pub fn is_count(tasks: usize) -> bool
         ensures { λ r. ⌜ r ≡ isTaskCount tasks ⌝ }
     {
-        tasks <= Bounds::COUNT
+        tasks <= Bounds::MOST
     }
 
     // The box of a task with the work time, in a plan of so many hours.

@@ -29,8 +29,6 @@ check-part-requires c κs = (
   part-inside _ _ _ _ _ _ (c .before .before .loop .inv) (c .before .part-at .result) (c .before .part-at .ensures .0) .0,
   c .before .part-at .ensures .1,
   omega (arith, c .before .before .before .before .before .before .before .before .good, part-inside _ _ _ _ _ _ (c .before .before .loop .inv) (c .before .part-at .result) (c .before .part-at .ensures .0) .1),
-  c .before .before .loop .inv .after,
-  c .before .before .loop .inv .passes,
 )
 
 same-length : tie.Need-same-length Inv-loop μ-loop

@@ -43,49 +43,49 @@ slice-aggregate-calendars c = sym (length-take-le (c .before .before .before .be
 is-count-requires-2 : tie.Need-is-count-requires-2
 is-count-requires-2 c κs = search needs
 
-slice-aggregate-test-input : tie.Need-slice-aggregate-test-input
+slice-aggregate-test-plan : tie.Need-slice-aggregate-test-plan
 unfolding isTaskCount
-slice-aggregate-test-input c = sym (length-take-le (c .before .before .before .before .before .before .before .before .before .before .before .before .before .before .before .before .before .args .scan .tasks) (c .before .before .before .before .before .before .before .before .before .before .before .before .before .before .before .before .before .args .task-calendars .now) (omega (arith, leb-true (c .before .before .before .before .before .before .before .before .before .before .before .before .before .before .before .before .before .args .scan .tasks) mostTasks (sym (c .before .before .is-count2 .ensures) ∙ c .before .if3 .taken), c .before .before .before .before .before .before .before .before .before .before .before .before .before .before .before .before .before .pre .task-room)))
+slice-aggregate-test-plan c = sym (length-take-le (c .before .before .before .before .before .before .before .before .before .before .before .before .before .before .before .before .before .args .scan .tasks) (c .before .before .before .before .before .before .before .before .before .before .before .before .before .before .before .before .before .args .task-calendars .now) (omega (arith, leb-true (c .before .before .before .before .before .before .before .before .before .before .before .before .before .before .before .before .before .args .scan .tasks) mostTasks (sym (c .before .before .is-count2 .ensures) ∙ c .before .if3 .taken), c .before .before .before .before .before .before .before .before .before .before .before .before .before .before .before .before .before .pre .task-room)))
 
-slice-aggregate-test-input-2 : tie.Need-slice-aggregate-test-input-2
+slice-aggregate-test-plan-2 : tie.Need-slice-aggregate-test-plan-2
 unfolding isTaskCount
-slice-aggregate-test-input-2 c = sym (length-take-le (c .before .before .before .before .before .before .before .before .before .before .before .before .before .before .before .before .before .before .args .scan .tasks) (c .before .before .before .before .before .before .before .before .before .before .before .before .before .before .before .before .before .before .args .work-times .now) (omega (arith, leb-true (c .before .before .before .before .before .before .before .before .before .before .before .before .before .before .before .before .before .before .args .scan .tasks) mostTasks (sym (c .before .before .before .is-count2 .ensures) ∙ c .before .before .if3 .taken), c .before .before .before .before .before .before .before .before .before .before .before .before .before .before .before .before .before .before .pre .task-room, c .before .before .before .before .before .before .before .before .before .before .before .before .before .before .before .before .before .before .pre .size .one-work-time)))
+slice-aggregate-test-plan-2 c = sym (length-take-le (c .before .before .before .before .before .before .before .before .before .before .before .before .before .before .before .before .before .before .args .scan .tasks) (c .before .before .before .before .before .before .before .before .before .before .before .before .before .before .before .before .before .before .args .work-times .now) (omega (arith, leb-true (c .before .before .before .before .before .before .before .before .before .before .before .before .before .before .before .before .before .before .args .scan .tasks) mostTasks (sym (c .before .before .before .is-count2 .ensures) ∙ c .before .before .if3 .taken), c .before .before .before .before .before .before .before .before .before .before .before .before .before .before .before .before .before .before .pre .task-room, c .before .before .before .before .before .before .before .before .before .before .before .before .before .before .before .before .before .before .pre .size .one-work-time)))
 
-slice-aggregate-test-input-3 : tie.Need-slice-aggregate-test-input-3
+slice-aggregate-test-plan-3 : tie.Need-slice-aggregate-test-plan-3
 unfolding isTaskCount
-slice-aggregate-test-input-3 c = sym (length-take-le (c .before .before .before .before .before .before .before .before .before .before .before .before .before .before .before .before .before .before .before .args .scan .tasks) (c .before .before .before .before .before .before .before .before .before .before .before .before .before .before .before .before .before .before .before .args .heights .now) (omega (arith, leb-true (c .before .before .before .before .before .before .before .before .before .before .before .before .before .before .before .before .before .before .before .args .scan .tasks) mostTasks (sym (c .before .before .before .before .is-count2 .ensures) ∙ c .before .before .before .if3 .taken), c .before .before .before .before .before .before .before .before .before .before .before .before .before .before .before .before .before .before .before .pre .task-room, c .before .before .before .before .before .before .before .before .before .before .before .before .before .before .before .before .before .before .before .pre .size .one-height)))
+slice-aggregate-test-plan-3 c = sym (length-take-le (c .before .before .before .before .before .before .before .before .before .before .before .before .before .before .before .before .before .before .before .args .scan .tasks) (c .before .before .before .before .before .before .before .before .before .before .before .before .before .before .before .before .before .before .before .args .heights .now) (omega (arith, leb-true (c .before .before .before .before .before .before .before .before .before .before .before .before .before .before .before .before .before .before .before .args .scan .tasks) mostTasks (sym (c .before .before .before .before .is-count2 .ensures) ∙ c .before .before .before .if3 .taken), c .before .before .before .before .before .before .before .before .before .before .before .before .before .before .before .before .before .before .before .pre .task-room, c .before .before .before .before .before .before .before .before .before .before .before .before .before .before .before .before .before .before .before .pre .size .one-height)))
 
-mul-test-input : tie.Need-mul-test-input
+mul-test-plan : tie.Need-mul-test-plan
 unfolding isTaskCount
-mul-test-input c = omega (arith, leb-true (c .before .before .before .before .before .before .before .before .before .before .before .before .before .before .before .before .before .before .before .before .args .scan .tasks) mostTasks (sym (c .before .before .before .before .before .is-count2 .ensures) ∙ c .before .before .before .before .if3 .taken))
+mul-test-plan c = omega (arith, leb-true (c .before .before .before .before .before .before .before .before .before .before .before .before .before .before .before .before .before .before .before .before .args .scan .tasks) mostTasks (sym (c .before .before .before .before .before .is-count2 .ensures) ∙ c .before .before .before .before .if3 .taken))
 
-slice-aggregate-test-input-4 : tie.Need-slice-aggregate-test-input-4
+slice-aggregate-test-plan-4 : tie.Need-slice-aggregate-test-plan-4
 unfolding isTaskCount
-slice-aggregate-test-input-4 c = sym (length-take-le (6 * c .before .before .before .before .before .before .before .before .before .before .before .before .before .before .before .before .before .before .before .before .before .args .scan .tasks) (c .before .before .before .before .before .before .before .before .before .before .before .before .before .before .before .before .before .before .before .before .before .args .boxes .now) (omega (arith, leb-true (c .before .before .before .before .before .before .before .before .before .before .before .before .before .before .before .before .before .before .before .before .before .args .scan .tasks) mostTasks (sym (c .before .before .before .before .before .before .is-count2 .ensures) ∙ c .before .before .before .before .before .if3 .taken), c .before .before .before .before .before .before .before .before .before .before .before .before .before .before .before .before .before .before .before .before .before .pre .task-room, c .before .before .before .before .before .before .before .before .before .before .before .before .before .before .before .before .before .before .before .before .before .pre .size .one-box)))
+slice-aggregate-test-plan-4 c = sym (length-take-le (6 * c .before .before .before .before .before .before .before .before .before .before .before .before .before .before .before .before .before .before .before .before .before .args .scan .tasks) (c .before .before .before .before .before .before .before .before .before .before .before .before .before .before .before .before .before .before .before .before .before .args .boxes .now) (omega (arith, leb-true (c .before .before .before .before .before .before .before .before .before .before .before .before .before .before .before .before .before .before .before .before .before .args .scan .tasks) mostTasks (sym (c .before .before .before .before .before .before .is-count2 .ensures) ∙ c .before .before .before .before .before .if3 .taken), c .before .before .before .before .before .before .before .before .before .before .before .before .before .before .before .before .before .before .before .before .before .pre .task-room, c .before .before .before .before .before .before .before .before .before .before .before .before .before .before .before .before .before .before .before .before .before .pre .size .one-box)))
 
-test-input-requires : tie.Need-test-input-requires
+test-plan-requires : tie.Need-test-plan-requires
 unfolding isTaskCount
-test-input-requires c κs = parts-each (c .before .before .before .before .before .before .before .before .before .before .before .before .before .before .before .before .before .before .before .before .before .args .scan .tasks) _ _ _ _ (omega (arith, leb-true (c .before .before .before .before .before .before .before .before .before .before .before .before .before .before .before .before .before .before .before .before .before .args .scan .tasks) mostTasks (sym (c .before .before .before .before .before .before .is-count2 .ensures) ∙ c .before .before .before .before .before .if3 .taken), c .before .before .before .before .before .before .before .before .before .before .before .before .before .before .before .before .before .before .before .before .before .pre .task-room)) (c .before .before .before .before .before .before .before .before .before .before .before .before .before .before .before .before .before .before .before .before .before .pre .size)
+test-plan-requires c κs = parts-each (c .before .before .before .before .before .before .before .before .before .before .before .before .before .before .before .before .before .before .before .before .before .args .scan .tasks) _ _ _ _ (omega (arith, leb-true (c .before .before .before .before .before .before .before .before .before .before .before .before .before .before .before .before .before .before .before .before .before .args .scan .tasks) mostTasks (sym (c .before .before .before .before .before .before .is-count2 .ensures) ∙ c .before .before .before .before .before .if3 .taken), c .before .before .before .before .before .before .before .before .before .before .before .before .before .before .before .before .before .before .before .before .before .pre .task-room)) (c .before .before .before .before .before .before .before .before .before .before .before .before .before .before .before .before .before .before .before .before .before .pre .size)
 
 returns-4 : tie.Need-returns-4
 unfolding isTaskCount
-returns-4 c = λ r held. c .test-input .ensures ∙ read-plan held (if-some _ _ _ (sym (c .before .before .before .before .before .before .before .before .before .before .before .before .before .before .before .of-plan .ensures) ∙ ap durationMade (c .before .before .before .before .before .before .before .before .before .before .before .before .before .enum-told .given .1)) .0) (sym (c .before .before .before .before .before .before .before .before .before .before .before .before .is-count .ensures) ∙ not-false _ (c .before .before .before .before .before .before .before .before .before .before .before .if1 .left)) (not-false _ (c .before .before .before .before .before .before .before .before .before .if2 .left)) (c .before .before .before .before .before .before .before .before .before .before .before .before .before .before .before .before .before .before .before .before .before .before .pre .room) (c .before .before .before .before .before .before .before .before .before .before .before .before .before .before .before .before .before .before .before .before .before .before .pre .task-room) (c .before .before .before .before .before .before .before .before .before .before .before .before .before .before .before .before .before .before .before .before .before .before .pre .size) (leb-true (c .before .before .before .before .before .before .before .before .before .before .before .before .before .before .before .before .before .before .before .before .before .before .args .scan .tasks) mostTasks (sym (c .before .before .before .before .before .before .before .is-count2 .ensures) ∙ c .before .before .before .before .before .before .if3 .taken))
+returns-4 c = λ r held. c .test-plan .ensures ∙ read-plan held (if-some _ _ _ (sym (c .before .before .before .before .before .before .before .before .before .before .before .before .before .before .before .of-plan .ensures) ∙ ap durationMade (c .before .before .before .before .before .before .before .before .before .before .before .before .before .enum-told .given .1)) .0) (sym (c .before .before .before .before .before .before .before .before .before .before .before .before .is-count .ensures) ∙ not-false _ (c .before .before .before .before .before .before .before .before .before .before .before .if1 .left)) (not-false _ (c .before .before .before .before .before .before .before .before .before .if2 .left)) (c .before .before .before .before .before .before .before .before .before .before .before .before .before .before .before .before .before .before .before .before .before .before .pre .room) (c .before .before .before .before .before .before .before .before .before .before .before .before .before .before .before .before .before .before .before .before .before .before .pre .task-room) (c .before .before .before .before .before .before .before .before .before .before .before .before .before .before .before .before .before .before .before .before .before .before .pre .size) (leb-true (c .before .before .before .before .before .before .before .before .before .before .before .before .before .before .before .before .before .before .before .before .before .before .args .scan .tasks) mostTasks (sym (c .before .before .before .before .before .before .before .is-count2 .ensures) ∙ c .before .before .before .before .before .before .if3 .taken))
 
-slice-aggregate-test-input-5 : tie.Need-slice-aggregate-test-input-5
-slice-aggregate-test-input-5 c = search needs
+slice-aggregate-test-plan-5 : tie.Need-slice-aggregate-test-plan-5
+slice-aggregate-test-plan-5 c = search needs
 
-slice-aggregate-test-input-6 : tie.Need-slice-aggregate-test-input-6
-slice-aggregate-test-input-6 c = search needs
+slice-aggregate-test-plan-6 : tie.Need-slice-aggregate-test-plan-6
+slice-aggregate-test-plan-6 c = search needs
 
-slice-aggregate-test-input-7 : tie.Need-slice-aggregate-test-input-7
-slice-aggregate-test-input-7 c = search needs
+slice-aggregate-test-plan-7 : tie.Need-slice-aggregate-test-plan-7
+slice-aggregate-test-plan-7 c = search needs
 
-slice-aggregate-test-input-8 : tie.Need-slice-aggregate-test-input-8
-slice-aggregate-test-input-8 c = search needs
+slice-aggregate-test-plan-8 : tie.Need-slice-aggregate-test-plan-8
+slice-aggregate-test-plan-8 c = search needs
 
-test-input-requires-2 : tie.Need-test-input-requires-2
+test-plan-requires-2 : tie.Need-test-plan-requires-2
 unfolding oneForEachTask _and_
-test-input-requires-2 c κs = refl
+test-plan-requires-2 c κs = refl
 
 enum-told-3 : tie.Need-enum-told-3
 enum-told-3 c = search needs
@@ -99,7 +99,7 @@ returns-5 c =
     λ r held.
     let told = ap testedFault (c .enum-told4 .given .1) in
     told
-    ∙ sym (else-some _ _ _ (sym (c .before .before .test-input2 .ensures) ∙ told))
+    ∙ sym (else-some _ _ _ (sym (c .before .before .test-plan2 .ensures) ∙ told))
     ∙ read-crowded held (if-some _ _ _ (sym (c .before .before .before .before .before .before .before .before .before .before .before .before .before .before .before .before .of-plan .ensures) ∙ ap durationMade (c .before .before .before .before .before .before .before .before .before .before .before .before .before .before .enum-told .given .1)) .0) (sym (c .before .before .before .before .before .before .before .before .before .before .before .before .before .is-count .ensures) ∙ not-false _ (c .before .before .before .before .before .before .before .before .before .before .before .before .if1 .left)) (not-false _ (c .before .before .before .before .before .before .before .before .before .before .if2 .left)) (c .before .before .before .before .before .before .before .before .before .before .before .before .before .before .before .before .before .before .before .before .before .before .before .pre .room) (c .before .before .before .before .before .before .before .before .before .before .before .before .before .before .before .before .before .before .before .before .before .before .before .pre .task-room) (c .before .before .before .before .before .before .before .before .before .before .before .before .before .before .before .before .before .before .before .before .before .before .before .pre .size) (leb-false (c .before .before .before .before .before .before .before .before .before .before .before .before .before .before .before .before .before .before .before .before .before .before .before .args .scan .tasks) mostTasks (sym (c .before .before .before .before .before .before .before .before .is-count2 .ensures) ∙ c .before .before .before .before .before .before .before .if3 .left))
 
 returns-6 : tie.Need-returns-6
@@ -107,7 +107,7 @@ unfolding isTaskCount
 returns-6 c =
     λ r held.
     let told = ap testedFault (c .enum-told3 .given .1) in
-    sym (else-none _ _ (sym (c .before .before .test-input2 .ensures) ∙ told))
+    sym (else-none _ _ (sym (c .before .before .test-plan2 .ensures) ∙ told))
     ∙ read-crowded held (if-some _ _ _ (sym (c .before .before .before .before .before .before .before .before .before .before .before .before .before .before .before .before .of-plan .ensures) ∙ ap durationMade (c .before .before .before .before .before .before .before .before .before .before .before .before .before .before .enum-told .given .1)) .0) (sym (c .before .before .before .before .before .before .before .before .before .before .before .before .before .is-count .ensures) ∙ not-false _ (c .before .before .before .before .before .before .before .before .before .before .before .before .if1 .left)) (not-false _ (c .before .before .before .before .before .before .before .before .before .before .if2 .left)) (c .before .before .before .before .before .before .before .before .before .before .before .before .before .before .before .before .before .before .before .before .before .before .before .pre .room) (c .before .before .before .before .before .before .before .before .before .before .before .before .before .before .before .before .before .before .before .before .before .before .before .pre .task-room) (c .before .before .before .before .before .before .before .before .before .before .before .before .before .before .before .before .before .before .before .before .before .before .before .pre .size) (leb-false (c .before .before .before .before .before .before .before .before .before .before .before .before .before .before .before .before .before .before .before .before .before .before .before .args .scan .tasks) mostTasks (sym (c .before .before .before .before .before .before .before .before .is-count2 .ensures) ∙ c .before .before .before .before .before .before .before .if3 .left))
 
 pub test-read-spec : {M : Type 1} → statement M
@@ -124,18 +124,18 @@ test-read-spec =
     returns-3
     slice-aggregate-calendars
     is-count-requires-2
-    slice-aggregate-test-input
-    slice-aggregate-test-input-2
-    slice-aggregate-test-input-3
-    mul-test-input
-    slice-aggregate-test-input-4
-    test-input-requires
+    slice-aggregate-test-plan
+    slice-aggregate-test-plan-2
+    slice-aggregate-test-plan-3
+    mul-test-plan
+    slice-aggregate-test-plan-4
+    test-plan-requires
     returns-4
-    slice-aggregate-test-input-5
-    slice-aggregate-test-input-6
-    slice-aggregate-test-input-7
-    slice-aggregate-test-input-8
-    test-input-requires-2
+    slice-aggregate-test-plan-5
+    slice-aggregate-test-plan-6
+    slice-aggregate-test-plan-7
+    slice-aggregate-test-plan-8
+    test-plan-requires-2
     enum-told-3
     enum-told-4
     returns-5

@@ -25,8 +25,8 @@ returns-2 : tie.Need-returns-2
 unfolding isSized taskCount
 returns-2 c = checks-as _ _ _ _ (sym (refuse _ 31 0 _ (not-right _ _ (sym (c .before .has-triples .ensures) ∙ not-true _ (c .if2 .taken)))))
 
-test-input-requires : tie.Need-test-input-requires
-test-input-requires c κs = sym (c .before .before .before .has-one-for-each-task .ensures) ∙ not-false _ (c .before .before .if1 .left)
+test-plan-requires : tie.Need-test-plan-requires
+test-plan-requires c κs = sym (c .before .before .before .has-one-for-each-task .ensures) ∙ not-false _ (c .before .before .if1 .left)
 
 enum-told : tie.Need-enum-told
 enum-told c = search needs
@@ -38,12 +38,12 @@ returns-3 : tie.Need-returns-3
 returns-3 c =
     let size = right-size _ _ _ _ _ (c .before .before .before .before .before .before .has-one-for-each-task .ensures) (c .before .before .before .before .before .if1 .left) (c .before .before .before .before .has-triples .ensures) (c .before .before .before .if2 .left) in
     let told = ap testedFault (c .enum-told2 .given .1) in
-    checks-as _ _ _ _ (told ∙ sym (go-on _ 31 0 _ size ∙ else-some _ _ _ (sym (c .before .before .test-input .ensures) ∙ told)))
+    checks-as _ _ _ _ (told ∙ sym (go-on _ 31 0 _ size ∙ else-some _ _ _ (sym (c .before .before .test-plan .ensures) ∙ told)))
 
 test-triples-requires : tie.Need-test-triples-requires
 test-triples-requires c κs =
     let size = right-size _ _ _ _ _ (c .before .before .before .before .before .before .has-one-for-each-task .ensures) (c .before .before .before .before .before .if1 .left) (c .before .before .before .before .has-triples .ensures) (c .before .before .before .if2 .left) in
-    triples-ready _ _ _ size (sym (c .before .before .test-input .ensures) ∙ ap testedFault (c .enum-told .given .1))
+    triples-ready _ _ _ size (sym (c .before .before .test-plan .ensures) ∙ ap testedFault (c .enum-told .given .1))
 
 enum-told-3 : tie.Need-enum-told-3
 enum-told-3 c = search needs
@@ -55,20 +55,20 @@ returns-4 : tie.Need-returns-4
 unfolding scheduleFault
 returns-4 c =
     let size = right-size _ _ _ _ _ (c .before .before .before .before .before .before .before .before .before .has-one-for-each-task .ensures) (c .before .before .before .before .before .before .before .before .if1 .left) (c .before .before .before .before .before .before .before .has-triples .ensures) (c .before .before .before .before .before .before .if2 .left) in
-    let passes = sym (c .before .before .before .before .before .test-input .ensures) ∙ ap testedFault (c .before .before .before .enum-told .given .1) in
+    let passes = sym (c .before .before .before .before .before .test-plan .ensures) ∙ ap testedFault (c .before .before .before .enum-told .given .1) in
     let told = ap testedFault (c .enum-told4 .given .1) in
     checks-as _ _ _ _ (told ∙ sym (go-on _ 31 0 _ size ∙ else-none _ _ passes ∙ else-some _ _ _ (sym (c .before .before .test-triples .ensures ∙ triples-are _ _ _) ∙ told)))
 
 test-hours-requires : tie.Need-test-hours-requires
 test-hours-requires c κs =
     let size = right-size _ _ _ _ _ (c .before .before .before .before .before .before .before .before .before .has-one-for-each-task .ensures) (c .before .before .before .before .before .before .before .before .if1 .left) (c .before .before .before .before .before .before .before .has-triples .ensures) (c .before .before .before .before .before .before .if2 .left) in
-    hours-ready _ _ _ size (sym (c .before .before .before .before .before .test-input .ensures) ∙ ap testedFault (c .before .before .before .enum-told .given .1))
+    hours-ready _ _ _ size (sym (c .before .before .before .before .before .test-plan .ensures) ∙ ap testedFault (c .before .before .before .enum-told .given .1))
 
 returns-5 : tie.Need-returns-5
 unfolding scheduleFault
 returns-5 c =
     let size = right-size _ _ _ _ _ (c .before .before .before .before .before .before .before .before .before .before .has-one-for-each-task .ensures) (c .before .before .before .before .before .before .before .before .before .if1 .left) (c .before .before .before .before .before .before .before .before .has-triples .ensures) (c .before .before .before .before .before .before .before .if2 .left) in
-    let passes = sym (c .before .before .before .before .before .before .test-input .ensures) ∙ ap testedFault (c .before .before .before .before .enum-told .given .1) in
+    let passes = sym (c .before .before .before .before .before .before .test-plan .ensures) ∙ ap testedFault (c .before .before .before .before .enum-told .given .1) in
     let triples = sym (c .before .before .before .test-triples .ensures ∙ triples-are _ _ _) ∙ ap testedFault (c .before .enum-told3 .given .1) in
     checks-as _ _ _ _ (c .test-hours .ensures ∙ hours-are _ _ (same-heights _ _ _ size passes) ∙ sym (go-on _ 31 0 _ size ∙ else-none _ _ passes ∙ else-none _ _ triples))
 
@@ -80,7 +80,7 @@ test-schedule-spec =
     returns
     has-triples-requires
     returns-2
-    test-input-requires
+    test-plan-requires
     enum-told
     enum-told-2
     returns-3

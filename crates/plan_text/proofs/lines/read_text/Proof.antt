@@ -7,67 +7,50 @@ use borrow.Author.Needs.{needs}
 use Rattle.plan_text.proofs.lines.read_text.Statement.{statement}
 use Rattle.plan_text.proofs.lines.read_text.Tie as tie
 
-read-lines-requires : tie.Need-read-lines-requires
-read-lines-requires c κs = search needs
+-- The places that answers look back to: the entry, from the branch; and of each arm, the call and the branch.
+abbrev entry : tie.After-slice-known5 → tie.Start
+entry c = c .before .before .before .before .before .before
 
-same-length : tie.Need-same-length
-same-length c = search needs
+abbrev short : tie.After-slice-known10 → tie.After-read-lines
+short c = c .before .before .before .before .before .before .before .before .before .before
 
-same-length-2 : tie.Need-same-length-2
-same-length-2 c = search needs
+abbrev long : tie.After-slice-known15 → tie.After-read-lines2
+long c = c .before .before .before .before .before .before .before .before .before .before
 
-same-length-3 : tie.Need-same-length-3
-same-length-3 c = search needs
-
-same-length-4 : tie.Need-same-length-4
-same-length-4 c = search needs
-
-same-length-5 : tie.Need-same-length-5
-same-length-5 c = search needs
+abbrev over : tie.After-read-lines-arg11 → tie.Else1
+over c = c .before .before .before .before .before .before
 
 returns : tie.Need-returns
-returns c = scans _ _ _ _ _ _ (text-short _ (c .before .before .before .before .before .before .before .before .before .before .before .before .before .before .before .before .if1 .taken)) (c .before .before .before .before .before .before .before .before .before .before .read-lines .ensures)
+returns c =
+    scans _ _ _ _ _ _ (text-short _ (short c .before .before .before .before .before .before .if1 .taken)) (short c .read-lines .ensures)
 
 slice-aggregate-read-lines : tie.Need-slice-aggregate-read-lines
-slice-aggregate-read-lines c = sym (length-take-le mostBytes (c .before .before .before .before .before .before .before .before .args .text .now) (omega arith))
+slice-aggregate-read-lines c = sym (length-take-le mostBytes (entry (c .before .before) .args .text .now) (omega arith))
 
 read-lines-requires-2 : tie.Need-read-lines-requires-2
-read-lines-requires-2 c κs = (omega (arith, length-take-le mostBytes (c .before .before .before .before .before .before .before .before .before .before .before .before .before .args .text .now) (omega (arith, c .before .before .before .before .before .before .if1 .left))), c .before .before .before .before .before .before .before .before .before .before .before .before .before .pre)
-
-same-length-6 : tie.Need-same-length-6
-same-length-6 c = search needs
-
-same-length-7 : tie.Need-same-length-7
-same-length-7 c = search needs
-
-same-length-8 : tie.Need-same-length-8
-same-length-8 c = search needs
-
-same-length-9 : tie.Need-same-length-9
-same-length-9 c = search needs
-
-same-length-10 : tie.Need-same-length-10
-same-length-10 c = search needs
+read-lines-requires-2 c κs =
+    let t = entry (over c .before) in
+    (omega (arith, length-take-le mostBytes (t .args .text .now) (omega (arith, over c .if1 .left))), t .pre)
 
 returns-2 : tie.Need-returns-2
-returns-2 c = scans _ _ _ _ _ _ (text-long _ (c .before .before .before .before .before .before .before .before .before .before .before .before .before .before .before .before .before .if1 .left)) (c .before .before .before .before .before .before .before .before .before .before .read-lines2 .ensures)
+returns-2 c = scans _ _ _ _ _ _ (text-long _ (over (long c .before) .if1 .left)) (long c .read-lines2 .ensures)
 
 pub read-text-spec : {M : Type 1} → statement M
 read-text-spec =
     tie.close
     (tie.spec
-    read-lines-requires
-    same-length
-    same-length-2
-    same-length-3
-    same-length-4
-    same-length-5
+    (λ c κs. search needs)
+    (λ c. short c .read-lines .kept .1 .1 .0)
+    (λ c. short c .read-lines .kept .1 .1 .1 .0)
+    (λ c. short c .read-lines .kept .1 .1 .1 .1 .0)
+    (λ c. short c .read-lines .kept .1 .1 .1 .1 .1 .0)
+    (λ c. short c .read-lines .kept .1 .1 .1 .1 .1 .1 .0)
     returns
     slice-aggregate-read-lines
     read-lines-requires-2
-    same-length-6
-    same-length-7
-    same-length-8
-    same-length-9
-    same-length-10
+    (λ c. long c .read-lines2 .kept .1 .1 .0)
+    (λ c. long c .read-lines2 .kept .1 .1 .1 .0)
+    (λ c. long c .read-lines2 .kept .1 .1 .1 .1 .0)
+    (λ c. long c .read-lines2 .kept .1 .1 .1 .1 .1 .0)
+    (λ c. long c .read-lines2 .kept .1 .1 .1 .1 .1 .1 .0)
     returns-2)

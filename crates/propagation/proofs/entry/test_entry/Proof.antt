@@ -17,12 +17,12 @@ has-one-for-each-step-requires c κs = search needs
 returns-2 : tie.Need-returns-2
 returns-2 c = sym (other-steps _ _ _ _ _ (sym (c .before .has-one-for-each-step .ensures) ∙ not-true _ (c .if2 .taken)))
 
-test-input-requires : tie.Need-test-input-requires
-test-input-requires c κs = sym (c .before .before .before .has-one-for-each-task .ensures) ∙ not-false _ (c .before .before .if1 .left)
+test-plan-requires : tie.Need-test-plan-requires
+test-plan-requires c κs = sym (c .before .before .before .has-one-for-each-task .ensures) ∙ not-false _ (c .before .before .if1 .left)
 
 returns-3 : tie.Need-returns-3
 returns-3 c =
-    c .test-input .ensures
+    c .test-plan .ensures
     ∙ sym
     (right-size _ _ _ _ _ (sym (c .before .before .before .before .has-one-for-each-task .ensures) ∙ not-false _ (c .before .before .before .if1 .left)) (sym (c .before .before .has-one-for-each-step .ensures) ∙ not-false _ (c .before .if2 .left)))
 
@@ -34,5 +34,5 @@ test-entry-spec =
     returns
     has-one-for-each-step-requires
     returns-2
-    test-input-requires
+    test-plan-requires
     returns-3)

@@ -1,7 +1,7 @@
 use mathlib.Core.Path.{sym}
 use borrow.Author.Needs.{needs}
 use Rattle.units.proofs.Choices.{if-true, if-false}
-use Rattle.propagation.specs.Finding.{endHour}
+use Rattle.propagation.specs.inner.Finding.{endHour}
 use Rattle.propagation.proofs.first.end_hour.Statement.{statement}
 use Rattle.propagation.proofs.first.end_hour.Tie as tie
 

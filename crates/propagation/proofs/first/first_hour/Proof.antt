@@ -1,6 +1,6 @@
 use mathlib.Core.Path.{sym}
 use Rattle.units.proofs.Choices.{if-true, if-false}
-use Rattle.propagation.specs.Finding.{firstHour}
+use Rattle.propagation.specs.inner.Finding.{firstHour}
 use Rattle.propagation.proofs.first.first_hour.Statement.{statement}
 use Rattle.propagation.proofs.first.first_hour.Tie as tie
 

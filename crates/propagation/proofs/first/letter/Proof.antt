@@ -1,6 +1,6 @@
 use mathlib.Core.Path.{sym}
 use Rattle.units.proofs.Choices.{if-true, if-false}
-use Rattle.propagation.specs.Finding.{letterOf}
+use Rattle.propagation.specs.inner.Finding.{letterOf}
 use Rattle.propagation.proofs.first.letter.Statement.{statement}
 use Rattle.propagation.proofs.first.letter.Tie as tie
 

@@ -1,7 +1,7 @@
 use mathlib.Core.Path.{ap}
 use native.Mathlib.Omega.{arith}
 use borrow.Author.Needs.{needs}
-use Rattle.propagation.specs.Kept.{foundStep}
+use Rattle.propagation.specs.inner.Kept.{foundStep}
 use Rattle.propagation.proofs.Findings.{next-calendar, next-by-load}
 use Rattle.propagation.proofs.Filling.{zeros, lent-length, back-room, back-hours, back-ready, back-loaded}
 use Rattle.propagation.proofs.first.next_step.Statement.{statement}

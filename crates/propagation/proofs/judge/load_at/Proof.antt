@@ -5,7 +5,7 @@ use native.Mathlib.Omega.{arith}
 use lib.ListN.{length}
 use borrow.Author.Needs.{needs}
 use Rattle.units.specs.Sums.{sumTo, sumWhere}
-use Rattle.propagation.specs.Kept.{loadOf}
+use Rattle.propagation.specs.inner.Kept.{loadOf}
 use Rattle.propagation.proofs.Deciding.{loadTo, load-never, load-rests, load-runs, load-small}
 use Rattle.propagation.proofs.judge.load_at.Statement.{statement}
 use Rattle.propagation.proofs.judge.load_at.Tie as tie

@@ -21,7 +21,7 @@ enum-told : tie.Need-enum-told
 enum-told c = search needs
 
 replay-log-requires : tie.Need-replay-log-requires
-replay-log-requires c κs = passes _ _ _ _ _ (sym (c .before .before .before .test-entry .ensures) ∙ ap testedFault (c .before .enum-told .given .1))
+replay-log-requires c κs = (passes _ _ _ _ _ (sym (c .before .before .before .test-entry .ensures) ∙ ap testedFault (c .before .enum-told .given .1)), search needs)
 
 same-length-2 : tie.Need-same-length-2
 same-length-2 c = search needs

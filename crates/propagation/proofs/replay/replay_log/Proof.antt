@@ -1,142 +1,120 @@
-use mathlib.Core.Path.{_≡_, refl, ap, _∙_}
-use Prim.Native.Nat.{ℕ, _-_, _≤_}
+use mathlib.Core.Path.{_≡_, refl, _∙_}
+use Prim.Native.Nat.{_-_, _≤_}
 use native.Mathlib.Omega.{arith}
 use lib.ListN.{length}
-use Rattle.plan.specs.Refusals.{answered}
 use borrow.Author.Needs.{needs}
 use Rattle.plan.specs.Plan.{plan, taskCount}
 use Rattle.propagation.specs.Entry.{stepAt}
 use Rattle.propagation.proofs.Fits.{fitting, fit-alone}
 use Rattle.propagation.proofs.Keeping.{ready}
-use Rattle.propagation.proofs.Turns.{one-each}
-use Rattle.propagation.proofs.Replaying.{Replaying, replay-opens, replay-done, replay-13, replay-11, replay-12, replay-stops, replay-moves, moves-task, passes-moved}
+use Rattle.propagation.proofs.Replaying.{below, Replaying, may-move, replay-opens, replay-done, replay-13}
+use Rattle.propagation.proofs.Replaying.{replay-11, replay-12, replay-stops, replay-moves}
 use Rattle.propagation.proofs.replay.replay_log.Statement.{statement}
 use Rattle.propagation.proofs.replay.replay_log.Tie as tie
 
 abbrev Inv-loop : tie.InvT-loop
-Inv-loop hours capacity calendars task-calendars work-times heights boxes₀ log-kinds log-tasks log-hours fits₀ said₀ k₀ k-end boxes fits said k =
-    (k ≤ k-end)
-    × (k-end ≡ length log-kinds)
-    × Replaying (plan (hours .0) capacity calendars task-calendars work-times heights) boxes₀ log-kinds log-tasks log-hours k said boxes fits
+Inv-loop h cap cs tc wt hs boxes₀ kinds tasks hours from said₀ _ _ _ k-end boxes fits said k =
+    (k ≤ k-end) × (k-end ≡ length kinds) × Replaying (plan (h .0) cap cs tc wt hs) from said₀ boxes₀ kinds tasks hours k said boxes fits
 
 abbrev μ-loop : tie.MeasureT-loop
-μ-loop hours capacity calendars task-calendars work-times heights boxes₀ log-kinds log-tasks log-hours fits₀ said₀ k₀ k-end boxes fits said k = k-end - k
+μ-loop _ _ _ _ _ _ _ _ _ _ _ _ _ _ _ k-end _ _ _ k = k-end - k
+
+-- The places that answers look back to: the entry; a turn's way on, its head, and the judgement.
+abbrev entry : tie.After-all-fits-arg Inv-loop μ-loop → tie.Start Inv-loop μ-loop
+entry c = c .before .before .before .before .before .before .before .before .before
+
+abbrev going : tie.After-judge-step Inv-loop μ-loop → tie.Else1 Inv-loop μ-loop
+going c = c .before .before .before .before .before
+
+abbrev head : tie.Else1 Inv-loop μ-loop → tie.At-loop Inv-loop μ-loop
+head c = c .before .before
+
+abbrev number : tie.At-loop Inv-loop μ-loop → tie.Start Inv-loop μ-loop
+number c = entry (c .before .before)
+
+abbrev judged : tie.After-known-told Inv-loop μ-loop → tie.After-judge-step Inv-loop μ-loop
+judged c = c .before .before .before
 
 all-fits-requires : tie.Need-all-fits-requires Inv-loop μ-loop
 unfolding taskCount
-all-fits-requires c κs = (c .before .before .before .before .before .before .before .before .before .pre .0 .tasks, λ i l. fitting _ _ (c .before .before .before .before .before .before .before .before .before .pre .0) i l)
+all-fits-requires c κs = (entry c .pre .0 .0 .tasks, λ i l. fitting _ _ (entry c .pre .0 .0) i l)
 
 loop-holds : tie.Need-loop-holds Inv-loop μ-loop
 unfolding taskCount
-loop-holds c = (omega arith, refl, replay-opens _ _ _ _ _ _ (c .before .before .before .before .before .before .before .before .before .before .pre .0) (λ i l. c .all-fits .ensures .1 i l ∙ fit-alone _ _ i) (c .all-fits .ensures .0))
+loop-holds c =
+    (omega arith, refl, replay-opens (entry (c .before) .pre .0) (λ i l. c .all-fits .ensures .1 i l ∙ fit-alone _ _ i) (c .all-fits .ensures .0))
 
-same-length : tie.Need-same-length Inv-loop μ-loop
-same-length c = c .before .before .loop .inv .2 .keeps .same
+add-t25 : tie.Need-add-t25 Inv-loop μ-loop
+add-t25 c = let h = c in omega (arith, h .before .loop-test .taken, h .before .before .loop .inv .1, number (h .before .before) .pre .1)
 
 returns : tie.Need-returns Inv-loop μ-loop
-returns c =
-    let r = replay-13 _ _ _ _ _ _ _ _ _ (c .before .before .loop .inv .2) (omega arith) (c .if1 .taken) in
-    (r .answers, r .leaves)
-
-mul-task : tie.Need-mul-task Inv-loop μ-loop
-mul-task c = search needs
+returns c = replay-13 (c .before .before .loop .inv .2) (omega arith) (c .if1 .taken)
 
 shared-slice-read-task : tie.Need-shared-slice-read-task Inv-loop μ-loop
-shared-slice-read-task c = omega (arith, one-each _ _ _ (c .before .before .before .before .before .before .before .before .before .before .before .before .before .before .pre .1), c .before .before .loop-test .taken, c .before .before .before .loop .inv .1)
+shared-slice-read-task c = let g = c .before in omega (arith, g .before .loop-test .taken, head g .loop .inv)
 
 shared-slice-read-t29 : tie.Need-shared-slice-read-t29 Inv-loop μ-loop
-shared-slice-read-t29 c = search needs
+shared-slice-read-t29 c = let g = c .before .before .before in omega (arith, g .before .loop-test .taken, head g .loop .inv)
 
-mul-t25 : tie.Need-mul-t25 Inv-loop μ-loop
-mul-t25 c = search needs
-
-shared-slice-read-t27 : tie.Need-shared-slice-read-t27 Inv-loop μ-loop
-shared-slice-read-t27 c = omega (arith, one-each _ _ _ (c .before .before .before .before .before .before .before .before .before .before .before .before .before .before .before .before .pre .1), c .before .before .before .before .loop-test .taken, c .before .before .before .before .before .loop .inv .1)
-
-judge-step-requires : tie.Need-judge-step-requires Inv-loop μ-loop
-judge-step-requires c κs = ready _ _ (c .before .before .before .before .before .before .loop .inv .2 .keeps .passed)
-
-enum-told : tie.Need-enum-told Inv-loop μ-loop
-enum-told c = search needs
-
-same-length-2 : tie.Need-same-length-2 Inv-loop μ-loop
-same-length-2 c = c .before .before .before .before .before .before .before .before .before .loop .inv .2 .keeps .same
+add-t35 : tie.Need-add-t35 Inv-loop μ-loop
+add-t35 c = let h = going (c .before .before) in omega (arith, h .before .loop-test .taken, h .before .before .loop .inv .1, number (h .before .before) .pre .1)
 
 returns-2 : tie.Need-returns-2 Inv-loop μ-loop
 unfolding stepAt
 returns-2 c =
-    let r = replay-11 _ _ _ _ _ _ _ _ _ (c .before .before .before .before .before .before .before .before .before .loop .inv .2) (omega arith) (c .before .before .before .before .before .before .before .if1 .left) _ (c .before .before .judge-step .ensures) (c .enum-told .given .1) in
-    (r .answers, r .leaves)
+    let g = going (c .before .before) in
+    replay-11 (head g .loop .inv .2) (below (g .before .loop-test .taken) (head g .loop .inv .1)) (g .if1 .left)
+    (c .before .before .judge-step .ensures) (c .enum-told .given .1)
 
-enum-told-2 : tie.Need-enum-told-2 Inv-loop μ-loop
-enum-told-2 c = search needs
-
-same-length-3 : tie.Need-same-length-3 Inv-loop μ-loop
-same-length-3 c = c .before .before .before .before .before .before .before .before .before .loop .inv .2 .keeps .same
+add-t37 : tie.Need-add-t37 Inv-loop μ-loop
+add-t37 c = let h = going (c .before .before) in omega (arith, h .before .loop-test .taken, h .before .before .loop .inv .1, number (h .before .before) .pre .1)
 
 returns-3 : tie.Need-returns-3 Inv-loop μ-loop
 unfolding stepAt
 returns-3 c =
-    let r = replay-12 _ _ _ _ _ _ _ _ _ (c .before .before .before .before .before .before .before .before .before .loop .inv .2) (omega arith) (c .before .before .before .before .before .before .before .if1 .left) _ (c .before .before .judge-step .ensures) (c .enum-told2 .given .1) in
-    (r .answers, r .leaves)
-
-enum-told-3 : tie.Need-enum-told-3 Inv-loop μ-loop
-enum-told-3 c = search needs
+    let g = going (c .before .before) in
+    replay-12 (head g .loop .inv .2) (below (g .before .loop-test .taken) (head g .loop .inv .1)) (g .if1 .left)
+    (c .before .before .judge-step .ensures) (c .enum-told2 .given .1)
 
 add-k : tie.Need-add-k Inv-loop μ-loop
-add-k c = omega (arith, c .before .before .before .before .before .before .before .before .loop-test .taken, c .before .before .before .before .before .before .before .before .before .loop .inv, c .before .before .before .before .before .before .before .before .before .before .before .before .before .before .before .before .before .before .before .before .good)
-
-loop-less : tie.Need-loop-less Inv-loop μ-loop
-loop-less c = omega (arith, c .before .before .before .before .before .before .before .before .loop-test .taken)
+add-k c = let g = going (c .before .before) in omega (arith, g .before .loop-test .taken, head g .loop .inv, entry (head g .before .before) .good)
 
 loop-again : tie.Need-loop-again Inv-loop μ-loop
 unfolding stepAt
-loop-again c = (omega (arith, c .before .before .before .before .before .before .before .before .loop-test .taken), c .before .before .before .before .before .before .before .before .before .loop .inv .1, replay-stops _ _ _ _ _ _ _ _ _ (c .before .before .before .before .before .before .before .before .before .loop .inv .2) (omega arith) (c .before .before .before .before .before .before .before .if1 .left) _ (c .before .before .judge-step .ensures) (c .enum-told3 .given .1))
+loop-again c =
+    let g = going (c .before .before) in (
+      omega (arith, g .before .loop-test .taken),
+      head g .loop .inv .1,
+      replay-stops (head g .loop .inv .2) (below (g .before .loop-test .taken) (head g .loop .inv .1)) (g .if1 .left) (c .before .before .judge-step .ensures) (c .enum-told3 .given .1),
+    )
 
-enum-known-judged : tie.Need-enum-known-judged Inv-loop μ-loop
-enum-known-judged c = search needs
-
-cast-i : tie.Need-cast-i Inv-loop μ-loop
-cast-i c = omega (arith, moves-task _ _ _ _ (c .before .before .before .before .before .before .before .before .before .before .loop .inv .2 .keeps) _ _ (c .before .before .before .judge-step .ensures) _ (c .before .judged .given .1), c .before .before .before .before .before .before .before .before .before .before .loop .inv .2 .keeps .passed .tasks)
-
-put-bounds-requires : tie.Need-put-bounds-requires Inv-loop μ-loop
-put-bounds-requires c κs = omega (arith, moves-task _ _ _ _ (c .before .before .before .before .before .before .before .before .before .before .before .loop .inv .2 .keeps) _ _ (c .before .before .before .before .judge-step .ensures) _ (c .before .before .judged .given .1), c .before .before .before .before .before .before .before .before .before .before .before .loop .inv .2 .keeps .passed .boxes)
-
-fit-of-requires : tie.Need-fit-of-requires Inv-loop μ-loop
-unfolding taskCount
-fit-of-requires c κs =
-    let at = c .before .before .before .before .before .before .before .before .before .before .before .before .before .before .before .loop .inv .2 .keeps in
-    fitting _ _ (passes-moved _ _ _ _ at _ _ (c .before .before .before .before .before .before .before .before .judge-step .ensures) _ (c .before .before .before .before .before .before .judged .given .1) _ (c .before .before .before .put-bounds .ensures)) _
-    (moves-task _ _ _ _ at _ _ (c .before .before .before .before .before .before .before .before .judge-step .ensures) _ (c .before .before .before .before .before .before .judged .given .1))
-
-mul-fits : tie.Need-mul-fits Inv-loop μ-loop
-mul-fits c = omega (arith, moves-task _ _ _ _ (c .before .before .before .before .before .before .before .before .before .before .before .before .before .before .before .before .loop .inv .2 .keeps) _ _ (c .before .before .before .before .before .before .before .before .before .judge-step .ensures) _ (c .before .before .before .before .before .before .before .judged .given .1), c .before .before .before .before .before .before .before .before .before .before .before .before .before .before .before .before .loop .inv .2 .keeps .passed .tasks)
-
-array-set-from-fits : tie.Need-array-set-from-fits Inv-loop μ-loop
-array-set-from-fits c = omega (arith, moves-task _ _ _ _ (c .before .before .before .before .before .before .before .before .before .before .before .before .before .before .before .before .loop .inv .2 .keeps) _ _ (c .before .before .before .before .before .before .before .before .before .judge-step .ensures) _ (c .before .before .before .before .before .before .before .judged .given .1), c .before .before .before .before .before .before .before .before .before .before .before .before .before .before .before .before .loop .inv .2 .keeps .passed .tasks)
+move-bounds-requires : tie.Need-move-bounds-requires Inv-loop μ-loop
+move-bounds-requires c κs =
+    let k = c .before in
+    may-move (head (going (judged k)) .loop .inv .2 .keeps) _ (judged k .judge-step .ensures) (k .before .judged .given .1)
 
 add-k-2 : tie.Need-add-k-2 Inv-loop μ-loop
-add-k-2 c = omega (arith, c .before .before .before .before .before .before .before .before .before .before .before .before .before .before .before .loop-test .taken, c .before .before .before .before .before .before .before .before .before .before .before .before .before .before .before .before .loop .inv, c .before .before .before .before .before .before .before .before .before .before .before .before .before .before .before .before .before .before .before .before .before .before .before .before .before .before .before .good)
-
-loop-less-2 : tie.Need-loop-less-2 Inv-loop μ-loop
-loop-less-2 c = omega (arith, c .before .before .before .before .before .before .before .before .before .before .before .before .before .before .before .loop-test .taken)
+add-k-2 c =
+    let g = going (judged (c .before .before .before .before)) in
+    omega (arith, g .before .loop-test .taken, head g .loop .inv, entry (head g .before .before) .good)
 
 loop-again-2 : tie.Need-loop-again-2 Inv-loop μ-loop
 unfolding stepAt
-loop-again-2 c = (
-  omega (arith, c .before .before .before .before .before .before .before .before .before .before .before .before .before .before .before .loop-test .taken),
-  c .before .before .before .before .before .before .before .before .before .before .before .before .before .before .before .before .loop .inv .1,
-  replay-moves _ _ _ _ _ _ _ _ _ (c .before .before .before .before .before .before .before .before .before .before .before .before .before .before .before .before .loop .inv .2) (omega arith) (c .before .before .before .before .before .before .before .before .before .before .before .before .before .before .if1 .left) _ (c .before .before .before .before .before .before .before .before .before .judge-step .ensures) _ (c .before .before .before .before .before .before .before .judged .given .1) _ _ (c .before .before .before .before .put-bounds .ensures) (c .fit-of .ensures),
-)
+loop-again-2 c =
+    let k = c .before .before .before .before in
+    let g = going (judged k) in (
+      omega (arith, g .before .loop-test .taken),
+      head g .loop .inv .1,
+      replay-moves (head g .loop .inv .2) (below (g .before .loop-test .taken) (head g .loop .inv .1)) (g .if1 .left) (judged k .judge-step .ensures) (k .before .judged .given .1)
+          (c .before .before .move-bounds .ensures),
+    )
 
-same-length-4 : tie.Need-same-length-4 Inv-loop μ-loop
-same-length-4 c = c .before .loop .inv .2 .keeps .same
+add-t42 : tie.Need-add-t42 Inv-loop μ-loop
+add-t42 c = omega (arith, number (c .before) .pre .1)
 
 returns-4 : tie.Need-returns-4 Inv-loop μ-loop
 returns-4 c =
-    let r = replay-done _ _ _ _ _ _ _ _ _ (c .before .loop .inv .2) (omega (arith, c .loop-test .left, c .before .loop .inv .1)) in
-    let e : length (c .before .before .before .before .before .before .before .before .before .before .before .before .args .log-kinds .now) ≡ c .before .loop .k = omega (arith, c .loop-test .left, c .before .loop .inv) in
-    (ap (λ (n : ℕ). answered (record { steps = n; impossible = c .before .loop .said })) e ∙ r .answers, r .leaves)
+    replay-done (c .before .loop .inv .2) (omega (arith, c .loop-test .left, c .before .loop .inv .0, c .before .loop .inv .1))
 
 pub replay-log-spec : {M : Type 1} → statement M
 replay-log-spec =
@@ -146,32 +124,32 @@ replay-log-spec =
     μ-loop
     all-fits-requires
     loop-holds
-    same-length
+    add-t25
+    (λ c. c .before .before .loop .inv .2 .keeps .same)
     returns
-    mul-task
+    (λ c. search needs)
     shared-slice-read-task
+    (λ c. search needs)
+    (λ c. search needs)
     shared-slice-read-t29
-    mul-t25
-    shared-slice-read-t27
-    judge-step-requires
-    enum-told
-    same-length-2
+    (λ c κs. ready _ _ (head (c .before .before .before .before) .loop .inv .2 .keeps .passed))
+    (λ c. search needs)
+    add-t35
+    (λ c. head (going (c .before .before)) .loop .inv .2 .keeps .same)
     returns-2
-    enum-told-2
-    same-length-3
+    (λ c. search needs)
+    add-t37
+    (λ c. head (going (c .before .before)) .loop .inv .2 .keeps .same)
     returns-3
-    enum-told-3
+    (λ c. search needs)
     add-k
-    loop-less
+    (λ c. omega (arith, going (c .before .before) .before .loop-test .taken))
     loop-again
-    enum-known-judged
-    cast-i
-    put-bounds-requires
-    fit-of-requires
-    mul-fits
-    array-set-from-fits
+    (λ c. search needs)
+    move-bounds-requires
     add-k-2
-    loop-less-2
+    (λ c. omega (arith, going (judged (c .before .before .before .before)) .before .loop-test .taken))
     loop-again-2
-    same-length-4
+    add-t42
+    (λ c. c .before .loop .inv .2 .keeps .same)
     returns-4)

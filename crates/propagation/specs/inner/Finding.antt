@@ -14,7 +14,7 @@ use Rattle.propagation.specs.declared.Step.{Step}
 use Rattle.propagation.specs.declared.Judged.{Judged}
 use Rattle.propagation.specs.Load.{mustRun}
 use Rattle.propagation.specs.Steps.{step, letterC, letterO, letterL, letterU}
-use Rattle.propagation.specs.Kept.{loadOf, onJudged, admittedBy}
+use Rattle.propagation.specs.inner.Kept.{loadOf, onJudged, admittedBy}
 
 -- a step so judged is admitted
 unfoldable pub admits : Judged → Bool
