@@ -3,8 +3,8 @@ use mathlib.Core.Path.{_≡_, ap, _∙_}
 use mathlib.Core.List.{List}
 use Prim.Native.Nat.{ℕ}
 use Rattle.plan.specs.Refusals.{Answer}
-use Rattle.propagation.specs.Log.{LogEnd}
-use Rattle.propagation.specs.Entry.{Accepted, FilterAnswer, FilterEnd, Leaves, checkAnswer}
+use Rattle.steps.specs.Log.{LogEnd}
+use Rattle.steps.specs.Entry.{Accepted, FilterAnswer, FilterEnd, Leaves, checkAnswer}
 use Rattle.plan_text.specs.Entry as reading
 use Rattle.capi.specs.Numbers.{logNumbers, filterNumbers, readNumbers}
 use Rattle.capi.specs.Leaving.{LeavesLog, LeavesRun, LeavesPlan}

@@ -2,8 +2,8 @@
 use mathlib.Core.List.{List}
 use mathlib.Core.Path.{_≡_}
 use Prim.Native.Nat.{ℕ}
-use Rattle.propagation.specs.Log.{LogEnd}
-use Rattle.propagation.specs.Entry.{FilterEnd, checkAnswer}
+use Rattle.steps.specs.Log.{LogEnd}
+use Rattle.steps.specs.Entry.{FilterEnd, checkAnswer}
 use Rattle.plan_text.specs.Entry.{ReadEnd}
 use Rattle.capi.specs.Numbers.{logNumbers, filterNumbers, readNumbers}
 

@@ -6,7 +6,7 @@ use Rattle.units.specs.Sums.{oneIf}
 use Rattle.plan.specs.Refusals.{Answer, refused, answered}
 use Rattle.calendar.specs.declared.Fit.{Fit}
 use Rattle.calendar.specs.declared.Fit.the-variants.{Never, Within}
-use Rattle.propagation.specs.Entry.{Accepted, FilterAnswer, refusedBy, noRoomFor, settledAfter, impossibleAfter}
+use Rattle.steps.specs.Entry.{Accepted, FilterAnswer, refusedBy, noRoomFor, settledAfter, impossibleAfter}
 use Rattle.plan_text.specs.Entry.{PlanRead}
 
 -- whether there is a valid triple; S, E and O, the lower bound first; ect, lct

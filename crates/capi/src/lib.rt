@@ -8,7 +8,7 @@ ghost use Rattle.plan.specs.Boxes.{boundsAt};
 ghost use Rattle.plan.specs.Lent.{old, left, oldPlan};
 ghost use Rattle.calendar.specs.Entry.{calendarRule};
 ghost use Rattle.schedule.specs.Entry.{checkSchedule};
-ghost use Rattle.propagation.specs.Entry.{checkLog, filterPlan};
+ghost use Rattle.steps.specs.Entry.{checkLog, filterPlan};
 ghost use Rattle.plan_text.specs.Entry.{readPlan};
 ghost use Rattle.listing.specs.Program.{textListing};
 ghost use Rattle.capi.specs.Numbers.{ruleNumbers, scheduleNumbers};

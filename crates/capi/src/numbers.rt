@@ -2,13 +2,13 @@
 use calendar::RuleAnswer;
 use plan::fault_of;
 use plan_text::PlanReading;
-use propagation::Filtered;
-use propagation::LogChecked;
+use steps::Filtered;
+use steps::LogChecked;
 use schedule::ScheduleChecked;
 ghost use mathlib.Core.Path.{_≡_};
 ghost use Rattle.calendar.specs.Entry.{ruleAnswer};
 ghost use Rattle.schedule.specs.Entry.{scheduleAnswer};
-ghost use Rattle.propagation.specs.Entry.{logAnswer, filterAnswer};
+ghost use Rattle.steps.specs.Entry.{logAnswer, filterAnswer};
 ghost use Rattle.plan_text.specs.Entry.{readingAnswer};
 ghost use Rattle.capi.specs.Numbers.{ruleNumbers, scheduleNumbers, logNumbers, filterNumbers, readNumbers};
 

@@ -9,7 +9,7 @@ use Rattle.units.specs.Limits.{mostTasks}
 use Rattle.units.specs.declared.Bounds.{Bounds}
 use Rattle.plan.specs.Boxes.{boundsAt}
 use Rattle.plan.specs.Refusals.{Fault}
-use Rattle.propagation.specs.Entry.{FilterAnswer, refusedBy, noRoomFor, settledAfter, impossibleAfter}
+use Rattle.steps.specs.Entry.{FilterAnswer, refusedBy, noRoomFor, settledAfter, impossibleAfter}
 use Rattle.listing.specs.Decimal.{decimalText}
 use Rattle.listing.specs.Listing.{tab, lf, numberFields, wordRoom, wordSettled, wordImpossible, wordRefused, wordTask, lineOf, taskLine, taskLines, refusedLine, listing}
 use Rattle.listing.specs.Putting.{Put, mostListing}

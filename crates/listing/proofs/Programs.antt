@@ -6,8 +6,8 @@ use lib.ListN.{length, take}
 use Rattle.units.specs.Cells.{written}
 use Rattle.plan.specs.Plan.{Plan, plan, taskCount}
 use Rattle.plan.specs.Refusals.{Fault, Answer, refused, answered, onAnswer}
-use Rattle.propagation.specs.Entry.{FilterAnswer, filterPlan}
-use Rattle.propagation.specs.Entry as entry
+use Rattle.steps.specs.Entry.{FilterAnswer, filterPlan}
+use Rattle.steps.specs.Entry as entry
 use Rattle.plan_text.specs.Entry.{PlanRead}
 use Rattle.plan_text.specs.Entry as reading
 use Rattle.listing.specs.Listing.{refusedLine, listing}

@@ -3,7 +3,7 @@ use mathlib.Core.List.{List, [], _∷_, _++_}
 use Prim.Native.Nat.{ℕ, zero, suc}
 use Rattle.plan.specs.Boxes.{boundsAt}
 use Rattle.plan.specs.Refusals.{Fault}
-use Rattle.propagation.specs.Entry.{FilterAnswer, refusedBy, noRoomFor, settledAfter, impossibleAfter}
+use Rattle.steps.specs.Entry.{FilterAnswer, refusedBy, noRoomFor, settledAfter, impossibleAfter}
 use Rattle.listing.specs.Decimal.{decimalText}
 
 abbrev pub tab : ℕ

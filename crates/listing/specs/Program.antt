@@ -5,7 +5,7 @@ use lib.ListN.{take, replicate}
 use Rattle.units.specs.Limits.{mostHours, mostCalendars, mostTasks}
 use Rattle.plan.specs.Plan.{Plan, plan, taskCount}
 use Rattle.plan.specs.Refusals.{onAnswer}
-use Rattle.propagation.specs.Entry.{filterPlan}
+use Rattle.steps.specs.Entry.{filterPlan}
 use Rattle.plan_text.specs.Entry.{PlanRead, ReadEnd, readPlan}
 use Rattle.listing.specs.Listing.{refusedLine, listing}
 

@@ -2,7 +2,7 @@
 use plan::Refusal;
 use plan::bounds_at;
 use plan::fault_of;
-use propagation::Filtered;
+use steps::Filtered;
 ghost use mathlib.Core.Path.{_≡_};
 ghost use mathlib.Core.List.{[], _∷_, _++_};
 ghost use Prim.Native.Nat.{_+_, _*_, _≤_, _<_};
@@ -11,7 +11,7 @@ ghost use Rattle.units.specs.Limits.{mostTasks};
 ghost use Rattle.units.specs.Cells.{written};
 ghost use Rattle.plan.specs.Refusals.{faultOf};
 ghost use Rattle.plan.specs.Lent.{old, left};
-ghost use Rattle.propagation.specs.Entry.{filterAnswer};
+ghost use Rattle.steps.specs.Entry.{filterAnswer};
 ghost use Rattle.listing.specs.Decimal.{digitsBy, decimalText};
 ghost use Rattle.listing.specs.Listing.{tab, lineOf, taskLines, taskLine, refusedLine, listing};
 ghost use Rattle.listing.specs.Putting.{Put, mostListing};

@@ -10,10 +10,10 @@ use Rattle.units.specs.Choice.{onOption}
 use Rattle.units.proofs.Choices.{none≢some}
 use Rattle.plan.specs.Plan.{Plan}
 use Rattle.plan.specs.Refusals.{Fault, fault}
-use Rattle.propagation.specs.declared.Step.{Step}
-use Rattle.propagation.specs.Steps.{judge, Judgement, unknown, notAdmitted, impossible, moved, onJudgement}
-use Rattle.propagation.specs.Log.{LogEnd, logEnd, replayFrom}
-use Rattle.propagation.proofs.Judgements.{judgement-all}
+use Rattle.steps.specs.declared.Step.{Step}
+use Rattle.steps.specs.Steps.{judge, Judgement, unknown, notAdmitted, impossible, moved, onJudgement}
+use Rattle.steps.specs.Log.{LogEnd, logEnd, replayFrom}
+use Rattle.steps.proofs.Judgements.{judgement-all}
 
 module _ (P : Plan) where
   -- ---- a log, and then another: the second goes on where the first is accepted

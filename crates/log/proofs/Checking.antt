@@ -15,13 +15,13 @@ use Rattle.plan.specs.Plan.{Plan}
 use Rattle.plan.specs.Refusals.{Fault, fault, unless, Answer, refused, answered, answerUnless, faultOf}
 use Rattle.plan.specs.Faults.{oneForEachTask, planFault, inputFault}
 use Rattle.plan.specs.declared.Refusal.{Refusal}
-use Rattle.propagation.specs.declared.Step.{Step}
-use Rattle.propagation.specs.declared.LogChecked.{LogChecked}
-use Rattle.propagation.specs.declared.LogChecked.the-variants as checked
-use Rattle.propagation.specs.Log.{LogEnd, logEnd, replayFrom, replay}
-use Rattle.propagation.specs.Entry.{stepsFrom, oneForEachStep, entryFault, Accepted, checkAnswer, logAnswer}
-use Rattle.propagation.specs.Entry as entry
-use Rattle.propagation.proofs.Contracts.{refused≢answered}
+use Rattle.steps.specs.declared.Step.{Step}
+use Rattle.steps.specs.declared.LogChecked.{LogChecked}
+use Rattle.steps.specs.declared.LogChecked.the-variants as checked
+use Rattle.steps.specs.Log.{LogEnd, logEnd, replayFrom, replay}
+use Rattle.steps.specs.Entry.{stepsFrom, oneForEachStep, entryFault, Accepted, checkAnswer, logAnswer}
+use Rattle.steps.specs.Entry as entry
+use Rattle.steps.proofs.Contracts.{refused≢answered}
 use Rattle.log.specs.declared.part.Part.{Part}
 use Rattle.log.specs.declared.part.PartChecked.{PartChecked}
 use Rattle.log.specs.Entry.{checkSteps}

@@ -9,11 +9,11 @@ use Rattle.units.proofs.Choices.{option-all}
 use Rattle.plan.specs.Plan.{Plan}
 use Rattle.plan.specs.Refusals.{Answer}
 use Rattle.plan.specs.Faults.{inputFault}
-use Rattle.propagation.specs.declared.Step.{Step}
-use Rattle.propagation.specs.Filter.{run}
-use Rattle.propagation.specs.Entry.{Accepted, checkAnswer, FilterAnswer}
-use Rattle.propagation.specs.Claim.{CheckedHolds, FilterHolds}
-use Rattle.propagation.proofs.Contracts.{first-fault, first-sized, tested-holds, no-run-holds, run-holds}
+use Rattle.steps.specs.declared.Step.{Step}
+use Rattle.steps.specs.Filter.{run}
+use Rattle.steps.specs.Entry.{Accepted, checkAnswer, FilterAnswer}
+use Rattle.steps.specs.Claim.{CheckedHolds, FilterHolds}
+use Rattle.steps.proofs.Contracts.{first-fault, first-sized, tested-holds, no-run-holds, run-holds}
 use Rattle.log.specs.Entry.{checkSteps, StepsEnd, LeavesSteps, loggedSteps, filterSteps}
 
 module _ (P : Plan) (boxes : List ℕ) (log : List Step) where

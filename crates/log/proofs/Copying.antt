@@ -12,9 +12,9 @@ use lib.ListN.{length, getD, set, take, drop, take-append-drop, length-append, l
 use lib.Seq.{getD-set-same, getD-set-other, getD-take, getD-drop, take-suc, drop-cons, set-at, length-take-le, take-all}
 use borrow.Author.Tests.{leb-true, leb-false}
 use Rattle.units.specs.Cells.{written}
-use Rattle.propagation.specs.declared.Step.{Step}
-use Rattle.propagation.specs.Steps.{step}
-use Rattle.propagation.specs.Entry.{stepAt, stepsFrom, stepsIn}
+use Rattle.steps.specs.declared.Step.{Step}
+use Rattle.steps.specs.Steps.{step}
+use Rattle.steps.specs.Entry.{stepAt, stepsFrom, stepsIn}
 use Rattle.log.specs.declared.part.Part.{Part}
 use Rattle.log.specs.Parts.{noStep, partSize, partSteps, Sized}
 

@@ -17,14 +17,14 @@ use Rattle.units.proofs.Choices.{none≢some}
 use Rattle.plan.specs.Plan.{Plan}
 use Rattle.plan.specs.Refusals.{Fault}
 use Rattle.plan.specs.Faults.{inputFault}
-use Rattle.propagation.specs.declared.Step.{Step}
-use Rattle.propagation.specs.declared.Filtered.{Filtered}
-use Rattle.propagation.specs.declared.Filtered.the-variants as filtered
-use Rattle.propagation.specs.Log.{LogEnd, replay}
-use Rattle.propagation.specs.Filter.{Ending, settled, impossible, noRoom, Run, count, ended, after, run}
-use Rattle.propagation.specs.Entry.{stepsFrom, refusedBy, endingAnswer, FilterEnd, Leaves, logged, filterPlan, filterAnswer}
-use Rattle.propagation.proofs.Runs.{run-settled, run-stops, run-moves, run-all, run-replays, run-fits, resumed, run-resumes}
-use Rattle.propagation.proofs.Contracts.{steps-written, refused≢ending, same-ending}
+use Rattle.steps.specs.declared.Step.{Step}
+use Rattle.steps.specs.declared.Filtered.{Filtered}
+use Rattle.steps.specs.declared.Filtered.the-variants as filtered
+use Rattle.steps.specs.Log.{LogEnd, replay}
+use Rattle.steps.specs.Filter.{Ending, settled, impossible, noRoom, Run, count, ended, after, run}
+use Rattle.steps.specs.Entry.{stepsFrom, refusedBy, endingAnswer, FilterEnd, Leaves, logged, filterPlan, filterAnswer}
+use Rattle.steps.proofs.Runs.{run-settled, run-stops, run-moves, run-all, run-replays, run-fits, resumed, run-resumes}
+use Rattle.steps.proofs.Contracts.{steps-written, refused≢ending, same-ending}
 use Rattle.log.specs.declared.part.PartFiltered.{PartFiltered}
 use Rattle.log.specs.Entry.{LeavesSteps, loggedSteps, filterSteps}
 use Rattle.log.specs.Parts.{partSize, partSteps, counted, filteredPart, partRun, RanAs, RefusedAs, FilteredAs}

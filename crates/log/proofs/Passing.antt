@@ -15,11 +15,11 @@ use Rattle.plan.specs.Plan.{Plan, taskCount}
 use Rattle.plan.specs.Faults.{oneForEachTask, taskFault, planFault, inputFault}
 use Rattle.plan.proofs.Refusing.{unless-none, unless-true}
 use Rattle.plan.proofs.Passed.{Passed, passed}
-use Rattle.propagation.specs.declared.Step.{Step}
-use Rattle.propagation.specs.Steps.{judge}
-use Rattle.propagation.specs.Log.{LogEnd, replayFrom}
-use Rattle.propagation.proofs.Judgements.{judgement-all}
-use Rattle.propagation.proofs.Changes.{judge-change, change-length, change-passes}
+use Rattle.steps.specs.declared.Step.{Step}
+use Rattle.steps.specs.Steps.{judge}
+use Rattle.steps.specs.Log.{LogEnd, replayFrom}
+use Rattle.steps.proofs.Judgements.{judgement-all}
+use Rattle.steps.proofs.Changes.{judge-change, change-length, change-passes}
 
 boxed-is : (h p : ℕ) (b : Bounds) → Boxed h p b → isBox h p b ≡ true
 unfolding isHour isWorkTime isOvertime

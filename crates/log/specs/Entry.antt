@@ -10,10 +10,10 @@ use Rattle.units.specs.Choice.{onOption}
 use Rattle.units.specs.Cells.{written}
 use Rattle.plan.specs.Plan.{Plan}
 use Rattle.plan.specs.Faults.{inputFault}
-use Rattle.propagation.specs.declared.Step.{Step}
-use Rattle.propagation.specs.Log.{LogEnd, logEnd, replay}
-use Rattle.propagation.specs.Filter.{Run, count, run}
-use Rattle.propagation.specs.Entry.{FilterAnswer, refusedBy, endingAnswer}
+use Rattle.steps.specs.declared.Step.{Step}
+use Rattle.steps.specs.Log.{LogEnd, logEnd, replay}
+use Rattle.steps.specs.Filter.{Run, count, run}
+use Rattle.steps.specs.Entry.{FilterAnswer, refusedBy, endingAnswer}
 
 -- The log checker: the log's end, or at once a refusal (31, then the plan's tests) that changes nothing.
 unfoldable pub checkSteps : Plan → List ℕ → List Step → LogEnd

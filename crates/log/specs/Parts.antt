@@ -11,15 +11,15 @@ use Rattle.units.specs.Choice.{onOption}
 use Rattle.plan.specs.Plan.{Plan}
 use Rattle.plan.specs.Refusals.{Fault}
 use Rattle.plan.specs.Faults.{inputFault}
-use Rattle.propagation.specs.declared.Step.{Step}
-use Rattle.propagation.specs.declared.LogChecked.{LogChecked}
-use Rattle.propagation.specs.declared.LogChecked.the-variants as checked
-use Rattle.propagation.specs.declared.Filtered.{Filtered}
-use Rattle.propagation.specs.declared.Filtered.the-variants as filtered
-use Rattle.propagation.specs.Steps as steps
-use Rattle.propagation.specs.Log.{LogEnd, logEnd, replayFrom}
-use Rattle.propagation.specs.Filter.{Run, noRoom, count, run}
-use Rattle.propagation.specs.Entry.{stepsFrom, Accepted, checkAnswer, logAnswer, FilterAnswer, refusedBy, noRoomFor, settledAfter, impossibleAfter, endingAnswer, filterAnswer}
+use Rattle.steps.specs.declared.Step.{Step}
+use Rattle.steps.specs.declared.LogChecked.{LogChecked}
+use Rattle.steps.specs.declared.LogChecked.the-variants as checked
+use Rattle.steps.specs.declared.Filtered.{Filtered}
+use Rattle.steps.specs.declared.Filtered.the-variants as filtered
+use Rattle.steps.specs.Steps as steps
+use Rattle.steps.specs.Log.{LogEnd, logEnd, replayFrom}
+use Rattle.steps.specs.Filter.{Run, noRoom, count, run}
+use Rattle.steps.specs.Entry.{stepsFrom, Accepted, checkAnswer, logAnswer, FilterAnswer, refusedBy, noRoomFor, settledAfter, impossibleAfter, endingAnswer, filterAnswer}
 use Rattle.log.specs.declared.part.Part.{Part}
 use Rattle.log.specs.declared.part.PartChecked.{PartChecked}
 use Rattle.log.specs.declared.part.PartFiltered.{PartFiltered}

@@ -1,9 +1,9 @@
 // The log checker and the filter over a log that is a lent slice of step records, of any length: thin functions over `propagation`, which works
 // on three slices of numbers. The steps go there part by part, each part on the boxes that the one before it left.
 use part::Part;
-use propagation::Filtered;
-use propagation::LogChecked;
-use propagation::Step;
+use steps::Filtered;
+use steps::LogChecked;
+use steps::Step;
 ghost use mathlib.Core.Path.{_≡_};
 ghost use mathlib.Core.List.{_++_};
 ghost use Prim.Native.Nat.{_+_, _≤_, _<_};
@@ -11,8 +11,8 @@ ghost use lib.ListN.{length, getD, set, take, drop};
 ghost use Rattle.units.specs.Cells.{written};
 ghost use Rattle.plan.specs.Faults.{inputFault};
 ghost use Rattle.plan.specs.Lent.{old, left, oldPlan};
-ghost use Rattle.propagation.specs.Claim.{CheckedHolds, FilterHolds};
-ghost use Rattle.propagation.specs.Entry.{checkAnswer, logAnswer, filterAnswer};
+ghost use Rattle.steps.specs.Claim.{CheckedHolds, FilterHolds};
+ghost use Rattle.steps.specs.Entry.{checkAnswer, logAnswer, filterAnswer};
 ghost use Rattle.log.specs.Entry.{checkSteps, filterSteps, LeavesSteps};
 ghost use Rattle.log.specs.Parts.{noStep, partSize, partSteps, Sized};
 

@@ -1,12 +1,12 @@
 // A part of a log: as many of its steps as `propagation` is called with at a time, by value, and what it makes of them.
-use propagation::Filtered;
-use propagation::LogChecked;
-use propagation::Step;
+use steps::Filtered;
+use steps::LogChecked;
+use steps::Step;
 ghost use mathlib.Core.Path.{_≡_};
 ghost use mathlib.Core.List.{[], _∷_, _++_};
 ghost use Prim.Native.Nat.{_+_, _-_, _^_, _≤_, _<_, min};
 ghost use Rattle.plan.specs.Lent.{old, left, oldPlan};
-ghost use Rattle.propagation.specs.Entry.{stepAt, filterAnswer};
+ghost use Rattle.steps.specs.Entry.{stepAt, filterAnswer};
 ghost use Rattle.log.specs.Parts.{partSize, partSteps, Sized, checkedPart, checkFrom, CheckedAs, counted, filteredPart, FilteredAs};
 
 // The kinds, the tasks and the hours of its steps stand in the first cells, as many as the count.

@@ -21,11 +21,11 @@ use Rattle.calendar.specs.declared.Window.{Window}
 use Rattle.calendar.specs.declared.Fit.{Fit}
 use Rattle.calendar.specs.declared.Fit.the-variants.{Never, Within}
 use Rattle.calendar.specs.Rule.{lst, ect}
-use Rattle.propagation.specs.declared.Step.{Step}
-use Rattle.propagation.specs.declared.Judged.{Judged}
-use Rattle.propagation.specs.declared.Judged.the-variants.{Unknown, NotAdmitted, Impossible, Moved}
-use Rattle.propagation.specs.Load.{mustRun}
-use Rattle.propagation.specs.Steps.{letterC, letterO, letterL, letterU, kindOf, isStep, onFit, sameBounds, withEarliest, withLatest}
+use Rattle.steps.specs.declared.Step.{Step}
+use Rattle.steps.specs.declared.Judged.{Judged}
+use Rattle.steps.specs.declared.Judged.the-variants.{Unknown, NotAdmitted, Impossible, Moved}
+use Rattle.steps.specs.Load.{mustRun}
+use Rattle.steps.specs.Steps.{letterC, letterO, letterL, letterU, kindOf, isStep, onFit, sameBounds, withEarliest, withLatest}
 use Rattle.propagation.specs.inner.Ready.{Ready}
 use Rattle.propagation.specs.inner.Kept.{loadOf, crowded, calendarBy, lowerBy, upperBy, judgeKindBy, judgeBy}
 

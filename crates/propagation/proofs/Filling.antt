@@ -17,7 +17,7 @@ use Rattle.calendar.specs.declared.Window.{Window}
 use Rattle.calendar.specs.declared.Fit.{Fit}
 use Rattle.calendar.specs.declared.Fit.the-variants.{Never, Within}
 use Rattle.calendar.specs.Rule.{lst, ect}
-use Rattle.propagation.specs.Load.{mustRun}
+use Rattle.steps.specs.Load.{mustRun}
 use Rattle.propagation.specs.inner.Kept.{loadOf}
 use Rattle.propagation.specs.inner.Ready.{Ready}
 use Rattle.propagation.specs.inner.Finding.{partAt, Loaded}

@@ -15,18 +15,18 @@ use Rattle.plan.specs.Boxes.{withBounds}
 use Rattle.plan.specs.Refusals.{fault}
 use Rattle.plan.proofs.Passed.{Passed}
 use Rattle.calendar.specs.declared.Fit.{Fit}
-use Rattle.propagation.specs.declared.Step.{Step}
-use Rattle.propagation.specs.declared.Found.{Found}
-use Rattle.propagation.specs.declared.Found.the-variants.{Nothing, At}
-use Rattle.propagation.specs.declared.Judged.{Judged}
-use Rattle.propagation.specs.declared.Judged.the-variants.{Unknown, NotAdmitted, Impossible, Moved}
-use Rattle.propagation.specs.Load.{fitAt}
-use Rattle.propagation.specs.Steps.{judge, Judgement, unknown, notAdmitted, moved}
-use Rattle.propagation.specs.Steps as judged
-use Rattle.propagation.specs.Filter.{Admitted, stops, moves, stepOf, next, run}
-use Rattle.propagation.specs.Entry.{settledAfter, impossibleAfter, noRoomFor, oneForEachStep, Leaves, logged}
+use Rattle.steps.specs.declared.Step.{Step}
+use Rattle.steps.specs.declared.Found.{Found}
+use Rattle.steps.specs.declared.Found.the-variants.{Nothing, At}
+use Rattle.steps.specs.declared.Judged.{Judged}
+use Rattle.steps.specs.declared.Judged.the-variants.{Unknown, NotAdmitted, Impossible, Moved}
+use Rattle.steps.specs.Load.{fitAt}
+use Rattle.steps.specs.Steps.{judge, Judgement, unknown, notAdmitted, moved}
+use Rattle.steps.specs.Steps as judged
+use Rattle.steps.specs.Filter.{Admitted, stops, moves, stepOf, next, run}
+use Rattle.steps.specs.Entry.{settledAfter, impossibleAfter, noRoomFor, oneForEachStep, Leaves, logged}
 use Rattle.propagation.specs.inner.Kept.{Kept, judgeBy, nextBy, foundStep}
-use Rattle.propagation.proofs.Runs.{Rightly, next-rightly}
+use Rattle.steps.proofs.Runs.{Rightly, next-rightly}
 use Rattle.propagation.proofs.Keeping.{next-kept}
 use Rattle.propagation.proofs.Turns.{one-each, Taken, none-taken, step-taken, ends-settled, ends-full, ends-stopped}
 use Rattle.propagation.proofs.Replaying.{Keeps, keeps-moved, judges-unknown, judges-not, judges-impossible, judges-moved}

@@ -19,10 +19,10 @@ use Rattle.calendar.specs.declared.Window.{Window}
 use Rattle.calendar.specs.declared.Fit.{Fit}
 use Rattle.calendar.specs.declared.Fit.the-variants.{Never, Within}
 use Rattle.calendar.specs.Rule.{lst, ect}
-use Rattle.propagation.specs.declared.Step.{Step}
-use Rattle.propagation.specs.declared.Judged.{Judged}
-use Rattle.propagation.specs.declared.Judged.the-variants.{Unknown, NotAdmitted, Impossible, Moved}
-use Rattle.propagation.specs.Steps.{step, letterC, letterO, Kind, kindC, kindO, kindL, kindU, kindOf, isStep, onFit, sameBounds}
+use Rattle.steps.specs.declared.Step.{Step}
+use Rattle.steps.specs.declared.Judged.{Judged}
+use Rattle.steps.specs.declared.Judged.the-variants.{Unknown, NotAdmitted, Impossible, Moved}
+use Rattle.steps.specs.Steps.{step, letterC, letterO, Kind, kindC, kindO, kindL, kindU, kindOf, isStep, onFit, sameBounds}
 use Rattle.propagation.specs.inner.Kept.{loadOf, crowded, onJudged, calendarBy, lowerBy, upperBy, judgeKindBy, judgeBy, admittedBy, nextBy}
 use Rattle.propagation.specs.inner.Ready.{Ready}
 use Rattle.propagation.specs.inner.Finding.{admits, letterOf, firstHour, endHour, Loaded, firstCalendar, firstOverload, firstCrowded}

@@ -16,7 +16,7 @@ use Rattle.plan.proofs.Passed.{Passed}
 use Rattle.calendar.specs.declared.Fit.{Fit}
 use Rattle.calendar.specs.Rule.{ruleOf}
 use Rattle.calendar.specs.Scan.{AllSymbols}
-use Rattle.propagation.specs.Load.{fitAt}
+use Rattle.steps.specs.Load.{fitAt}
 use Rattle.propagation.specs.inner.Fitting.{Fitting}
 
 -- a cell of a part

@@ -21,15 +21,15 @@ use Rattle.calendar.specs.declared.Window.{Window}
 use Rattle.calendar.specs.declared.Fit.{Fit}
 use Rattle.calendar.specs.declared.Fit.the-variants.{Never, Within}
 use Rattle.calendar.specs.Rule.{lst, ect}
-use Rattle.propagation.specs.declared.Step.{Step}
-use Rattle.propagation.specs.declared.Judged.{Judged}
-use Rattle.propagation.specs.declared.Judged.the-variants.{Unknown, NotAdmitted, Impossible, Moved}
-use Rattle.propagation.specs.Load.{fitAt, mustRun, load, othersLoad, excess}
-use Rattle.propagation.specs.Steps.{step, letterC, letterO, letterL, letterU, Kind, kindC, kindO, kindL, kindU, unknownKind, kindOf, isStep, Judgement, notAdmitted, impossible, moved, onJudgement, onFit, sameBounds, withEarliest, withLatest, judgeC, judgeO, judgeL, judgeU, judgeKind, judge}
-use Rattle.propagation.specs.Filter.{stops, moves, stepOf, ifAdmitted, firstByTask, firstByHour, firstByTaskHour, next}
+use Rattle.steps.specs.declared.Step.{Step}
+use Rattle.steps.specs.declared.Judged.{Judged}
+use Rattle.steps.specs.declared.Judged.the-variants.{Unknown, NotAdmitted, Impossible, Moved}
+use Rattle.steps.specs.Load.{fitAt, mustRun, load, othersLoad, excess}
+use Rattle.steps.specs.Steps.{step, letterC, letterO, letterL, letterU, Kind, kindC, kindO, kindL, kindU, unknownKind, kindOf, isStep, Judgement, notAdmitted, impossible, moved, onJudgement, onFit, sameBounds, withEarliest, withLatest, judgeC, judgeO, judgeL, judgeU, judgeKind, judge}
+use Rattle.steps.specs.Filter.{stops, moves, stepOf, ifAdmitted, firstByTask, firstByHour, firstByTaskHour, next}
 use Rattle.propagation.specs.inner.Ready.{Ready}
 use Rattle.propagation.specs.inner.Kept.{Kept, loadOf, crowded, onJudged, calendarBy, lowerBy, upperBy, judgeKindBy, judgeBy, admittedBy, nextBy, judgementOf}
-use Rattle.propagation.proofs.Changes.{judge-change, change-passes}
+use Rattle.steps.proofs.Changes.{judge-change, change-passes}
 
 -- ---- what passes the tests is small enough, before and after a step
 

@@ -1,10 +1,3 @@
-pub mod Loads
-pub mod Judgements
-pub mod Changes
-pub mod Replays
-pub mod Runs
-pub mod Claim
-pub mod Contracts
 pub mod Fits
 pub mod Deciding
 pub mod Keeping
@@ -13,5 +6,3 @@ pub mod Filling
 pub mod Turns
 pub mod Replaying
 pub mod Filtering
-pub mod Entering
-pub mod Weeks

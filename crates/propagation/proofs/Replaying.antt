@@ -13,19 +13,19 @@ use Rattle.plan.specs.Refusals.{fault, Answer, refused, answered}
 use Rattle.plan.proofs.Passed.{Passed}
 use Rattle.plan.proofs.Cells.{length-with}
 use Rattle.calendar.specs.declared.Fit.{Fit}
-use Rattle.propagation.specs.declared.Step.{Step}
-use Rattle.propagation.specs.declared.Judged.{Judged}
-use Rattle.propagation.specs.declared.Judged.the-variants.{Unknown, NotAdmitted, Impossible, Moved}
-use Rattle.propagation.specs.Load.{fitAt}
-use Rattle.propagation.specs.Steps.{Kind, judge, unknown, notAdmitted, moved}
-use Rattle.propagation.specs.Steps as judged
-use Rattle.propagation.specs.Log.{LogEnd, replayFrom}
-use Rattle.propagation.specs.Entry.{stepAt, stepsIn, oneForEachStep, Accepted, checkAnswer}
+use Rattle.steps.specs.declared.Step.{Step}
+use Rattle.steps.specs.declared.Judged.{Judged}
+use Rattle.steps.specs.declared.Judged.the-variants.{Unknown, NotAdmitted, Impossible, Moved}
+use Rattle.steps.specs.Load.{fitAt}
+use Rattle.steps.specs.Steps.{Kind, judge, unknown, notAdmitted, moved}
+use Rattle.steps.specs.Steps as judged
+use Rattle.steps.specs.Log.{LogEnd, replayFrom}
+use Rattle.steps.specs.Entry.{stepAt, stepsIn, oneForEachStep, Accepted, checkAnswer}
 use Rattle.propagation.specs.inner.Fitting.{Fitting}
 use Rattle.propagation.specs.inner.Kept.{Kept, onJudged, judgeBy, judgementOf}
 use Rattle.propagation.proofs.Fits.{fitting}
 use Rattle.propagation.proofs.Keeping.{judge-kept, moved-passes}
-use Rattle.propagation.proofs.Judgements.{Moves, movesC, movesL, movesU, judged-moved}
+use Rattle.steps.proofs.Judgements.{Moves, movesC, movesL, movesU, judged-moved}
 use Rattle.propagation.proofs.Turns.{one-each, kept-moved, endFrom, end-opens, end-done, end-13, end-11, end-12, end-stops, end-moves, answers-refused, answers-accepted}
 
 -- a step that moves a bound is of a task that exists

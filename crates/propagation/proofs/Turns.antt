@@ -20,16 +20,16 @@ use Rattle.plan.specs.Refusals.{Fault, fault, refused, answered, answerUnless}
 use Rattle.plan.proofs.Cells.{bounds-other}
 use Rattle.calendar.specs.declared.Fit.{Fit}
 use Rattle.calendar.specs.declared.Fit.the-variants.{Never}
-use Rattle.propagation.specs.declared.Step.{Step}
-use Rattle.propagation.specs.Load.{fitAt}
-use Rattle.propagation.specs.Steps.{judge, unknown, notAdmitted, moved, onJudgement}
-use Rattle.propagation.specs.Steps as judged
-use Rattle.propagation.specs.Log.{LogEnd, logEnd, replayFrom}
-use Rattle.propagation.specs.Filter.{Admitted, stops, moves, next, Ending, settled, impossible, noRoom, Run, ended, after, run}
-use Rattle.propagation.specs.Entry.{stepAt, stepsFrom, stepsIn, oneForEachStep, checkAnswer, settledAfter, impossibleAfter, noRoomFor, endingAnswer, Leaves, logged}
+use Rattle.steps.specs.declared.Step.{Step}
+use Rattle.steps.specs.Load.{fitAt}
+use Rattle.steps.specs.Steps.{judge, unknown, notAdmitted, moved, onJudgement}
+use Rattle.steps.specs.Steps as judged
+use Rattle.steps.specs.Log.{LogEnd, logEnd, replayFrom}
+use Rattle.steps.specs.Filter.{Admitted, stops, moves, next, Ending, settled, impossible, noRoom, Run, ended, after, run}
+use Rattle.steps.specs.Entry.{stepAt, stepsFrom, stepsIn, oneForEachStep, checkAnswer, settledAfter, impossibleAfter, noRoomFor, endingAnswer, Leaves, logged}
 use Rattle.propagation.specs.inner.Kept.{Kept}
 use Rattle.propagation.proofs.Fits.{fit-alone}
-use Rattle.propagation.proofs.Runs.{run-settled, run-full, run-stops, run-moves, resumed}
+use Rattle.steps.proofs.Runs.{run-settled, run-full, run-stops, run-moves, resumed}
 
 -- ---- what is kept stays right when a box changes and its task's answer is worked out anew
 

@@ -1,9 +1,1 @@
-pub mod Load
-pub mod Steps
-pub mod Log
-pub mod Filter
-pub mod Widths
-pub mod Entry
-pub mod Claim
-pub mod Weeks
 pub mod inner

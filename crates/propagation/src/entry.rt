@@ -4,7 +4,7 @@ use plan::Tested;
 ghost use mathlib.Core.Path.{_≡_};
 ghost use Rattle.plan.specs.Refusals.{testedFault};
 ghost use Rattle.plan.specs.Lent.{old, oldPlan};
-ghost use Rattle.propagation.specs.Entry.{oneForEachStep, entryFault};
+ghost use Rattle.steps.specs.Entry.{oneForEachStep, entryFault};
 
 // Whether the slices of a log number one for each step.
 fn has_one_for_each_step(log_kinds: &[u8], log_tasks: &[u16], log_hours: &[u16]) -> bool

@@ -1,7 +1,7 @@
 // The filter: takes the first admitted step of each turn, and logs it.
-use crate::Filtered;
-use crate::Found;
-use crate::Judged;
+use steps::Filtered;
+use steps::Found;
+use steps::Judged;
 use crate::entry;
 use crate::first;
 use crate::judge;
@@ -15,9 +15,9 @@ ghost use mathlib.Core.Path.{_≡_};
 ghost use lib.ListN.{length};
 ghost use Rattle.plan.specs.Lent.{old, left, planOf, oldPlan};
 ghost use Rattle.plan.proofs.Passed.{Passed};
-ghost use Rattle.propagation.specs.Filter.{run};
-ghost use Rattle.propagation.specs.Entry.{stepsFrom, oneForEachStep, logged, filterPlan, filterAnswer, Leaves};
-ghost use Rattle.propagation.specs.Claim.{FilterHolds};
+ghost use Rattle.steps.specs.Filter.{run};
+ghost use Rattle.steps.specs.Entry.{stepsFrom, oneForEachStep, logged, filterPlan, filterAnswer, Leaves};
+ghost use Rattle.steps.specs.Claim.{FilterHolds};
 
 // The run on a plan that passed its tests. The answers of the calendar rule are kept, and only the moved task's is worked out anew.
 fn run_filter(

@@ -1,6 +1,6 @@
 // The search for the first admitted step, in the filter's order, from the boxes and the answers of the calendar rule that are kept.
-use crate::Found;
-use crate::Step;
+use steps::Found;
+use steps::Step;
 use crate::judge;
 use crate::load;
 use calendar::Fit;
@@ -16,7 +16,7 @@ ghost use lib.ListN.{length, getD};
 ghost use Rattle.units.specs.Choice.{someIf, firstOf, _orElse_};
 ghost use Rattle.units.specs.Limits.{mostHours, mostTasks};
 ghost use Rattle.plan.specs.Lent.{old};
-ghost use Rattle.propagation.specs.Steps.{step, letterO};
+ghost use Rattle.steps.specs.Steps.{step, letterO};
 ghost use Rattle.propagation.specs.inner.Kept.{calendarBy, foundStep, nextBy};
 ghost use Rattle.propagation.specs.inner.Ready.{Ready};
 ghost use Rattle.propagation.specs.inner.Finding.{admits, letterOf, firstHour, endHour, Loaded, firstCalendar, firstOverload, firstCrowded};

@@ -1,6 +1,6 @@
 // What a step comes to at its turn, from the boxes and the answers of the calendar rule that are kept.
-use crate::Judged;
-use crate::Step;
+use steps::Judged;
+use steps::Step;
 use calendar::Fit;
 use calendar::Window;
 use plan;
@@ -14,8 +14,8 @@ ghost use lib.ListN.{length, getD};
 ghost use Rattle.units.specs.Choice.{_and_, if_then_else_};
 ghost use Rattle.units.specs.Limits.{mostHours, mostTasks, mostHeight, isHour};
 ghost use Rattle.plan.specs.Lent.{old};
-ghost use Rattle.propagation.specs.Load.{mustRun};
-ghost use Rattle.propagation.specs.Steps.{kindOf, isStep, onFit, sameBounds};
+ghost use Rattle.steps.specs.Load.{mustRun};
+ghost use Rattle.steps.specs.Steps.{kindOf, isStep, onFit, sameBounds};
 ghost use Rattle.propagation.specs.inner.Ready.{Ready};
 ghost use Rattle.propagation.specs.inner.Kept.{loadOf, crowded, calendarBy, lowerBy, upperBy, judgeBy};
 

@@ -10,7 +10,7 @@ ghost use Rattle.units.specs.Limits.{mostTasks};
 ghost use Rattle.plan.specs.Plan.{plan};
 ghost use Rattle.plan.specs.Boxes.{withBounds};
 ghost use Rattle.plan.specs.Lent.{old, left};
-ghost use Rattle.propagation.specs.Load.{fitAt};
+ghost use Rattle.steps.specs.Load.{fitAt};
 ghost use Rattle.propagation.specs.inner.Fitting.{Fitting};
 
 // What the calendar rule answers for task i. It asks for neither the capacity nor the heights, so the contract puts none there.

@@ -1,7 +1,7 @@
 // The log checker: a log from anyone, step by step, each at its turn.
-use crate::Judged;
-use crate::LogChecked;
-use crate::Step;
+use steps::Judged;
+use steps::LogChecked;
+use steps::Step;
 use crate::entry;
 use crate::judge;
 use crate::kept;
@@ -16,9 +16,9 @@ ghost use Prim.Native.Nat.{_+_, _^_, _<_};
 ghost use lib.ListN.{length};
 ghost use Rattle.plan.specs.Lent.{old, left, planOf, oldPlan};
 ghost use Rattle.plan.proofs.Passed.{Passed};
-ghost use Rattle.propagation.specs.Log.{replayFrom};
-ghost use Rattle.propagation.specs.Entry.{stepsIn, oneForEachStep, entryFault, checkLog, checkFrom, checkAnswer, logAnswer};
-ghost use Rattle.propagation.specs.Claim.{CheckedHolds};
+ghost use Rattle.steps.specs.Log.{replayFrom};
+ghost use Rattle.steps.specs.Entry.{stepsIn, oneForEachStep, entryFault, checkLog, checkFrom, checkAnswer, logAnswer};
+ghost use Rattle.steps.specs.Claim.{CheckedHolds};
 
 // The replay of a log on a plan that passed its tests, from the boxes that the step before its first left, and whether that one said impossible;
 // its first step has the number `from`. The answers of the calendar rule are kept, and only the moved task's is worked out anew.

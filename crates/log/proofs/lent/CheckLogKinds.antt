@@ -1,7 +1,7 @@
 -- Made by tools/lend/lend.py of the derivation of `check_log` in the twin crate.
 use Rattle.log.proofs.lent.Lent
-use Rattle.propagation.proofs.LogChecked
-use Rattle.propagation.proofs.LogChecked.Laws
+use Rattle.steps.proofs.LogChecked
+use Rattle.steps.proofs.LogChecked.Laws
 use borrow.Fn.Kinds
 use borrow.Kind.MutSlice
 use borrow.Kind.ShrSlice

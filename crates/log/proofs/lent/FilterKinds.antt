@@ -1,7 +1,7 @@
 -- Made by tools/lend/lend.py of the derivation of `filter` in the twin crate.
 use Rattle.log.proofs.lent.Lent
-use Rattle.propagation.proofs.Filtered
-use Rattle.propagation.proofs.Filtered.Laws
+use Rattle.steps.proofs.Filtered
+use Rattle.steps.proofs.Filtered.Laws
 use borrow.Fn.Kinds
 use borrow.Kind.MutSlice
 use borrow.Kind.ShrSlice

@@ -5,8 +5,8 @@ use denote.RattleType.{RattleType}
 use denote.Memory.{pointee}
 use borrow.Kind.Array.{Elem, ElemLawsAll, eStruct, eStruct-laws}
 use borrow.Table.Copies.{Cp, cStruct}
-use Rattle.propagation.proofs.Step as T
-use Rattle.propagation.proofs.Step.Laws as T′
+use Rattle.steps.proofs.Step as T
+use Rattle.steps.proofs.Step.Laws as T′
 
 abbrev pub row : RattleType
 row = T.the-row

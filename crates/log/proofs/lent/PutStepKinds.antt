@@ -1,7 +1,7 @@
 -- Made by tools/lend/lend.py of the derivation of `put_step` in the twin crate.
 use Rattle.log.proofs.lent.Lent
-use Rattle.propagation.proofs.Step
-use Rattle.propagation.proofs.Step.Laws
+use Rattle.steps.proofs.Step
+use Rattle.steps.proofs.Step.Laws
 use borrow.Fn.Kinds
 use borrow.Kind.MutSlice
 use borrow.Kind.Value

@@ -6,7 +6,7 @@ use Prim.Native.Nat.{_≤_, _+_, _-_}
 use native.Mathlib.Omega.{arith}
 use lib.ListN.{length, set}
 use borrow.Author.Needs.{needs}
-use Rattle.propagation.specs.declared.Step.{Step}
+use Rattle.steps.specs.declared.Step.{Step}
 use Rattle.log.proofs.Copying.{putIn, none-put, put-length, one-put, all-put}
 use Rattle.log.proofs.put_part.Statement.{statement}
 use Rattle.log.proofs.put_part.Proof.Tie as tie

@@ -38,10 +38,10 @@ use denote.Triple.Spec.{Meets, tripleOf}
 use denote.Triple.Table.{entered}
 use denote.Triple.Walked.{says, needs, Stays, stay-none-slice, stay-none, walkOf, goes-none-slice, goes-none, Walks, ends-at, walked, walk-meets}
 use denote.Exit.{yes}
-use Rattle.propagation.specs.declared.Step.{Step}
+use Rattle.steps.specs.declared.Step.{Step}
 use Rattle.log.specs.Parts.{noStep}
-use Rattle.propagation.proofs.Step as T
-use Rattle.propagation.proofs.Step.Laws as T′
+use Rattle.steps.proofs.Step as T
+use Rattle.steps.proofs.Step.Laws as T′
 use Rattle.log.proofs.step_at.Key.{name as #log·step-at}
 use Rattle.log.proofs.step_at as f
 use Rattle.log.proofs.step_at.Statement as stated

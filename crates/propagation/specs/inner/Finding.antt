@@ -10,10 +10,10 @@ use Rattle.units.specs.declared.Bounds.{Bounds}
 use Rattle.calendar.specs.declared.Window.{Window}
 use Rattle.calendar.specs.declared.Fit.{Fit}
 use Rattle.calendar.specs.Rule.{lst, ect}
-use Rattle.propagation.specs.declared.Step.{Step}
-use Rattle.propagation.specs.declared.Judged.{Judged}
-use Rattle.propagation.specs.Load.{mustRun}
-use Rattle.propagation.specs.Steps.{step, letterC, letterO, letterL, letterU}
+use Rattle.steps.specs.declared.Step.{Step}
+use Rattle.steps.specs.declared.Judged.{Judged}
+use Rattle.steps.specs.Load.{mustRun}
+use Rattle.steps.specs.Steps.{step, letterC, letterO, letterL, letterU}
 use Rattle.propagation.specs.inner.Kept.{loadOf, onJudged, admittedBy}
 
 -- a step so judged is admitted

@@ -16,14 +16,14 @@ use Rattle.calendar.specs.declared.Window.{Window}
 use Rattle.calendar.specs.declared.Fit.{Fit}
 use Rattle.calendar.specs.declared.Fit.the-variants.{Never, Within}
 use Rattle.calendar.specs.Rule.{lst, ect}
-use Rattle.propagation.specs.declared.Step.{Step}
-use Rattle.propagation.specs.declared.Judged.{Judged}
-use Rattle.propagation.specs.declared.Judged.the-variants.{Unknown, NotAdmitted, Impossible, Moved}
-use Rattle.propagation.specs.declared.Found.{Found}
-use Rattle.propagation.specs.declared.Found.the-variants.{Nothing, At}
-use Rattle.propagation.specs.Load.{fitAt, mustRun}
-use Rattle.propagation.specs.Steps as steps
-use Rattle.propagation.specs.Steps.{step, letterC, letterO, letterL, letterU, Kind, kindC, kindO, kindL, kindU, unknownKind, kindOf, isStep, onFit, sameBounds, withEarliest, withLatest, Judgement}
+use Rattle.steps.specs.declared.Step.{Step}
+use Rattle.steps.specs.declared.Judged.{Judged}
+use Rattle.steps.specs.declared.Judged.the-variants.{Unknown, NotAdmitted, Impossible, Moved}
+use Rattle.steps.specs.declared.Found.{Found}
+use Rattle.steps.specs.declared.Found.the-variants.{Nothing, At}
+use Rattle.steps.specs.Load.{fitAt, mustRun}
+use Rattle.steps.specs.Steps as steps
+use Rattle.steps.specs.Steps.{step, letterC, letterO, letterL, letterU, Kind, kindC, kindO, kindL, kindU, unknownKind, kindOf, isStep, onFit, sameBounds, withEarliest, withLatest, Judgement}
 
 -- the answers of the calendar rule that are kept, one for each task, are those for the boxes
 abbrev pub Kept : Plan → List ℕ → List Fit → Type 0

@@ -5,8 +5,8 @@ use Rattle.log.proofs.part.Part
 use Rattle.log.proofs.part.Part.Laws
 use Rattle.log.proofs.part.PartChecked
 use Rattle.log.proofs.part.PartChecked.Laws as Laws'
-use Rattle.propagation.proofs.LogChecked
-use Rattle.propagation.proofs.LogChecked.Laws as Laws''
+use Rattle.steps.proofs.LogChecked
+use Rattle.steps.proofs.LogChecked.Laws as Laws''
 use borrow.Author.Called
 use borrow.Fn.Any
 use borrow.Fn.Call

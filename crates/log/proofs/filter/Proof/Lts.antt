@@ -5,8 +5,8 @@ use Rattle.log.proofs.part.Part
 use Rattle.log.proofs.part.Part.Laws
 use Rattle.log.proofs.part.PartFiltered
 use Rattle.log.proofs.part.PartFiltered.Laws as Laws'
-use Rattle.propagation.proofs.Filtered
-use Rattle.propagation.proofs.Filtered.Laws as Laws''
+use Rattle.steps.proofs.Filtered
+use Rattle.steps.proofs.Filtered.Laws as Laws''
 use borrow.Author.Called
 use borrow.Fn.Any
 use borrow.Fn.Call

@@ -1,5 +1,5 @@
 use mathlib.Core.Path.{sym, ap}
-use Rattle.propagation.specs.declared.LogChecked.{LogChecked}
+use Rattle.steps.specs.declared.LogChecked.{LogChecked}
 use Rattle.log.specs.Parts.{checkedPart}
 use Rattle.log.proofs.Checking.{checked-ends}
 use borrow.Author.Needs.{needs}

@@ -1,7 +1,7 @@
 use mathlib.Core.Path.{sym, ap}
 use native.Mathlib.Omega.{arith}
-use Rattle.propagation.specs.declared.Filtered.{Filtered}
-use Rattle.propagation.specs.Entry.{filterAnswer}
+use Rattle.steps.specs.declared.Filtered.{Filtered}
+use Rattle.steps.specs.Entry.{filterAnswer}
 use Rattle.log.specs.Parts.{counted, filteredPart}
 use Rattle.log.proofs.Filtering.{filtered-refused}
 use borrow.Author.Needs.{needs}

@@ -1,5 +1,5 @@
 use mathlib.Core.Path.{refl}
-use Rattle.propagation.specs.Entry.{stepsFrom}
+use Rattle.steps.specs.Entry.{stepsFrom}
 use Rattle.log.specs.Parts.{partSteps}
 use Rattle.log.proofs.part.no_steps.Statement.{statement}
 use Rattle.log.proofs.part.no_steps.Tie as tie

@@ -1,5 +1,5 @@
 use mathlib.Core.Path.{refl}
-use Rattle.propagation.specs.Entry.{stepAt}
+use Rattle.steps.specs.Entry.{stepAt}
 use borrow.Author.Needs.{needs}
 use Rattle.log.proofs.part.step_of.Statement.{statement}
 use Rattle.log.proofs.part.step_of.Tie as tie

@@ -3,8 +3,8 @@ use Rattle.log.proofs.lent.Lent
 use Prim.Native.Nat
 use Rattle.log.proofs.part.Part
 use Rattle.log.proofs.part.Part.Laws
-use Rattle.propagation.proofs.Step
-use Rattle.propagation.proofs.Step.Laws as Laws'
+use Rattle.steps.proofs.Step
+use Rattle.steps.proofs.Step.Laws as Laws'
 use borrow.Author.Called
 use borrow.Author.Tests
 use borrow.Fn.Any

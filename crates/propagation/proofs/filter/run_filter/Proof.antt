@@ -6,7 +6,7 @@ use lib.ListN.{length, length-set}
 use borrow.Author.Needs.{needs}
 use Rattle.units.specs.declared.Bounds.{Bounds}
 use Rattle.plan.specs.Plan.{plan, taskCount}
-use Rattle.propagation.specs.declared.Judged.the-variants.{Moved}
+use Rattle.steps.specs.declared.Judged.the-variants.{Moved}
 use Rattle.propagation.proofs.Fits.{fitting, fit-alone}
 use Rattle.propagation.proofs.Keeping.{ready}
 use Rattle.propagation.proofs.Replaying.{may-move}

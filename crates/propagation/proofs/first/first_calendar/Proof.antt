@@ -7,7 +7,7 @@ use borrow.Author.Needs.{needs}
 use Rattle.units.specs.Choice.{firstOf}
 use Rattle.units.proofs.Choices.{some-if, none-if, first-next, first-hit}
 use Rattle.plan.proofs.Refusing.{first-end}
-use Rattle.propagation.specs.Steps.{step, letterC}
+use Rattle.steps.specs.Steps.{step, letterC}
 use Rattle.propagation.specs.inner.Kept.{admittedBy}
 use Rattle.propagation.specs.inner.Finding.{firstCalendar}
 use Rattle.propagation.proofs.Findings.{calendar-at}

@@ -7,7 +7,7 @@ use borrow.Author.Needs.{needs}
 use Rattle.units.specs.Choice.{firstOf}
 use Rattle.units.proofs.Choices.{some-if, none-if, first-next}
 use Rattle.plan.proofs.Refusing.{first-end}
-use Rattle.propagation.specs.declared.Found.the-variants.{Nothing}
+use Rattle.steps.specs.declared.Found.the-variants.{Nothing}
 use Rattle.propagation.specs.inner.Kept.{foundStep}
 use Rattle.propagation.specs.inner.Finding.{firstCrowded}
 use Rattle.propagation.proofs.Findings.{atHour, ofTask, skip-never, skip-before, skip-after, test-hour, found-at, ends-soon}

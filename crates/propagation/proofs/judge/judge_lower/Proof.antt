@@ -1,6 +1,6 @@
 use mathlib.Core.Path.{sym}
 use borrow.Author.Tests.{not-true, not-false}
-use Rattle.propagation.specs.Steps.{withEarliest}
+use Rattle.steps.specs.Steps.{withEarliest}
 use Rattle.propagation.proofs.Deciding.{lower-ended, lower-later, lower-room, lower-stops, lower-moves}
 use borrow.Author.Needs.{needs}
 use Rattle.propagation.proofs.judge.judge_lower.Statement.{statement}

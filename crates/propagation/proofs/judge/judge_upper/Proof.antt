@@ -1,6 +1,6 @@
 use mathlib.Core.Path.{sym}
 use borrow.Author.Tests.{not-true, not-false}
-use Rattle.propagation.specs.Steps.{withLatest}
+use Rattle.steps.specs.Steps.{withLatest}
 use Rattle.propagation.proofs.Deciding.{upper-before, upper-earlier, upper-room, upper-stops, upper-moves}
 use borrow.Author.Needs.{needs}
 use Rattle.propagation.proofs.judge.judge_upper.Statement.{statement}

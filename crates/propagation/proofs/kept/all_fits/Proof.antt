@@ -7,7 +7,7 @@ use borrow.Author.Needs.{needs}
 use Rattle.units.specs.Limits.{mostTasks}
 use Rattle.plan.specs.Plan.{plan}
 use Rattle.calendar.specs.declared.Fit.the-variants.{Never}
-use Rattle.propagation.specs.Load.{fitAt}
+use Rattle.steps.specs.Load.{fitAt}
 use Rattle.propagation.proofs.Fits.{filled-more}
 use Rattle.propagation.proofs.kept.all_fits.Statement.{statement}
 use Rattle.propagation.proofs.kept.all_fits.Tie as tie

@@ -4,7 +4,7 @@ use native.Mathlib.Omega.{arith}
 use lib.ListN.{length}
 use borrow.Author.Needs.{needs}
 use Rattle.plan.specs.Plan.{plan, taskCount}
-use Rattle.propagation.specs.Entry.{stepAt}
+use Rattle.steps.specs.Entry.{stepAt}
 use Rattle.propagation.proofs.Fits.{fitting, fit-alone}
 use Rattle.propagation.proofs.Keeping.{ready}
 use Rattle.propagation.proofs.Replaying.{below, Replaying, may-move, replay-opens, replay-done, replay-13}

@@ -6,9 +6,9 @@ use mathlib.Core.Path.{_≡_}
 use Prim.Native.Nat.{ℕ, _+_}
 use Rattle.plan.specs.Plan.{Plan}
 use Rattle.plan.specs.Refusals.{Fault, fault}
-use Rattle.propagation.specs.declared.Step.{Step}
-use Rattle.propagation.specs.Steps.{judge, onJudgement}
-use Rattle.propagation.specs.Steps as judged
+use Rattle.steps.specs.declared.Step.{Step}
+use Rattle.steps.specs.Steps.{judge, onJudgement}
+use Rattle.steps.specs.Steps as judged
 
 -- The log's end: its first record that isn't admitted at its turn or that follows one which said impossible, or past its last step.
 pub record LogEnd : Type 0 where

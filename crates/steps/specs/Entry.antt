@@ -11,14 +11,14 @@ use Rattle.units.specs.Cells.{written}
 use Rattle.plan.specs.Plan.{Plan}
 use Rattle.plan.specs.Refusals.{Fault, fault, unless, Answer, refused, answered, answerUnless, faultOf}
 use Rattle.plan.specs.Faults.{oneForEachTask, planFault}
-use Rattle.propagation.specs.declared.Step.{Step}
-use Rattle.propagation.specs.declared.LogChecked.{LogChecked}
-use Rattle.propagation.specs.declared.LogChecked.the-variants as checked
-use Rattle.propagation.specs.declared.Filtered.{Filtered}
-use Rattle.propagation.specs.declared.Filtered.the-variants as filtered
-use Rattle.propagation.specs.Steps.{step}
-use Rattle.propagation.specs.Log.{LogEnd, logEnd, replayFrom, replay}
-use Rattle.propagation.specs.Filter.{Ending, settled, impossible, noRoom, Run, count, run}
+use Rattle.steps.specs.declared.Step.{Step}
+use Rattle.steps.specs.declared.LogChecked.{LogChecked}
+use Rattle.steps.specs.declared.LogChecked.the-variants as checked
+use Rattle.steps.specs.declared.Filtered.{Filtered}
+use Rattle.steps.specs.declared.Filtered.the-variants as filtered
+use Rattle.steps.specs.Steps.{step}
+use Rattle.steps.specs.Log.{LogEnd, logEnd, replayFrom, replay}
+use Rattle.steps.specs.Filter.{Ending, settled, impossible, noRoom, Run, count, run}
 
 -- the log in lent memory: the kinds, the tasks and the hours of its steps, each in a slice of its own
 unfoldable pub stepAt : List ℕ → List ℕ → List ℕ → ℕ → Step

@@ -15,19 +15,19 @@ use Rattle.plan.specs.Boxes.{boundsAt}
 use Rattle.plan.specs.Refusals.{Fault, fault, unless, refused, answered, answerUnless}
 use Rattle.plan.specs.Faults.{taskFault, planFault, inputFault}
 use Rattle.plan.proofs.Refusing.{unless-none}
-use Rattle.propagation.specs.declared.Step.{Step}
+use Rattle.steps.specs.declared.Step.{Step}
 use Rattle.calendar.specs.declared.Triple.{Triple}
 use Rattle.calendar.specs.Triples.{inBounds}
 use Rattle.schedule.specs.Schedule.{Feasible}
-use Rattle.propagation.specs.Steps.{judge}
-use Rattle.propagation.specs.Log.{LogEnd, logEnd, replayFrom, replay}
-use Rattle.propagation.specs.Filter.{Ending, settled, impossible, noRoom, Run, count, run}
-use Rattle.propagation.specs.Entry.{stepAt, stepsFrom, stepsIn, entryFault, Accepted, checkLog, checkAnswer, refusedBy, endingAnswer, FilterEnd, logged, filterPlan}
-use Rattle.propagation.specs.Claim.{saidImpossible, CheckedHolds, FilterHolds}
-use Rattle.propagation.proofs.Judgements.{judgement-all}
-use Rattle.propagation.proofs.Replays.{accepted-admitted, admitted-accepted, replay-keeps, replay-possible}
-use Rattle.propagation.proofs.Runs.{next-none, run-replays, run-fits, run-short, run-rests}
-use Rattle.propagation.proofs.Claim.{boxes-sized}
+use Rattle.steps.specs.Steps.{judge}
+use Rattle.steps.specs.Log.{LogEnd, logEnd, replayFrom, replay}
+use Rattle.steps.specs.Filter.{Ending, settled, impossible, noRoom, Run, count, run}
+use Rattle.steps.specs.Entry.{stepAt, stepsFrom, stepsIn, entryFault, Accepted, checkLog, checkAnswer, refusedBy, endingAnswer, FilterEnd, logged, filterPlan}
+use Rattle.steps.specs.Claim.{saidImpossible, CheckedHolds, FilterHolds}
+use Rattle.steps.proofs.Judgements.{judgement-all}
+use Rattle.steps.proofs.Replays.{accepted-admitted, admitted-accepted, replay-keeps, replay-possible}
+use Rattle.steps.proofs.Runs.{next-none, run-replays, run-fits, run-short, run-rests}
+use Rattle.steps.proofs.Claim.{boxes-sized}
 
 -- ---- the faults found before a log is read are none of the log's own
 

@@ -13,15 +13,15 @@ use Rattle.units.specs.Choice.{onOption}
 use Rattle.units.specs.Limits.{isHour}
 use Rattle.units.proofs.Choices.{and-left, and-right, if-false, if-all, none≢some, else-case, neither, first-at, first-none}
 use Rattle.plan.specs.Plan.{Plan, taskCount}
-use Rattle.propagation.specs.declared.Step.{Step}
-use Rattle.propagation.specs.Steps.{step, letterC, letterO, letterL, letterU, Kind, kindC, kindO, kindL, kindU, unknownKind, kindOf, isStep, judge, moved, onJudgement}
-use Rattle.propagation.specs.Steps as judged
-use Rattle.propagation.specs.Log.{LogEnd, logEnd, replayFrom, replay}
-use Rattle.propagation.specs.Filter.{Admitted, stops, moves, onAdmitted, ifAdmitted, firstByTask, firstByHour, firstByTaskHour, next, Ending, settled, impossible, noRoom, Run, count, ended, after, run}
-use Rattle.propagation.specs.Claim.{saidImpossible}
-use Rattle.propagation.specs.Widths.{widths}
-use Rattle.propagation.proofs.Judgements.{judgement-all}
-use Rattle.propagation.proofs.Replays.{accepted-admitted, admitted-short}
+use Rattle.steps.specs.declared.Step.{Step}
+use Rattle.steps.specs.Steps.{step, letterC, letterO, letterL, letterU, Kind, kindC, kindO, kindL, kindU, unknownKind, kindOf, isStep, judge, moved, onJudgement}
+use Rattle.steps.specs.Steps as judged
+use Rattle.steps.specs.Log.{LogEnd, logEnd, replayFrom, replay}
+use Rattle.steps.specs.Filter.{Admitted, stops, moves, onAdmitted, ifAdmitted, firstByTask, firstByHour, firstByTaskHour, next, Ending, settled, impossible, noRoom, Run, count, ended, after, run}
+use Rattle.steps.specs.Claim.{saidImpossible}
+use Rattle.steps.specs.Widths.{widths}
+use Rattle.steps.proofs.Judgements.{judgement-all}
+use Rattle.steps.proofs.Replays.{accepted-admitted, admitted-short}
 
 -- ---- the first admitted step is admitted
 

@@ -10,12 +10,12 @@ use Rattle.units.proofs.Choices.{none≢some}
 use Rattle.plan.specs.Plan.{Plan, taskCount}
 use Rattle.calendar.specs.declared.Triple.{Triple}
 use Rattle.schedule.specs.Schedule.{Feasible}
-use Rattle.propagation.specs.declared.Step.{Step}
-use Rattle.propagation.specs.Steps.{judge, impossible, onJudgement}
-use Rattle.propagation.specs.Log.{LogEnd, replayFrom, replay, AllAdmitted, noStep, lastStep, nextStep}
-use Rattle.propagation.specs.Widths.{widths}
-use Rattle.propagation.proofs.Judgements.{judgement-all}
-use Rattle.propagation.proofs.Changes.{judge-change, judge-impossible, change-length, change-keeps, change-widths}
+use Rattle.steps.specs.declared.Step.{Step}
+use Rattle.steps.specs.Steps.{judge, impossible, onJudgement}
+use Rattle.steps.specs.Log.{LogEnd, replayFrom, replay, AllAdmitted, noStep, lastStep, nextStep}
+use Rattle.steps.specs.Widths.{widths}
+use Rattle.steps.proofs.Judgements.{judgement-all}
+use Rattle.steps.proofs.Changes.{judge-change, judge-impossible, change-length, change-keeps, change-widths}
 
 module _ (P : Plan) where
   -- ---- accepted exactly when each step is admitted at its turn and nothing follows one that says impossible

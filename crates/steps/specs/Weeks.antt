@@ -15,9 +15,9 @@ use Rattle.calendar.specs.declared.Fit.the-variants.{Never, Within}
 use Rattle.calendar.specs.Triples.{triple, endOf, validTriple, validTriples}
 use Rattle.calendar.specs.Rule.{ruleOf}
 use Rattle.calendar.specs.Entry.{calendarRule}
-use Rattle.propagation.specs.Load.{mustRun}
-use Rattle.propagation.specs.Steps.{step, letterC, letterO, letterL, letterU}
-use Rattle.propagation.specs.Filter.{Run, settled, impossible, noRoom, ended, run}
+use Rattle.steps.specs.Load.{mustRun}
+use Rattle.steps.specs.Steps.{step, letterC, letterO, letterL, letterU}
+use Rattle.steps.specs.Filter.{Run, settled, impossible, noRoom, ended, run}
 
 abbrev pub bounds : ℕ → ℕ → ℕ → ℕ → ℕ → ℕ → Bounds
 bounds s₁ s₂ e₁ e₂ o₁ o₂ =

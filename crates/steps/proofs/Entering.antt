@@ -12,11 +12,11 @@ use Rattle.plan.specs.Refusals.{Fault, fault, Answer, refused, answerUnless}
 use Rattle.plan.specs.Faults.{oneForEachTask, planFault}
 use Rattle.plan.proofs.Refusing.{unless-none, go-on, refuse}
 use Rattle.plan.proofs.Passed.{Passed, passed}
-use Rattle.propagation.specs.Log.{replayFrom, replay}
-use Rattle.propagation.specs.Filter.{run}
-use Rattle.propagation.specs.Entry.{stepsFrom, stepsIn, oneForEachStep, entryFault, Accepted, checkLog, checkFrom, checkAnswer, FilterAnswer, refusedBy, Leaves, logged, filterPlan}
-use Rattle.propagation.specs.Claim.{CheckedHolds, FilterHolds}
-use Rattle.propagation.proofs.Contracts.{check-holds, filter-holds}
+use Rattle.steps.specs.Log.{replayFrom, replay}
+use Rattle.steps.specs.Filter.{run}
+use Rattle.steps.specs.Entry.{stepsFrom, stepsIn, oneForEachStep, entryFault, Accepted, checkLog, checkFrom, checkAnswer, FilterAnswer, refusedBy, Leaves, logged, filterPlan}
+use Rattle.steps.specs.Claim.{CheckedHolds, FilterHolds}
+use Rattle.steps.proofs.Contracts.{check-holds, filter-holds}
 
 module _ (P : Plan) (boxes kinds tasks hours : List ℕ) where
   abbrev Tasks : Bool

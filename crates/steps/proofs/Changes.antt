@@ -23,12 +23,12 @@ use Rattle.calendar.specs.Triples.{startOf, endOf, inBounds}
 use Rattle.calendar.specs.Rule.{lst, ect}
 use Rattle.calendar.proofs.Members.{InBounds, in-bounds, bounds-in, Narrower, never-valid, rule-narrower}
 use Rattle.schedule.specs.Schedule.{runs, Feasible}
-use Rattle.propagation.specs.declared.Step.{Step}
-use Rattle.propagation.specs.Load.{fitAt}
-use Rattle.propagation.specs.Steps.{Kind, sameBounds, withEarliest, withLatest, impossible, moved, judge}
-use Rattle.propagation.specs.Widths.{width, widths}
-use Rattle.propagation.proofs.Loads.{fit-held, load-runs, others-run}
-use Rattle.propagation.proofs.Judgements.{Crowded, Moves, movesC, movesL, movesU, Stops, stopsC, stopsO, stopsL, stopsU, judged-moved, judged-impossible}
+use Rattle.steps.specs.declared.Step.{Step}
+use Rattle.steps.specs.Load.{fitAt}
+use Rattle.steps.specs.Steps.{Kind, sameBounds, withEarliest, withLatest, impossible, moved, judge}
+use Rattle.steps.specs.Widths.{width, widths}
+use Rattle.steps.proofs.Loads.{fit-held, load-runs, others-run}
+use Rattle.steps.proofs.Judgements.{Crowded, Moves, movesC, movesL, movesU, Stops, stopsC, stopsO, stopsL, stopsU, judged-moved, judged-impossible}
 
 -- one task's box becomes a narrower one, a box still, and no feasible schedule is lost
 pub record Change (P : Plan) (boxes left : List ℕ) : Type 0 where

@@ -5,8 +5,8 @@ use Prim.Native.Nat.{ℕ, zero, suc}
 use lib.ListN.{length}
 use Rattle.units.specs.Choice.{onOption, _orElse_, firstOf}
 use Rattle.plan.specs.Plan.{Plan, taskCount}
-use Rattle.propagation.specs.declared.Step.{Step}
-use Rattle.propagation.specs.Steps.{step, letterC, letterO, letterL, letterU, judge, onJudgement}
+use Rattle.steps.specs.declared.Step.{Step}
+use Rattle.steps.specs.Steps.{step, letterC, letterO, letterL, letterU, judge, onJudgement}
 
 -- An admitted step: one that says impossible, or one that moves a bound, with the boxes that it leaves.
 pub data Admitted : Type 0 where

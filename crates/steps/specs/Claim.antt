@@ -13,11 +13,11 @@ use Rattle.plan.specs.Refusals.{Fault, fault, Answer, refused, answered}
 use Rattle.calendar.specs.declared.Triple.{Triple}
 use Rattle.calendar.specs.Triples.{inBounds}
 use Rattle.schedule.specs.Schedule.{Feasible}
-use Rattle.propagation.specs.declared.Step.{Step}
-use Rattle.propagation.specs.Log.{logEnd, replay, AllAdmitted}
-use Rattle.propagation.specs.Filter.{Ending, settled, impossible, noRoom, ifAdmitted, count, run}
-use Rattle.propagation.specs.Entry.{Accepted, FilterAnswer, settledAfter, impossibleAfter, endingAnswer}
-use Rattle.propagation.specs.Widths.{widths}
+use Rattle.steps.specs.declared.Step.{Step}
+use Rattle.steps.specs.Log.{logEnd, replay, AllAdmitted}
+use Rattle.steps.specs.Filter.{Ending, settled, impossible, noRoom, ifAdmitted, count, run}
+use Rattle.steps.specs.Entry.{Accepted, FilterAnswer, settledAfter, impossibleAfter, endingAnswer}
+use Rattle.steps.specs.Widths.{widths}
 
 -- the run's last step said impossible
 unfoldable pub saidImpossible : Ending → Bool

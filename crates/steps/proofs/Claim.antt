@@ -8,10 +8,10 @@ use borrow.Author.Tests.{eqb-true}
 use Rattle.units.proofs.Choices.{and-right}
 use Rattle.plan.specs.Plan.{Plan, taskCount}
 use Rattle.plan.specs.Faults.{oneForEachTask}
-use Rattle.propagation.specs.declared.Step.{Step}
-use Rattle.propagation.specs.Claim.{LogsHold}
-use Rattle.propagation.proofs.Replays.{accepted-admitted, admitted-accepted, accepted-steps, replay-keeps, replay-possible}
-use Rattle.propagation.proofs.Runs.{run-replays, run-fits, run-short}
+use Rattle.steps.specs.declared.Step.{Step}
+use Rattle.steps.specs.Claim.{LogsHold}
+use Rattle.steps.proofs.Replays.{accepted-admitted, admitted-accepted, accepted-steps, replay-keeps, replay-possible}
+use Rattle.steps.proofs.Runs.{run-replays, run-fits, run-short}
 
 -- lent memory of the right size has a box for each task
 pub boxes-sized : (P : Plan) (boxes : List ℕ) → oneForEachTask (P .taskCalendars) (P .workTimes) (P .heights) boxes ≡ true

@@ -20,7 +20,7 @@ use Rattle.calendar.specs.Triples.{startOf, endOf}
 use Rattle.calendar.specs.Rule.{lst, ect}
 use Rattle.calendar.proofs.Members.{in-bounds, Held, rule-held}
 use Rattle.schedule.specs.Schedule.{runs, running, Feasible}
-use Rattle.propagation.specs.Load.{fitAt, mustRun, load, othersLoad}
+use Rattle.steps.specs.Load.{fitAt, mustRun, load, othersLoad}
 
 -- ---- for any heights, any number of tasks and any two tests, of which the first holds only where the second does
 

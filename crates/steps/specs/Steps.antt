@@ -12,8 +12,8 @@ use Rattle.calendar.specs.declared.Window.{Window}
 use Rattle.calendar.specs.declared.Fit.{Fit}
 use Rattle.calendar.specs.declared.Fit.the-variants.{Never, Within}
 use Rattle.calendar.specs.Rule.{lst, ect}
-use Rattle.propagation.specs.declared.Step.{Step}
-use Rattle.propagation.specs.Load.{fitAt, load, excess}
+use Rattle.steps.specs.declared.Step.{Step}
+use Rattle.steps.specs.Load.{fitAt, load, excess}
 
 abbrev pub step : ℕ → ℕ → ℕ → Step
 step kind task hour = record { kind = kind; task = task; hour = hour }

@@ -1,0 +1,9 @@
+pub mod Loads
+pub mod Judgements
+pub mod Changes
+pub mod Replays
+pub mod Runs
+pub mod Claim
+pub mod Contracts
+pub mod Entering
+pub mod Weeks
