@@ -55,6 +55,6 @@ module _ (cal : List ℕ) (p : ℕ) (b : Bounds) where
   unfolding inputFault oneTask oneBox boundsAt
   ready e =
       let faults = neither _ _ e in
-      let P = passed (oneTask cal p) (oneBox b) one-each (faults .1) in
-      let box = P .task 0 (unfold taskCount in (omega arith)) .box in
-      (box .shortest, box .latest, P .hours, P .symbols)
+      let known = passed (oneTask cal p) (oneBox b) one-each (faults .1) in
+      let box = known .task 0 (unfold taskCount in (omega arith)) .box in
+      (box .shortest, box .latest, known .hours, known .symbols)

@@ -2,9 +2,9 @@
 use calendar::RuleAnswer;
 use plan::fault_of;
 use plan_text::PlanReading;
+use schedule::ScheduleChecked;
 use steps::Filtered;
 use steps::LogChecked;
-use schedule::ScheduleChecked;
 ghost use mathlib.Core.Path.{_≡_};
 ghost use Rattle.calendar.specs.Entry.{ruleAnswer};
 ghost use Rattle.schedule.specs.Entry.{scheduleAnswer};

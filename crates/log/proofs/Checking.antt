@@ -68,7 +68,7 @@ pub same-fault : (P : Plan) (boxes ks ts hs : List ℕ) → length ts ≡ length
 unfolding entryFault inputFault oneForEachStep
 same-fault P boxes ks ts hs t h =
     ap (λ (b : Bool). unless b 31 0 orElse planFault P boxes)
-    (and-true (oneForEachTask (P .taskCalendars) (P .workTimes) (P .heights) boxes) _
+    (and-true (oneForEachTask (P .shifts .taskCalendars) (P .shifts .workTimes) (P .heights) boxes) _
     (and-both _ _ (eq-eqb (length ts) (length ks) t) (eq-eqb (length hs) (length ks) h)))
   where
     and-true : (a b : Bool) → b ≡ true → (a and b) ≡ a

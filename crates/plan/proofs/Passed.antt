@@ -18,20 +18,20 @@ use Rattle.plan.proofs.Refusing.{unless-none, sized}
 
 -- what it has of task i
 pub record PassedTask (P : Plan) (boxes : List ℕ) (i : ℕ) : Type 0 where
-  pub calendar : firstSymbol (P .hours) (getD (P .taskCalendars) i 0) + P .hours ≤ length (P .calendars)
-  pub calendar-length : length (calendarOf P i) ≡ P .hours
-  pub some-work : 1 ≤ workTimeOf P i
-  pub work-time : workTimeOf P i ≤ P .hours
+  pub calendar : firstSymbol (P .shifts .hours) (getD (P .shifts .taskCalendars) i 0) + P .shifts .hours ≤ length (P .shifts .calendars)
+  pub calendar-length : length (calendarOf (P .shifts) i) ≡ P .shifts .hours
+  pub some-work : 1 ≤ workTimeOf (P .shifts) i
+  pub work-time : workTimeOf (P .shifts) i ≤ P .shifts .hours
   pub height : heightOf P i ≤ mostHeight
-  pub box : Boxed (P .hours) (workTimeOf P i) (boundsAt boxes i)
+  pub box : Boxed (P .shifts .hours) (workTimeOf (P .shifts) i) (boundsAt boxes i)
 
 pub record Passed (P : Plan) (bs : List ℕ) : Type 0 where
-  pub some-hours : 1 ≤ P .hours
-  pub hours : P .hours ≤ mostHours
-  pub symbols : (k : ℕ) → k < length (P .calendars) → isSymbol (getD (P .calendars) k 0) ≡ true
+  pub some-hours : 1 ≤ P .shifts .hours
+  pub hours : P .shifts .hours ≤ mostHours
+  pub symbols : (k : ℕ) → k < length (P .shifts .calendars) → isSymbol (getD (P .shifts .calendars) k 0) ≡ true
   pub tasks : taskCount P ≤ mostTasks
   pub capacity : P .capacity ≤ mostCapacity
-  pub work-times : length (P .workTimes) ≡ taskCount P
+  pub work-times : length (P .shifts .workTimes) ≡ taskCount P
   pub heights : length (P .heights) ≡ taskCount P
   pub boxes : length bs ≡ 6 * taskCount P
   pub task : (i : ℕ) → i < taskCount P → PassedTask P bs i
@@ -41,11 +41,11 @@ calendar-fits : (n h k : ℕ) → n % h ≡ 0 → k < n / h → k * h + h ≤ n
 calendar-fits n h k whole l = omega (arith, div-add-mod' n h, mul-le-mul-right {m = k + 1} {n = n / h} h (omega arith), add-mul k 1 h)
 
 module _ (P : Plan) (boxes : List ℕ) where
-  calendar-length : (number : ℕ) → firstSymbol (P .hours) number + P .hours ≤ length (P .calendars) → length (calendarAt P number) ≡ P .hours
+  calendar-length : (number : ℕ) → firstSymbol (P .shifts .hours) number + P .shifts .hours ≤ length (P .shifts .calendars) → length (calendarAt (P .shifts) number) ≡ P .shifts .hours
   unfolding calendarAt
   calendar-length number l = simp (length-take, length-drop) (omega arith)
 
-  passed-task : (i : ℕ) → isCalendars P ≡ true → taskFault P boxes i ≡ none → PassedTask P boxes i
+  passed-task : (i : ℕ) → isCalendars (P .shifts) ≡ true → taskFault P boxes i ≡ none → PassedTask P boxes i
   unfolding taskFault isCalendars calendarCount calendarOf firstSymbol isCalendarNumber isWorkTime isHeight
   passed-task i whole e =
       let after-6 = neither _ _ e in
@@ -56,13 +56,13 @@ module _ (P : Plan) (boxes : List ℕ) where
       record {
         calendar = fits;
         calendar-length = calendar-length _ fits;
-        some-work = from-least 1 (P .hours) _ work;
-        work-time = to-most 1 (P .hours) _ work;
+        some-work = from-least 1 (P .shifts .hours) _ work;
+        work-time = to-most 1 (P .shifts .hours) _ work;
         height = leb-true _ _ (unless-none _ 8 i (after-8 .0));
         box = boxed _ _ _ (unless-none _ 9 i (after-8 .1));
       }
 
-  pub passed : oneForEachTask (P .taskCalendars) (P .workTimes) (P .heights) boxes ≡ true → planFault P boxes ≡ none → Passed P boxes
+  pub passed : oneForEachTask (P .shifts .taskCalendars) (P .shifts .workTimes) (P .heights) boxes ≡ true → planFault P boxes ≡ none → Passed P boxes
   unfolding planFault taskCount isPlanLength isTaskCount isCapacity
   passed one e =
       let size = sized _ _ _ _ one in

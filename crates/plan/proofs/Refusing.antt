@@ -12,7 +12,7 @@ use Rattle.units.specs.Choice.{_and_, _orElse_, firstOf}
 use Rattle.units.proofs.Choices.{and-left, and-right, some-if, none-if, if-none, else-none, else-some}
 use Rattle.units.specs.Limits.{isCalendarCount, isCalendarNumber, isWorkTime, isHeight, isBox}
 use Rattle.units.specs.declared.Bounds.{Bounds}
-use Rattle.plan.specs.Plan.{Plan, plan, taskCount, calendarCount, workTimeOf, heightOf}
+use Rattle.plan.specs.Plan.{Shifts, Plan, plan, taskCount, calendarCount, workTimeOf, heightOf}
 use Rattle.plan.specs.Boxes.{boundsAt}
 use Rattle.plan.specs.Refusals.{Fault, fault, unless}
 use Rattle.plan.specs.Faults.{oneForEachTask, isCalendars, taskFault}
@@ -74,24 +74,24 @@ sized cs ws hs bs e =
     }
 
 -- the tests of a plan, from the numbers that the code holds
-pub calendars-are : (P : Plan) (hours : ℕ) (r : Bool) → hours ≡ P .hours
-    → r ≡ (eqb (length (P .calendars) % hours) 0 and isCalendarCount (length (P .calendars) / hours)) → r ≡ isCalendars P
+pub calendars-are : (S : Shifts) (hours : ℕ) (r : Bool) → hours ≡ S .hours
+    → r ≡ (eqb (length (S .calendars) % hours) 0 and isCalendarCount (length (S .calendars) / hours)) → r ≡ isCalendars S
 unfolding isCalendars calendarCount
-calendars-are P hours r e q = rw (← e) q
+calendars-are S hours r e q = rw (← e) q
 
 module _ (P : Plan) (bs : List ℕ) where
-  pub task-is : (i count : ℕ) (b : Bounds) (r : Option Fault) → count ≡ length (P .calendars) / P .hours → b ≡ boundsAt bs i
+  pub task-is : (i count : ℕ) (b : Bounds) (r : Option Fault) → count ≡ length (P .shifts .calendars) / P .shifts .hours → b ≡ boundsAt bs i
       → r
-      ≡ (unless (isCalendarNumber count (getD (P .taskCalendars) i 0)) 6 i
-      orElse unless (isWorkTime (P .hours) (getD (P .workTimes) i 0)) 7 i
+      ≡ (unless (isCalendarNumber count (getD (P .shifts .taskCalendars) i 0)) 6 i
+      orElse unless (isWorkTime (P .shifts .hours) (getD (P .shifts .workTimes) i 0)) 7 i
       orElse unless (isHeight (getD (P .heights) i 0)) 8 i
-      orElse unless (isBox (P .hours) (getD (P .workTimes) i 0) b) 9 i)
+      orElse unless (isBox (P .shifts .hours) (getD (P .shifts .workTimes) i 0) b) 9 i)
       → r ≡ taskFault P bs i
   unfolding taskFault calendarCount workTimeOf heightOf
   task-is i count b r e f q = rw (← e, ← f) q
 
-  pub tasks-are : (hours : ℕ) (r : Option Fault) → hours ≡ P .hours
-      → r ≡ firstOf (taskFault (plan hours 0 (P .calendars) (P .taskCalendars) (P .workTimes) (P .heights)) bs) (length (P .taskCalendars))
+  pub tasks-are : (hours : ℕ) (r : Option Fault) → hours ≡ P .shifts .hours
+      → r ≡ firstOf (taskFault (plan hours 0 (P .shifts .calendars) (P .shifts .taskCalendars) (P .shifts .workTimes) (P .heights)) bs) (length (P .shifts .taskCalendars))
       → r ≡ firstOf (taskFault P bs) (taskCount P)
   unfolding taskFault calendarCount workTimeOf heightOf taskCount
   tasks-are hours r e q = rw (← e) q

@@ -8,7 +8,7 @@ use lib.Dec.{eqb}
 use lib.ListN.{length, getD}
 use Rattle.units.specs.Choice.{_and_, if_then_else_, _orElse_, firstOf}
 use Rattle.units.specs.Limits.{isPlanLength, isWorkTime, isHeight, isCapacity, isCalendarCount, isCalendarNumber, isTaskCount, isBox}
-use Rattle.plan.specs.Plan.{Plan, regular, closed, overtime, taskCount, calendarCount, workTimeOf, heightOf}
+use Rattle.plan.specs.Plan.{Shifts, Plan, regular, closed, overtime, taskCount, calendarCount, workTimeOf, heightOf}
 use Rattle.plan.specs.Boxes.{boundsAt}
 use Rattle.plan.specs.Refusals.{Fault, unless}
 
@@ -20,8 +20,8 @@ oneForEachTask taskCalendars workTimes heights boxes =
     and eqb (length boxes) (6 * length taskCalendars)
 
 -- 1 to 16 calendars, each of H symbols
-unfoldable pub isCalendars : Plan → Bool
-isCalendars P = eqb (length (P .calendars) % P .hours) 0 and isCalendarCount (calendarCount P)
+unfoldable pub isCalendars : Shifts → Bool
+isCalendars S = eqb (length (S .calendars) % S .hours) 0 and isCalendarCount (calendarCount S)
 
 -- r, c or o
 unfoldable pub isSymbol : ℕ → Bool
@@ -30,24 +30,24 @@ isSymbol n = if eqb n regular then true else (if eqb n closed then true else eqb
 -- task by task 6, 7, 8, 9
 unfoldable pub taskFault : Plan → List ℕ → ℕ → Option Fault
 taskFault P boxes i =
-    unless (isCalendarNumber (calendarCount P) (getD (P .taskCalendars) i 0)) 6 i
-    orElse unless (isWorkTime (P .hours) (workTimeOf P i)) 7 i
+    unless (isCalendarNumber (calendarCount (P .shifts)) (getD (P .shifts .taskCalendars) i 0)) 6 i
+    orElse unless (isWorkTime (P .shifts .hours) (workTimeOf (P .shifts) i)) 7 i
     orElse unless (isHeight (heightOf P i)) 8 i
-    orElse unless (isBox (P .hours) (workTimeOf P i) (boundsAt boxes i)) 9 i
+    orElse unless (isBox (P .shifts .hours) (workTimeOf (P .shifts) i) (boundsAt boxes i)) 9 i
 
 -- 2, 3, 4, 5, 10, then task by task
 unfoldable pub planFault : Plan → List ℕ → Option Fault
 planFault P boxes =
-    unless (isPlanLength (P .hours)) 2 0
-    orElse unless (isCalendars P) 3 0
-    orElse firstOf (λ k. unless (isSymbol (getD (P .calendars) k 0)) 4 k) (length (P .calendars))
+    unless (isPlanLength (P .shifts .hours)) 2 0
+    orElse unless (isCalendars (P .shifts)) 3 0
+    orElse firstOf (λ k. unless (isSymbol (getD (P .shifts .calendars) k 0)) 4 k) (length (P .shifts .calendars))
     orElse unless (isTaskCount (taskCount P)) 5 0
     orElse unless (isCapacity (P .capacity)) 10 0
     orElse firstOf (taskFault P boxes) (taskCount P)
 
 -- 31 before all others
 unfoldable pub inputFault : Plan → List ℕ → Option Fault
-inputFault P boxes = unless (oneForEachTask (P .taskCalendars) (P .workTimes) (P .heights) boxes) 31 0 orElse planFault P boxes
+inputFault P boxes = unless (oneForEachTask (P .shifts .taskCalendars) (P .shifts .workTimes) (P .heights) boxes) 31 0 orElse planFault P boxes
 
 -- a plan passes the tests if none of 2 to 10 applies to it
 abbrev pub Passes : Plan → List ℕ → Type 0

@@ -4,7 +4,7 @@ use mathlib.Core.List.{List}
 use Prim.Native.Nat.{ℕ}
 use denote.Ref.{RefT}
 use denote.Triple.Both.{Both}
-use Rattle.plan.specs.Plan.{Plan, plan}
+use Rattle.plan.specs.Plan.{Shifts, Plan, shifts, plan}
 
 -- a reference in an `ensures`
 abbrev pub Lent : Type 0 → Type 0
@@ -17,7 +17,13 @@ old s = s .entry .now
 abbrev pub left : {X : Type 0} → Lent X → X
 left s = s .exit .now
 
--- the plan that the slices hold: in a `requires`, and in an `ensures` as the function began
+-- the plan that the slices hold, and of it the part that the calendar rule reads: in a `requires`, and in an `ensures` as the function began
+abbrev pub shiftsOf : ℕ → RefT (List ℕ) → RefT (List ℕ) → RefT (List ℕ) → Shifts
+shiftsOf hours calendars taskCalendars workTimes = shifts hours (calendars .now) (taskCalendars .now) (workTimes .now)
+
+abbrev pub oldShifts : ℕ → Lent (List ℕ) → Lent (List ℕ) → Lent (List ℕ) → Shifts
+oldShifts hours calendars taskCalendars workTimes = shifts hours (old calendars) (old taskCalendars) (old workTimes)
+
 abbrev pub planOf : ℕ → ℕ → RefT (List ℕ) → RefT (List ℕ) → RefT (List ℕ) → RefT (List ℕ) → Plan
 planOf hours capacity calendars taskCalendars workTimes heights =
     plan hours capacity (calendars .now) (taskCalendars .now) (workTimes .now) (heights .now)

@@ -5,26 +5,27 @@ use Prim.Native.Nat.{ℕ, _*_, _/_}
 use lib.ListN.{length, getD, take, drop}
 use Rattle.units.specs.Sums.{sumWhere}
 
--- H, the capacity, the symbols of the calendars, joined, and one number a task for each of its calendar, its work time p and its height.
--- The boxes are lent beside the plan.
-pub record Plan : Type 0 where
+-- What the calendar rule reads of a plan: H, the symbols of the calendars, joined, and one number a task for each of its calendar and its work
+-- time p. 01 has no name for this part.
+pub record Shifts : Type 0 where
   pub hours : ℕ
-  pub capacity : ℕ
   pub calendars : List ℕ
   pub taskCalendars : List ℕ
   pub workTimes : List ℕ
+
+-- A plan: that part, the capacity, and one number a task for its height. The boxes are lent beside the plan.
+pub record Plan : Type 0 where
+  pub shifts : Shifts
+  pub capacity : ℕ
   pub heights : List ℕ
+
+abbrev pub shifts : ℕ → List ℕ → List ℕ → List ℕ → Shifts
+shifts hours calendars taskCalendars workTimes =
+    record { hours = hours; calendars = calendars; taskCalendars = taskCalendars; workTimes = workTimes }
 
 abbrev pub plan : ℕ → ℕ → List ℕ → List ℕ → List ℕ → List ℕ → Plan
 plan hours capacity calendars taskCalendars workTimes heights =
-    record {
-      hours = hours;
-      capacity = capacity;
-      calendars = calendars;
-      taskCalendars = taskCalendars;
-      workTimes = workTimes;
-      heights = heights;
-    }
+    record { shifts = shifts hours calendars taskCalendars workTimes; capacity = capacity; heights = heights }
 
 -- The symbols: `r` regular, `c` closed, `o` overtime.
 abbrev pub regular : ℕ
@@ -38,24 +39,24 @@ overtime = 111
 
 -- how many tasks there are
 unfoldable pub taskCount : Plan → ℕ
-taskCount P = length (P .taskCalendars)
+taskCount P = length (P .shifts .taskCalendars)
 
 -- how many calendars of H symbols there are, and the symbols of one: number × H is the index of its first
-unfoldable pub calendarCount : Plan → ℕ
-calendarCount P = length (P .calendars) / P .hours
+unfoldable pub calendarCount : Shifts → ℕ
+calendarCount S = length (S .calendars) / S .hours
 
 unfoldable pub firstSymbol : ℕ → ℕ → ℕ
 firstSymbol hours number = number * hours
 
-unfoldable pub calendarAt : Plan → ℕ → List ℕ
-calendarAt P number = take (P .hours) (drop (firstSymbol (P .hours) number) (P .calendars))
+unfoldable pub calendarAt : Shifts → ℕ → List ℕ
+calendarAt S number = take (S .hours) (drop (firstSymbol (S .hours) number) (S .calendars))
 
 -- a task's calendar, its work time and its height
-unfoldable pub calendarOf : Plan → ℕ → List ℕ
-calendarOf P i = calendarAt P (getD (P .taskCalendars) i 0)
+unfoldable pub calendarOf : Shifts → ℕ → List ℕ
+calendarOf S i = calendarAt S (getD (S .taskCalendars) i 0)
 
-unfoldable pub workTimeOf : Plan → ℕ → ℕ
-workTimeOf P i = getD (P .workTimes) i 0
+unfoldable pub workTimeOf : Shifts → ℕ → ℕ
+workTimeOf S i = getD (S .workTimes) i 0
 
 unfoldable pub heightOf : Plan → ℕ → ℕ
 heightOf P i = getD (P .heights) i 0

@@ -108,10 +108,10 @@ module _ (cs ts ws ks bs : List ℕ) where
           leaves-calendars = a ∙ ap (λ l. written l cs) (read-symbols symbols);
           leaves-task-calendars =
               b ∙ ap (λ l. written l ts)
-              (kept-take (planIn r .taskCalendars) tc (s .tasks) (count-calendars held) (omega (arith, tasks)) (held .kept-calendars));
+              (kept-take (planIn r .shifts .taskCalendars) tc (s .tasks) (count-calendars held) (omega (arith, tasks)) (held .kept-calendars));
           leaves-work-times =
               c ∙ ap (λ l. written l ws)
-              (kept-take (planIn r .workTimes) wt (s .tasks) (count-work-times held) (omega (arith, tasks, size .one-work-time)) (held .kept-work-times));
+              (kept-take (planIn r .shifts .workTimes) wt (s .tasks) (count-work-times held) (omega (arith, tasks, size .one-work-time)) (held .kept-work-times));
           leaves-heights =
               d ∙ ap (λ l. written l ks)
               (kept-take (planIn r .heights) hs (s .tasks) (count-heights held) (omega (arith, tasks, size .one-height)) (held .kept-heights));
@@ -120,6 +120,6 @@ module _ (cs ts ws ks bs : List ℕ) where
               (kept-take (boxesIn r) bx (6 * s .tasks) (count-boxes held) (omega (arith, tasks, size .one-box)) (held .kept-boxes));
         })
       where
-        read-symbols : s .symbols ≤ mostCalendars * mostHours → take (s .symbols) sy ≡ planIn r .calendars
+        read-symbols : s .symbols ≤ mostCalendars * mostHours → take (s .symbols) sy ≡ planIn r .shifts .calendars
         read-symbols h =
-            kept-take (planIn r .calendars) sy (s .symbols) (unfold planIn in (held .symbol-count)) (omega (arith, room)) (held .kept-symbols)
+            kept-take (planIn r .shifts .calendars) sy (s .symbols) (unfold planIn in (held .symbol-count)) (omega (arith, room)) (held .kept-symbols)

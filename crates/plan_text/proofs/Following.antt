@@ -182,11 +182,11 @@ module _ {r : Read} {s : Scan} {n : ℕ} {sy tc wt hs bx : List ℕ} (held : Hol
         (kept-past (joined (r .calendars) ++ l) sy (omega (arith, held .symbol-count, length-append (joined (r .calendars)) l)))
 
   -- as many as there are tasks
-  pub count-calendars : s .tasks ≡ length (planIn r .taskCalendars)
+  pub count-calendars : s .tasks ≡ length (planIn r .shifts .taskCalendars)
   unfolding planIn
   count-calendars = held .tasks ∙ sym (length-map (r .tasks) (λ t. getD t 0 0))
 
-  pub count-work-times : s .tasks ≡ length (planIn r .workTimes)
+  pub count-work-times : s .tasks ≡ length (planIn r .shifts .workTimes)
   unfolding planIn
   count-work-times = held .tasks ∙ sym (length-map (r .tasks) (λ t. getD t 1 0))
 
@@ -216,8 +216,8 @@ module _ {r : Read} {s : Scan} {n : ℕ} {sy tc wt hs bx : List ℕ} (held : Hol
         }
 
     task-next : (tc′ wt′ hs′ bx′ : List ℕ)
-        → Kept (planIn r .taskCalendars ++ (getD ns 0 0 ∷ [])) tc′
-        → Kept (planIn r .workTimes ++ (getD ns 1 0 ∷ [])) wt′
+        → Kept (planIn r .shifts .taskCalendars ++ (getD ns 0 0 ∷ [])) tc′
+        → Kept (planIn r .shifts .workTimes ++ (getD ns 1 0 ∷ [])) wt′
         → Kept (planIn r .heights ++ (getD ns 2 0 ∷ [])) hs′
         → Kept (boxesIn r ++ boxOf (s .hours) ns) bx′
         → Follows (withRecord r (taskRecord ns)) (Next task-scan) (n + 1) sy tc′ wt′ hs′ bx′
@@ -248,8 +248,8 @@ module _ {r : Read} {s : Scan} {n : ℕ} {sy tc wt hs bx : List ℕ} (held : Hol
         → Follows (withRecord r (taskRecord ns)) (Next task-scan) (n + 1) sy tc′ wt′ hs′ bx′
     task-stored tc′ wt′ hs′ bx′ p q u v size h =
         task-next tc′ wt′ hs′ bx′
-        (rw p (kept-one (planIn r .taskCalendars) tc _ (s .tasks) count-calendars h (held .kept-calendars)))
-        (rw q (kept-one (planIn r .workTimes) wt _ (s .tasks) count-work-times (omega (arith, size .one-work-time)) (held .kept-work-times)))
+        (rw p (kept-one (planIn r .shifts .taskCalendars) tc _ (s .tasks) count-calendars h (held .kept-calendars)))
+        (rw q (kept-one (planIn r .shifts .workTimes) wt _ (s .tasks) count-work-times (omega (arith, size .one-work-time)) (held .kept-work-times)))
         (rw u (kept-one (planIn r .heights) hs _ (s .tasks) count-heights (omega (arith, size .one-height)) (held .kept-heights)))
         (rw v
         (kept-more (boxesIn r) (boxOf (s .hours) ns) bx (6 * s .tasks) count-boxes (omega (arith, size .one-box, box-length (s .hours) ns))
@@ -259,10 +259,10 @@ module _ {r : Read} {s : Scan} {n : ℕ} {sy tc wt hs bx : List ℕ} (held : Hol
         → Follows (withRecord r (taskRecord ns)) (Next task-scan) (n + 1) sy tc wt hs bx
     task-full size h =
         task-next tc wt hs bx
-        (kept-past (planIn r .taskCalendars ++ (getD ns 0 0 ∷ [])) tc
-        (omega (arith, count-calendars, length-append (planIn r .taskCalendars) (getD ns 0 0 ∷ []))))
-        (kept-past (planIn r .workTimes ++ (getD ns 1 0 ∷ [])) wt
-        (omega (arith, size .one-work-time, count-work-times, length-append (planIn r .workTimes) (getD ns 1 0 ∷ []))))
+        (kept-past (planIn r .shifts .taskCalendars ++ (getD ns 0 0 ∷ [])) tc
+        (omega (arith, count-calendars, length-append (planIn r .shifts .taskCalendars) (getD ns 0 0 ∷ []))))
+        (kept-past (planIn r .shifts .workTimes ++ (getD ns 1 0 ∷ [])) wt
+        (omega (arith, size .one-work-time, count-work-times, length-append (planIn r .shifts .workTimes) (getD ns 1 0 ∷ []))))
         (kept-past (planIn r .heights ++ (getD ns 2 0 ∷ [])) hs
         (omega (arith, size .one-height, count-heights, length-append (planIn r .heights) (getD ns 2 0 ∷ []))))
         (kept-past (boxesIn r ++ boxOf (s .hours) ns) bx

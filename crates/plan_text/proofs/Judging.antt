@@ -56,7 +56,7 @@ module _ (a b c x y : Option Fault) where
 
 -- a plan with more tasks than it may have is refused by 4 or else by 5: as one without tasks, or else by 5
 crowded : (P : Plan) (boxes : List ℕ) → mostTasks < taskCount P
-    → planFault P boxes ≡ (planFault (plan (P .hours) 0 (P .calendars) [] [] []) [] orElse some (fault 5 0))
+    → planFault P boxes ≡ (planFault (plan (P .shifts .hours) 0 (P .shifts .calendars) [] [] []) [] orElse some (fault 5 0))
 unfolding planFault isCalendars calendarCount taskCount firstOf isTaskCount isCapacity
 crowded P boxes h =
     ends-alike _ _ _ _ _ (refuse _ 5 0 _ (lt-leb (taskCount P) mostTasks h))
@@ -103,7 +103,7 @@ module _ {r : Read} {s : Scan} {n : ℕ} {sy tc wt hs bx : List ℕ} (held : Hol
         omega (arith, held .symbol-count, joined-length (r .hours) (r .calendars) even)
 
     module _ (room : length sy ≡ mostCalendars * mostHours) (task-room : length tc ≡ mostTasks) (size : Sized tc wt hs bx) where
-      stored-symbols : take (s .symbols) sy ≡ planIn r .calendars
+      stored-symbols : take (s .symbols) sy ≡ planIn r .shifts .calendars
       unfolding planIn
       stored-symbols = kept-take (joined (r .calendars)) sy (s .symbols) (held .symbol-count) (omega (arith, symbols-fit)) (held .kept-symbols)
 
@@ -115,15 +115,15 @@ module _ {r : Read} {s : Scan} {n : ℕ} {sy tc wt hs bx : List ℕ} (held : Hol
       read-plan t =
           ap₂ planFault
           (same-plan (held .hours) (held .capacity) stored-symbols
-          (kept-take (planIn r .taskCalendars) tc (s .tasks) (count-calendars held) (omega arith) (held .kept-calendars))
-          (kept-take (planIn r .workTimes) wt (s .tasks) (count-work-times held) (omega (arith, size .one-work-time)) (held .kept-work-times))
+          (kept-take (planIn r .shifts .taskCalendars) tc (s .tasks) (count-calendars held) (omega arith) (held .kept-calendars))
+          (kept-take (planIn r .shifts .workTimes) wt (s .tasks) (count-work-times held) (omega (arith, size .one-work-time)) (held .kept-work-times))
           (kept-take (planIn r .heights) hs (s .tasks) (count-heights held) (omega (arith, size .one-height)) (held .kept-heights)))
           (kept-take (boxesIn r) bx (6 * s .tasks) (count-boxes held) (omega (arith, size .one-box)) (held .kept-boxes))
           ∙ whole-plan
           ∙ sym by-plan
         where
           whole-plan : planFault
-              (plan (r .hours) (r .capacity) (planIn r .calendars) (planIn r .taskCalendars) (planIn r .workTimes) (planIn r .heights)) (boxesIn r)
+              (plan (r .hours) (r .capacity) (planIn r .shifts .calendars) (planIn r .shifts .taskCalendars) (planIn r .shifts .workTimes) (planIn r .heights)) (boxesIn r)
               ≡ planFault (planIn r) (boxesIn r)
           whole-plan = unfold planIn in refl
 
@@ -150,7 +150,7 @@ module _ {r : Read} {s : Scan} {n : ℕ} {sy tc wt hs bx : List ℕ} (held : Hol
       let three = unless-none _ 3 0 (after-3 .0) in
       let c : isCalendarCount (s .calendars) ≡ true = rw (held .calendars) (and-left _ _ three) in (
         symbols-fit h c (held .even ∙ and-right _ _ three),
-        omega (arith, count-calendars held, leb-true (length (planIn r .taskCalendars)) mostTasks (unless-none _ 5 0 (of-plan-5 .0))),
+        omega (arith, count-calendars held, leb-true (length (planIn r .shifts .taskCalendars)) mostTasks (unless-none _ 5 0 (of-plan-5 .0))),
       )
 
 -- parts for as many tasks

@@ -101,9 +101,9 @@ module _ (calendars taskCalendars workTimes heights boxes : List ℕ) where
               calendars = length (r .calendars);
               tasks = length (r .tasks);
             };
-        calendars = written (planIn r .calendars) calendars;
-        taskCalendars = written (planIn r .taskCalendars) taskCalendars;
-        workTimes = written (planIn r .workTimes) workTimes;
+        calendars = written (planIn r .shifts .calendars) calendars;
+        taskCalendars = written (planIn r .shifts .taskCalendars) taskCalendars;
+        workTimes = written (planIn r .shifts .workTimes) workTimes;
         heights = written (planIn r .heights) heights;
         boxes = written (boxesIn r) boxes;
       }

@@ -43,9 +43,9 @@ pub record Holds (r : Read) (s : Scan) (n : ℕ) (symbols taskCalendars workTime
   pub symbol-count : s .symbols ≡ length (joined (r .calendars))
   pub tasks : s .tasks ≡ length (r .tasks)
   pub few : counted s ≤ n
-  pub kept-symbols : Kept (planIn r .calendars) symbols
-  pub kept-calendars : Kept (planIn r .taskCalendars) taskCalendars
-  pub kept-work-times : Kept (planIn r .workTimes) workTimes
+  pub kept-symbols : Kept (planIn r .shifts .calendars) symbols
+  pub kept-calendars : Kept (planIn r .shifts .taskCalendars) taskCalendars
+  pub kept-work-times : Kept (planIn r .shifts .workTimes) workTimes
   pub kept-heights : Kept (planIn r .heights) heights
   pub kept-boxes : Kept (boxesIn r) boxes
 

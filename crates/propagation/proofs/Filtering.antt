@@ -10,7 +10,7 @@ use Rattle.units.specs.Limits.{mostTasks}
 use Rattle.units.specs.Choice.{onOption}
 use Rattle.units.specs.declared.Bounds.{Bounds}
 use Rattle.units.proofs.Choices.{option-case, none≢some}
-use Rattle.plan.specs.Plan.{Plan, plan}
+use Rattle.plan.specs.Plan.{Plan}
 use Rattle.plan.specs.Boxes.{withBounds}
 use Rattle.plan.specs.Refusals.{fault}
 use Rattle.plan.proofs.Passed.{Passed}
@@ -60,7 +60,7 @@ impossible≢moved e = absurd (let z : _≡_ {A = ℕ} 0 1 = cc in omega arith)
 
 module _ {P : Plan} {opening kinds₀ tasks₀ hours₀ : List ℕ} {count : ℕ} {boxes kinds tasks hours : List ℕ} {fits : List Fit}
     (at : Filtering P opening kinds₀ tasks₀ hours₀ count boxes kinds tasks hours fits) (r : Found)
-    (is : foundStep r ≡ nextBy (P .hours) (P .capacity) (P .heights) boxes fits) where
+    (is : foundStep r ≡ nextBy (P .shifts .hours) (P .capacity) (P .heights) boxes fits) where
   finds : foundStep r ≡ onOption (next P boxes) none (λ a. some (stepOf a))
   finds = is ∙ next-kept P boxes fits (at .keeps .passed .heights) (at .keeps .kept)
 
@@ -79,7 +79,7 @@ module _ {P : Plan} {opening kinds₀ tasks₀ hours₀ : List ℕ} {count : ℕ
         → Leaves (logged (run P opening (length kinds₀)) kinds₀ tasks₀ hours₀) (noRoomFor (fault 32 0) count) boxes kinds tasks hours
     fills l = ends-full P opening kinds₀ tasks₀ hours₀ count boxes kinds tasks hours (at .taken) (next-is .0) (next-is .1) (omega (arith, at .same-kinds))
 
-    module _ {j : Judged} (js : j ≡ judgeBy (P .hours) (P .capacity) (P .heights) boxes fits x) where
+    module _ {j : Judged} (js : j ≡ judgeBy (P .shifts .hours) (P .capacity) (P .heights) boxes fits x) where
       next-stops : judge P boxes x ≡ judged.impossible → next P boxes ≡ some (stops x)
       unfolding Rightly
       next-stops e = go (next-is .0) (next-is .1) (next-is .2) (next-rightly P boxes (next-is .0) (next-is .1))
@@ -136,7 +136,7 @@ module _ {P : Plan} {opening kinds₀ tasks₀ hours₀ : List ℕ} {count : ℕ
         -- the next turn, on the boxes and the answers once the bounds are moved
         pub goes-on : {c : Bounds} → j ≡ Moved c → {boxes′ : List ℕ} {fits′ : List Fit}
             → (boxes′ ≡ withBounds boxes (x .task) c)
-            × (fits′ ≡ set fits (x .task) (fitAt (plan (P .hours) 0 (P .calendars) (P .taskCalendars) (P .workTimes) []) boxes′ (x .task)))
+            × (fits′ ≡ set fits (x .task) (fitAt (P .shifts) boxes′ (x .task)))
             → Filtering P opening kinds₀ tasks₀ hours₀ (count + 1) boxes′ (set kinds count (x .kind)) (set tasks count (x .task))
             (set hours count (x .hour)) fits′
         goes-on {c} m {boxes′} {fits′} (e, f) =

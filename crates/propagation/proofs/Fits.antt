@@ -9,7 +9,7 @@ use lib.ListN.{length, getD, take, drop, set, length-take, length-drop}
 use lib.Seq.{getD-set-same, getD-set-other}
 use Rattle.units.specs.Limits.{mostHours}
 use Rattle.units.specs.declared.Bounds.{Bounds}
-use Rattle.plan.specs.Plan.{Plan, plan, taskCount, firstSymbol, calendarAt, calendarOf, workTimeOf}
+use Rattle.plan.specs.Plan.{Shifts, Plan, taskCount, firstSymbol, calendarAt, calendarOf, workTimeOf}
 use Rattle.plan.specs.Faults.{isSymbol}
 use Rattle.plan.specs.Boxes.{boundsAt}
 use Rattle.plan.proofs.Passed.{Passed}
@@ -34,31 +34,31 @@ in-take (suc n) k [] h = refl
 in-take (suc n) zero (x ∷ xs) h = refl
 in-take (suc n) (suc k) (x ∷ xs) h = in-take n k xs (omega arith)
 
-module _ (hours : ℕ) (calendars taskCalendars workTimes boxes : List ℕ) (i : ℕ) (part : List ℕ) (b : Bounds)
-    (is-part : part ≡ take hours (drop (firstSymbol hours (getD taskCalendars i 0)) calendars)) (is-box : b ≡ boundsAt boxes i) where
+module _ (S : Shifts) (boxes : List ℕ) (i : ℕ) (part : List ℕ) (b : Bounds)
+    (is-part : part ≡ take (S .hours) (drop (firstSymbol (S .hours) (getD (S .taskCalendars) i 0)) (S .calendars))) (is-box : b ≡ boundsAt boxes i) where
   -- what the rule's core asks
-  pub core-asks : Fitting hours calendars taskCalendars workTimes boxes i → (1 ≤ b .shortest .0) × (b .latest .0 < length part) × (length part ≤ mostHours) × AllSymbols part
+  pub core-asks : Fitting S boxes i → (1 ≤ b .shortest .0) × (b .latest .0 < length part) × (length part ≤ mostHours) × AllSymbols part
   core-asks f =
-      let long : length part ≡ hours = rw is-part (simp (length-take, length-drop) (omega (arith, f .calendar))) in
+      let long : length part ≡ S .hours = rw is-part (simp (length-take, length-drop) (omega (arith, f .calendar))) in
       let low : 1 ≤ b .shortest .0 = rw is-box (f .shortest) in
-      let high : b .latest .0 < hours = rw is-box (f .latest) in
+      let high : b .latest .0 < S .hours = rw is-box (f .latest) in
       (low, omega arith, omega (arith, f .short), λ t l. symbol t (omega arith) f)
     where
       first : ℕ
-      first = firstSymbol hours (getD taskCalendars i 0)
+      first = firstSymbol (S .hours) (getD (S .taskCalendars) i 0)
 
-      symbol : (t : ℕ) → t < hours → Fitting hours calendars taskCalendars workTimes boxes i → isSymbol (getD part t 0) ≡ true
+      symbol : (t : ℕ) → t < S .hours → Fitting S boxes i → isSymbol (getD part t 0) ≡ true
       symbol t l f =
-          let here : getD part t 0 ≡ getD calendars (first + t) 0 = rw is-part (in-take hours t (drop first calendars) l ∙ in-drop first t calendars) in
+          let here : getD part t 0 ≡ getD (S .calendars) (first + t) 0 =
+          rw is-part (in-take (S .hours) t (drop first (S .calendars)) l ∙ in-drop first t (S .calendars)) in
           ap isSymbol here ∙ f .symbols (first + t) (omega (arith, f .calendar))
 
-  pub core-answers : (r : Fit) → r ≡ ruleOf part (getD workTimes i 0) b → r ≡ fitAt (plan hours 0 calendars taskCalendars workTimes []) boxes i
+  pub core-answers : (r : Fit) → r ≡ ruleOf part (getD (S .workTimes) i 0) b → r ≡ fitAt S boxes i
   unfolding fitAt calendarOf calendarAt workTimeOf
   core-answers r e = e ∙ rw (is-part, is-box)
 
 -- what a plan that passes the tests gives
-pub fitting : (P : Plan) (boxes : List ℕ) → Passed P boxes → (i : ℕ) → i < taskCount P
-    → Fitting (P .hours) (P .calendars) (P .taskCalendars) (P .workTimes) boxes i
+pub fitting : (P : Plan) (boxes : List ℕ) → Passed P boxes → (i : ℕ) → i < taskCount P → Fitting (P .shifts) boxes i
 unfolding taskCount
 fitting P boxes p i l =
     let t = p .task i l in
@@ -72,11 +72,6 @@ fitting P boxes p i l =
       latest = t .box .latest;
       shortest = t .box .shortest;
     }
-
--- the rule asks for neither the capacity nor the heights
-pub fit-alone : (P : Plan) (boxes : List ℕ) (i : ℕ) → fitAt (plan (P .hours) 0 (P .calendars) (P .taskCalendars) (P .workTimes) []) boxes i ≡ fitAt P boxes i
-unfolding fitAt calendarOf calendarAt workTimeOf
-fit-alone P boxes i = refl
 
 -- one cell more of an array is filled
 pub filled-more : {A : Type 0} (f : ℕ → A) (l : List A) (d : A) (n : ℕ) (x : A) → ((k : ℕ) → k < n → getD l k d ≡ f k) → x ≡ f n → n < length l

@@ -33,7 +33,7 @@ use Rattle.steps.proofs.Changes.{judge-change, change-passes}
 
 -- ---- what passes the tests is small enough, before and after a step
 
-pub ready : (P : Plan) (boxes : List ℕ) → Passed P boxes → Ready (P .hours) (P .heights) boxes
+pub ready : (P : Plan) (boxes : List ℕ) → Passed P boxes → Ready (P .shifts .hours) (P .heights) boxes
 ready P boxes passed =
     record {
       hours = passed .hours;
@@ -52,7 +52,7 @@ ready P boxes passed =
         let l = ltb-false i (taskCount P) e in
         omega (arith, List·getD-eq-default (P .heights) 0 {n = i} (omega (arith, passed .heights)))
 
-    box : (i : ℕ) → i < length (P .heights) → Boxed (P .hours) (workTimeOf P i) (boundsAt boxes i)
+    box : (i : ℕ) → i < length (P .heights) → Boxed (P .shifts .hours) (workTimeOf (P .shifts) i) (boundsAt boxes i)
     box i l = passed .task i (omega (arith, passed .heights)) .box
 
 pub moved-passes : (P : Plan) (boxes left : List ℕ) (x : Step) → Passed P boxes → judge P boxes x ≡ moved left → Passed P left
@@ -61,18 +61,18 @@ moved-passes P boxes left x passed e = change-passes P boxes left (judge-change 
 -- ---- the excess, from the load
 
 module _ (P : Plan) (boxes : List ℕ) (i t : ℕ) where
-  own-share : i < taskCount P → othersLoad P boxes i t + (if mustRun (fitAt P boxes i) t then heightOf P i else 0) ≡ load P boxes t
+  own-share : i < taskCount P → othersLoad P boxes i t + (if mustRun (fitAt (P .shifts) boxes i) t then heightOf P i else 0) ≡ load P boxes t
   unfolding othersLoad load heightsWhere
   own-share l = where-split _ _ (taskCount P) i l
 
-  pub crowded-kept : (w : Window) → i < taskCount P → fitAt P boxes i ≡ Within w
+  pub crowded-kept : (w : Window) → i < taskCount P → fitAt (P .shifts) boxes i ≡ Within w
       → crowded w (heightOf P i) (load P boxes t) (P .capacity) t ≡ excess P boxes i t
   unfolding crowded excess
   crowded-kept w l e =
       ap (ltb (P .capacity))
       (if-all (λ (n : ℕ). n ≡ heightOf P i + othersLoad P boxes i t) (mustRun (Within w) t) (load P boxes t) (heightOf P i + load P boxes t)
-      (λ q. omega (arith, own-share l, if-true (mustRun (fitAt P boxes i) t) (heightOf P i) 0 (rw e q)))
-      (λ q. omega (arith, own-share l, if-false (mustRun (fitAt P boxes i) t) (heightOf P i) 0 (rw e q))))
+      (λ q. omega (arith, own-share l, if-true (mustRun (fitAt (P .shifts) boxes i) t) (heightOf P i) 0 (rw e q)))
+      (λ q. omega (arith, own-share l, if-false (mustRun (fitAt (P .shifts) boxes i) t) (heightOf P i) 0 (rw e q))))
 
 -- ---- what C, L and U come to
 
@@ -119,34 +119,34 @@ module _ (P : Plan) (boxes : List ℕ) (fits : List Fit) (sized : length (P .hei
   unfolding loadOf load heightsWhere heightOf
   load-kept t = rw sized (where-eq _ _ _ (taskCount P) (λ j l. ap (λ (f : Fit). mustRun f t) (kept j l)))
 
-  excess-kept : (i t : ℕ) → i < taskCount P → (w : Window) → fitAt P boxes i ≡ Within w
+  excess-kept : (i t : ℕ) → i < taskCount P → (w : Window) → fitAt (P .shifts) boxes i ≡ Within w
       → crowded w (getD (P .heights) i 0) (loadOf fits (P .heights) t) (P .capacity) t ≡ excess P boxes i t
   unfolding heightOf
   excess-kept i t l w e = rw (load-kept t) (crowded-kept P boxes i t w l e)
 
-  kind-kept : (k : Kind) (i t : ℕ) → isStep (taskCount P) (P .hours) k i t ≡ true
-      → judgementOf boxes i (judgeKindBy (P .hours) (P .capacity) (P .heights) boxes fits k i t) ≡ judgeKind P boxes k i t
+  kind-kept : (k : Kind) (i t : ℕ) → isStep (taskCount P) (P .shifts .hours) k i t ≡ true
+      → judgementOf boxes i (judgeKindBy (P .shifts .hours) (P .capacity) (P .heights) boxes fits k i t) ≡ judgeKind P boxes k i t
   unfolding judgeKindBy judgeKind judgeC judgeO judgeL judgeU isStep judgementOf onJudged
   kind-kept kindC i t is =
-      rw (kept i (ltb-true _ _ (and-left _ _ is))) (calendar-judged boxes i (fitAt P boxes i) (boundsAt boxes i))
+      rw (kept i (ltb-true _ _ (and-left _ _ is))) (calendar-judged boxes i (fitAt (P .shifts) boxes i) (boundsAt boxes i))
   kind-kept kindO i t is = rw (load-kept t) (if-ap (judgementOf boxes i) _ _ _)
   kind-kept kindL i t is =
       let l : i < taskCount P = ltb-true _ _ (and-left _ _ is) in
-      rw (kept i l) (lower-judged boxes i (boundsAt boxes i) t _ (excess P boxes i t) (fitAt P boxes i) (excess-kept i t l))
+      rw (kept i l) (lower-judged boxes i (boundsAt boxes i) t _ (excess P boxes i t) (fitAt (P .shifts) boxes i) (excess-kept i t l))
   kind-kept kindU i t is =
       let l : i < taskCount P = ltb-true _ _ (and-left _ _ is) in
-      rw (kept i l) (upper-judged boxes i (boundsAt boxes i) t _ (excess P boxes i t) (fitAt P boxes i) (excess-kept i t l))
+      rw (kept i l) (upper-judged boxes i (boundsAt boxes i) t _ (excess P boxes i t) (fitAt (P .shifts) boxes i) (excess-kept i t l))
   kind-kept unknownKind i t is = refl
 
-  pub judge-kept : (x : Step) → judgementOf boxes (x .task) (judgeBy (P .hours) (P .capacity) (P .heights) boxes fits x) ≡ judge P boxes x
+  pub judge-kept : (x : Step) → judgementOf boxes (x .task) (judgeBy (P .shifts .hours) (P .capacity) (P .heights) boxes fits x) ≡ judge P boxes x
   unfolding judge judgeBy judgementOf onJudged
   judge-kept x =
-      if-all (λ (j : Judgement). judgementOf boxes (x .task) (judgeBy (P .hours) (P .capacity) (P .heights) boxes fits x) ≡ j) _ _ _
+      if-all (λ (j : Judgement). judgementOf boxes (x .task) (judgeBy (P .shifts .hours) (P .capacity) (P .heights) boxes fits x) ≡ j) _ _ _
       (λ e. ap (judgementOf boxes (x .task)) (if-true _ _ _ (same ∙ e)) ∙ kind-kept (kindOf (x .kind)) (x .task) (x .hour) e)
       (λ e. ap (judgementOf boxes (x .task)) (if-false _ _ _ (same ∙ e)))
     where
-      same : isStep (length (P .heights)) (P .hours) (kindOf (x .kind)) (x .task) (x .hour)
-          ≡ isStep (taskCount P) (P .hours) (kindOf (x .kind)) (x .task) (x .hour)
+      same : isStep (length (P .heights)) (P .shifts .hours) (kindOf (x .kind)) (x .task) (x .hour)
+          ≡ isStep (taskCount P) (P .shifts .hours) (kindOf (x .kind)) (x .task) (x .hour)
       same = rw sized
 
   -- ---- the first admitted step
@@ -161,11 +161,11 @@ module _ (P : Plan) (boxes : List ℕ) (fits : List Fit) (sized : length (P .hei
   by-judged x (Moved b) = refl
 
   admitted-kept : (x : Step)
-      → admittedBy (P .hours) (P .capacity) (P .heights) boxes fits x ≡ onOption (ifAdmitted P boxes x) none (λ a. some (stepOf a))
+      → admittedBy (P .shifts .hours) (P .capacity) (P .heights) boxes fits x ≡ onOption (ifAdmitted P boxes x) none (λ a. some (stepOf a))
   unfolding admittedBy ifAdmitted
   admitted-kept x = rw (← judge-kept x) (by-judged x _)
 
-  pub next-kept : nextBy (P .hours) (P .capacity) (P .heights) boxes fits ≡ onOption (next P boxes) none (λ a. some (stepOf a))
+  pub next-kept : nextBy (P .shifts .hours) (P .capacity) (P .heights) boxes fits ≡ onOption (next P boxes) none (λ a. some (stepOf a))
   unfolding nextBy next firstByTask firstByHour firstByTaskHour
   next-kept =
       rw sized
@@ -173,12 +173,12 @@ module _ (P : Plan) (boxes : List ℕ) (fits : List Fit) (sized : length (P .hei
       (else-on stepOf _ _
       ∙ ap₂ _orElse_ (sym (first-on stepOf _ _ (taskCount P) (λ i. admitted-kept (step letterC i 0))))
       (else-on stepOf _ _
-      ∙ ap₂ _orElse_ (sym (first-on stepOf _ _ (P .hours) (λ t. admitted-kept (step letterO 0 t))))
+      ∙ ap₂ _orElse_ (sym (first-on stepOf _ _ (P .shifts .hours) (λ t. admitted-kept (step letterO 0 t))))
       (else-on stepOf _ _
       ∙ ap₂ _orElse_ (sym (by-task-hour letterL)) (sym (by-task-hour letterU))))))
     where
       by-task-hour : (letter : ℕ)
-          → firstOf (λ i. firstOf (λ t. admittedBy (P .hours) (P .capacity) (P .heights) boxes fits (step letter i t)) (P .hours)) (taskCount P)
+          → firstOf (λ i. firstOf (λ t. admittedBy (P .shifts .hours) (P .capacity) (P .heights) boxes fits (step letter i t)) (P .shifts .hours)) (taskCount P)
           ≡ onOption (firstByTaskHour P boxes letter) none (λ a. some (stepOf a))
       by-task-hour letter =
-          first-on stepOf _ _ (taskCount P) (λ i. first-on stepOf _ _ (P .hours) (λ t. admitted-kept (step letter i t)))
+          first-on stepOf _ _ (taskCount P) (λ i. first-on stepOf _ _ (P .shifts .hours) (λ t. admitted-kept (step letter i t)))

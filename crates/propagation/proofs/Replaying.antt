@@ -42,7 +42,7 @@ pub record Keeps (P : Plan) (opening boxes : List ℕ) (fits : List Fit) : Type 
   pub same : length boxes ≡ length opening
 
 module _ (P : Plan) (opening boxes : List ℕ) (fits : List Fit) (k : Keeps P opening boxes fits) (x : Step) (r : Judged)
-    (is : r ≡ judgeBy (P .hours) (P .capacity) (P .heights) boxes fits x) where
+    (is : r ≡ judgeBy (P .shifts .hours) (P .capacity) (P .heights) boxes fits x) where
   -- what the code answers for a step is what the step comes to
   judges : judgementOf boxes (x .task) r ≡ judge P boxes x
   judges = ap (judgementOf boxes (x .task)) is ∙ judge-kept P boxes fits (k .passed .heights) (k .kept) x
@@ -72,7 +72,7 @@ module _ (P : Plan) (opening boxes : List ℕ) (fits : List Fit) (k : Keeps P op
 
     -- after the box is stored, and its task's answer worked out anew
     pub keeps-moved : (left : List ℕ) (fit : Fit) → left ≡ withBounds boxes (x .task) b
-        → fit ≡ fitAt (plan (P .hours) 0 (P .calendars) (P .taskCalendars) (P .workTimes) []) left (x .task)
+        → fit ≡ fitAt (P .shifts) left (x .task)
         → Keeps P opening left (set fits (x .task) fit)
     keeps-moved left fit e f =
         record {
@@ -84,8 +84,8 @@ module _ (P : Plan) (opening boxes : List ℕ) (fits : List Fit) (k : Keeps P op
 
 -- what `move_bounds` asks, at a turn whose step moves a bound
 pub may-move : {P : Plan} {opening boxes : List ℕ} {fits : List Fit} → Keeps P opening boxes fits → (x : Step) {r : Judged}
-    → r ≡ judgeBy (P .hours) (P .capacity) (P .heights) boxes fits x → {b : Bounds} → r ≡ Moved b
-    → (x .task < mostTasks) × Fitting (P .hours) (P .calendars) (P .taskCalendars) (P .workTimes) (withBounds boxes (x .task) b) (x .task)
+    → r ≡ judgeBy (P .shifts .hours) (P .capacity) (P .heights) boxes fits x → {b : Bounds} → r ≡ Moved b
+    → (x .task < mostTasks) × Fitting (P .shifts) (withBounds boxes (x .task) b) (x .task)
 may-move {P} {opening} {boxes} {fits} k x {r} is {b} m =
     let l = moves-task P opening boxes fits k x r is b m in
     (omega (arith, l, k .passed .tasks), fitting P _ (passes-moved P opening boxes fits k x r is b m _ refl) (x .task) l)
@@ -128,7 +128,7 @@ module _ {P : Plan} {n : ℕ} {said₀ : Bool} {opening kinds tasks hours : List
       (answers-refused _ e, sym (ap (λ (x : LogEnd). x .boxes) e))
 
   module _ (l : k < length kinds) (s : said ≡ false) {r : Judged}
-      (is : r ≡ judgeBy (P .hours) (P .capacity) (P .heights) boxes fits (stepAt kinds tasks hours k)) where
+      (is : r ≡ judgeBy (P .shifts .hours) (P .capacity) (P .heights) boxes fits (stepAt kinds tasks hours k)) where
     going : endFrom P n kinds tasks hours k false boxes ≡ replayFrom P n said₀ opening (stepsIn kinds tasks hours)
     going = ap (λ (b : Bool). endFrom P n kinds tasks hours k b boxes) (sym s) ∙ at .ends
 
@@ -155,7 +155,7 @@ module _ {P : Plan} {n : ℕ} {said₀ : Bool} {opening kinds tasks hours : List
         → (boxes′ ≡ withBounds boxes (stepAt kinds tasks hours k .task) b)
         × (fits′
         ≡ set fits (stepAt kinds tasks hours k .task)
-        (fitAt (plan (P .hours) 0 (P .calendars) (P .taskCalendars) (P .workTimes) []) boxes′ (stepAt kinds tasks hours k .task)))
+        (fitAt (P .shifts) boxes′ (stepAt kinds tasks hours k .task)))
         → Replaying P n said₀ opening kinds tasks hours (k + 1) said boxes′ fits′
     replay-moves {b} m {boxes′} {fits′} (e, f) =
         record {

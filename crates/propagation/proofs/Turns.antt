@@ -14,7 +14,7 @@ use borrow.Author.Tests.{eqb-true}
 use Rattle.units.proofs.Choices.{and-left, and-right}
 use Rattle.units.specs.Cells.{written}
 use Rattle.units.specs.declared.Bounds.{Bounds}
-use Rattle.plan.specs.Plan.{Plan, plan}
+use Rattle.plan.specs.Plan.{Plan}
 use Rattle.plan.specs.Boxes.{withBounds}
 use Rattle.plan.specs.Refusals.{Fault, fault, refused, answered, answerUnless}
 use Rattle.plan.proofs.Cells.{bounds-other}
@@ -28,22 +28,21 @@ use Rattle.steps.specs.Log.{LogEnd, logEnd, replayFrom}
 use Rattle.steps.specs.Filter.{Admitted, stops, moves, next, Ending, settled, impossible, noRoom, Run, ended, after, run}
 use Rattle.steps.specs.Entry.{stepAt, stepsFrom, stepsIn, oneForEachStep, checkAnswer, settledAfter, impossibleAfter, noRoomFor, endingAnswer, Leaves, logged}
 use Rattle.propagation.specs.inner.Kept.{Kept}
-use Rattle.propagation.proofs.Fits.{fit-alone}
 use Rattle.steps.proofs.Runs.{run-settled, run-full, run-stops, run-moves, resumed}
 
 -- ---- what is kept stays right when a box changes and its task's answer is worked out anew
 
-fit-other : (P : Plan) (boxes : List ℕ) (i j : ℕ) (b : Bounds) → j ≢ i → fitAt P (withBounds boxes i b) j ≡ fitAt P boxes j
+fit-other : (P : Plan) (boxes : List ℕ) (i j : ℕ) (b : Bounds) → j ≢ i → fitAt (P .shifts) (withBounds boxes i b) j ≡ fitAt (P .shifts) boxes j
 unfolding fitAt
 fit-other P boxes i j b ne = rw (bounds-other boxes i j b ne)
 
 pub kept-moved : (P : Plan) (boxes left : List ℕ) (fits : List Fit) (i : ℕ) (b : Bounds) (fit : Fit) → Kept P boxes fits → left ≡ withBounds boxes i b
-    → fit ≡ fitAt (plan (P .hours) 0 (P .calendars) (P .taskCalendars) (P .workTimes) []) left i → i < length fits → Kept P left (set fits i fit)
+    → fit ≡ fitAt (P .shifts) left i → i < length fits → Kept P left (set fits i fit)
 kept-moved P boxes left fits i b fit kept is e l j m = go (ℕ-discrete j i)
   where
-    go : Dec (j ≡ i) → getD (set fits i fit) j Never ≡ fitAt P left j
-    go (yes q) = rw q (getD-set-same fits i fit Never l ∙ e ∙ fit-alone P left i)
-    go (no q) = getD-set-other fits i j fit Never q ∙ kept j m ∙ sym (ap (λ (bs : List ℕ). fitAt P bs j) is ∙ fit-other P boxes i j b q)
+    go : Dec (j ≡ i) → getD (set fits i fit) j Never ≡ fitAt (P .shifts) left j
+    go (yes q) = rw q (getD-set-same fits i fit Never l ∙ e)
+    go (no q) = getD-set-other fits i j fit Never q ∙ kept j m ∙ sym (ap (λ (bs : List ℕ). fitAt (P .shifts) bs j) is ∙ fit-other P boxes i j b q)
 
 -- ---- the log checker
 

@@ -1,13 +1,13 @@
 // The filter: takes the first admitted step of each turn, and logs it.
-use steps::Filtered;
-use steps::Found;
-use steps::Judged;
 use crate::entry;
 use crate::first;
 use crate::judge;
 use crate::kept;
 use calendar::Fit;
 use plan::Tested;
+use steps::Filtered;
+use steps::Found;
+use steps::Judged;
 use units::Bounds;
 use units::Duration;
 ghost use mathlib.Core.Bool.{true};

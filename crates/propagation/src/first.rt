@@ -1,11 +1,11 @@
 // The search for the first admitted step, in the filter's order, from the boxes and the answers of the calendar rule that are kept.
-use steps::Found;
-use steps::Step;
 use crate::judge;
 use crate::load;
 use calendar::Fit;
 use calendar::Window;
 use plan;
+use steps::Found;
+use steps::Step;
 use units::Bounds;
 use units::Duration;
 ghost use mathlib.Core.Bool.{true, false};

@@ -1,9 +1,9 @@
 // What a step comes to at its turn, from the boxes and the answers of the calendar rule that are kept.
-use steps::Judged;
-use steps::Step;
 use calendar::Fit;
 use calendar::Window;
 use plan;
+use steps::Judged;
+use steps::Step;
 use units::Bounds;
 use units::Duration;
 use units::Hour;

@@ -2,18 +2,16 @@
 use calendar::Fit;
 use units::Bounds;
 use units::Duration;
-ghost use mathlib.Core.List.{[]};
 ghost use mathlib.Core.Path.{_≡_};
 ghost use Prim.Native.Nat.{ℕ, _≤_, _<_};
 ghost use lib.ListN.{length, getD, set};
 ghost use Rattle.units.specs.Limits.{mostTasks};
-ghost use Rattle.plan.specs.Plan.{plan};
 ghost use Rattle.plan.specs.Boxes.{withBounds};
-ghost use Rattle.plan.specs.Lent.{old, left};
+ghost use Rattle.plan.specs.Lent.{old, left, shiftsOf, oldShifts};
 ghost use Rattle.steps.specs.Load.{fitAt};
 ghost use Rattle.propagation.specs.inner.Fitting.{Fitting};
 
-// What the calendar rule answers for task i. It asks for neither the capacity nor the heights, so the contract puts none there.
+// What the calendar rule answers for task i.
 pub fn fit_of(
     hours: Duration,
     calendars: &[u8],
@@ -22,8 +20,8 @@ pub fn fit_of(
     boxes: &[u16],
     i: usize,
 ) -> Fit
-    requires { ⌜ Fitting (hours .0) (now calendars) (now «task_calendars») (now «work_times») (now boxes) i ⌝ }
-    ensures { λ r. ⌜ r ≡ fitAt (plan (hours .0) 0 (old calendars) (old «task_calendars») (old «work_times») []) (old boxes) i ⌝ }
+    requires { ⌜ Fitting (shiftsOf (hours .0) calendars «task_calendars» «work_times») (now boxes) i ⌝ }
+    ensures { λ r. ⌜ r ≡ fitAt (oldShifts (hours .0) calendars «task_calendars» «work_times») (old boxes) i ⌝ }
 {
     let work_time = Duration(work_times[i]);
     let b = plan::bounds_at(boxes, i);
@@ -40,9 +38,9 @@ pub fn all_fits(
     boxes: &[u16],
 ) -> [Fit; Bounds::MOST]
     requires { ⌜ (length (now «task_calendars») ≤ mostTasks)
-        × ((i : ℕ) → i < length (now «task_calendars») → Fitting (hours .0) (now calendars) (now «task_calendars») (now «work_times») (now boxes) i) ⌝ }
+        × ((i : ℕ) → i < length (now «task_calendars») → Fitting (shiftsOf (hours .0) calendars «task_calendars» «work_times») (now boxes) i) ⌝ }
     ensures { λ r. ⌜ (length r ≡ mostTasks) × ((i : ℕ) → i < length (old «task_calendars») → getD r i Fit.Never
-        ≡ fitAt (plan (hours .0) 0 (old calendars) (old «task_calendars») (old «work_times») []) (old boxes) i) ⌝ }
+        ≡ fitAt (oldShifts (hours .0) calendars «task_calendars» «work_times») (old boxes) i) ⌝ }
 {
     let mut fits = [Fit::Never; Bounds::MOST];
     for i in 0..task_calendars.len() {
@@ -63,9 +61,9 @@ pub fn move_bounds(
     b: Bounds,
 ) -> [Fit; Bounds::MOST]
     requires { ⌜ (task < mostTasks)
-        × Fitting (hours .0) (now calendars) (now «task_calendars») (now «work_times») (withBounds (now boxes) task b) task ⌝ }
+        × Fitting (shiftsOf (hours .0) calendars «task_calendars» «work_times») (withBounds (now boxes) task b) task ⌝ }
     ensures { λ r. ⌜ (left boxes ≡ withBounds (old boxes) task b)
-        × (r ≡ set fits task (fitAt (plan (hours .0) 0 (old calendars) (old «task_calendars») (old «work_times») []) (left boxes) task)) ⌝ }
+        × (r ≡ set fits task (fitAt (oldShifts (hours .0) calendars «task_calendars» «work_times») (left boxes) task)) ⌝ }
 {
     let i = task as usize;
     plan::put_bounds(boxes, i, b);

@@ -1,13 +1,13 @@
 // The log checker: a log from anyone, step by step, each at its turn.
-use steps::Judged;
-use steps::LogChecked;
-use steps::Step;
 use crate::entry;
 use crate::judge;
 use crate::kept;
 use calendar::Fit;
 use plan::Refusal;
 use plan::Tested;
+use steps::Judged;
+use steps::LogChecked;
+use steps::Step;
 use units::Bounds;
 use units::Duration;
 ghost use mathlib.Core.Bool.{true};

@@ -33,7 +33,7 @@ module _ (P : Plan) (boxes schedule : List ℕ) where
   -- 31, the plan's tests, the schedule's
   abbrev faults : Option Fault
   faults =
-      unless (oneForEachTask (P .taskCalendars) (P .workTimes) (P .heights) boxes and isSized P schedule) 31 0
+      unless (oneForEachTask (P .shifts .taskCalendars) (P .shifts .workTimes) (P .heights) boxes and isSized P schedule) 31 0
       orElse planFault P boxes
       orElse scheduleFault P boxes (tripleAt schedule)
 

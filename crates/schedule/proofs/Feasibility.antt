@@ -15,8 +15,8 @@ use Rattle.schedule.specs.Schedule.{running, Feasible}
 use Rattle.schedule.specs.Entry.{tripleFault, hourFault, scheduleFault}
 
 module _ (P : Plan) (boxes : List ℕ) (σ : ℕ → Triple) where
-  triple-passed : (i : ℕ) → tripleFault P boxes σ i ≡ none
-      → (inBounds (boundsAt boxes i) (σ i) ≡ true) × (validTriple (calendarOf P i) (workTimeOf P i) (σ i) ≡ true)
+  triple-passed : (i : ℕ) → tripleFault (P .shifts) boxes σ i ≡ none
+      → (inBounds (boundsAt boxes i) (σ i) ≡ true) × (validTriple (calendarOf (P .shifts) i) (workTimeOf (P .shifts) i) (σ i) ≡ true)
   unfolding tripleFault
   triple-passed i e = let (a, b) = neither _ _ e in (unless-none _ 14 i a, unless-none _ 15 i b)
 
@@ -34,8 +34,8 @@ module _ (P : Plan) (boxes : List ℕ) (σ : ℕ → Triple) where
         room = λ t l. hour-passed t (first-none _ _ hours t l);
       }
 
-  no-triple-fault : (i : ℕ) → inBounds (boundsAt boxes i) (σ i) ≡ true → validTriple (calendarOf P i) (workTimeOf P i) (σ i) ≡ true
-      → tripleFault P boxes σ i ≡ none
+  no-triple-fault : (i : ℕ) → inBounds (boundsAt boxes i) (σ i) ≡ true → validTriple (calendarOf (P .shifts) i) (workTimeOf (P .shifts) i) (σ i) ≡ true
+      → tripleFault (P .shifts) boxes σ i ≡ none
   unfolding tripleFault
   no-triple-fault i h v = else-none _ _ (unless-true _ 14 i h) ∙ unless-true _ 15 i v
 
@@ -47,4 +47,4 @@ module _ (P : Plan) (boxes : List ℕ) (σ : ℕ → Triple) where
   unfolding scheduleFault
   feasible-faultless F =
       else-none _ _ (first-all-none _ (taskCount P) (λ i l. no-triple-fault i (F .inside i l) (F .fits i l)))
-      ∙ first-all-none _ (P .hours) (λ t l. no-hour-fault t (F .room t l))
+      ∙ first-all-none _ (P .shifts .hours) (λ t l. no-hour-fault t (F .room t l))

@@ -18,8 +18,8 @@ use Rattle.schedule.specs.Decision.{RightSize}
 use Rattle.schedule.specs.Ready.{TriplesReady, HoursReady, EndsReady}
 
 -- memory of the right size, from what the two tests of it answered
-pub right-size : (P : Plan) (boxes schedule : List ℕ) (one triples : Bool) → one ≡ oneForEachTask (P .taskCalendars) (P .workTimes) (P .heights) boxes
-    → not one ≡ false → triples ≡ eqb (length schedule) (3 * length (P .taskCalendars)) → not triples ≡ false → RightSize P boxes schedule
+pub right-size : (P : Plan) (boxes schedule : List ℕ) (one triples : Bool) → one ≡ oneForEachTask (P .shifts .taskCalendars) (P .shifts .workTimes) (P .heights) boxes
+    → not one ≡ false → triples ≡ eqb (length schedule) (3 * length (P .shifts .taskCalendars)) → not triples ≡ false → RightSize P boxes schedule
 unfolding isSized taskCount
 right-size P boxes schedule one triples e p f q = and-both _ _ (sym e ∙ not-false _ p) (sym f ∙ not-false _ q)
 
@@ -30,7 +30,7 @@ module _ (P : Plan) (boxes schedule : List ℕ) (size : RightSize P boxes schedu
   pub same-heights : length (P .heights) ≡ taskCount P
   same-heights = plan-facts .heights
 
-  pub triples-ready : TriplesReady (P .hours) (P .calendars) (P .taskCalendars) (P .workTimes) boxes schedule
+  pub triples-ready : TriplesReady (P .shifts .hours) (P .shifts .calendars) (P .shifts .taskCalendars) (P .shifts .workTimes) boxes schedule
   unfolding taskCount isSized
   triples-ready =
       record {

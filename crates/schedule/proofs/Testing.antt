@@ -15,7 +15,7 @@ use Rattle.units.specs.declared.Bounds.{Bounds}
 use Rattle.units.specs.declared.Duration.{Duration}
 use Rattle.units.specs.declared.Hour.{Hour}
 use Rattle.units.proofs.Choices.{not-left}
-use Rattle.plan.specs.Plan.{Plan, plan, taskCount, firstSymbol, calendarAt, calendarOf, workTimeOf, heightOf, heightsWhere}
+use Rattle.plan.specs.Plan.{Shifts, Plan, taskCount, firstSymbol, calendarAt, calendarOf, workTimeOf, heightOf, heightsWhere}
 use Rattle.plan.specs.Boxes.{boundsAt}
 use Rattle.plan.specs.Refusals.{Fault, unless}
 use Rattle.plan.proofs.Refusing.{and-rest}
@@ -78,28 +78,21 @@ module _ (n r capacity : ℕ) (is : r ≡ n) where
 pub taken-small : (l all : List ℕ) (n m : ℕ) → l ≡ take n all → n ≤ m → length l ≤ m
 taken-small l all n m e h = rw e (simp length-take (omega arith))
 
-module _ (P : Plan) (boxes schedule : List ℕ) where
-  pub triple-is : (i work : ℕ) (cal : List ℕ) (b : Bounds) (x : Triple) (r : Option Fault)
-      → cal ≡ take (P .hours) (drop (firstSymbol (P .hours) (getD (P .taskCalendars) i 0)) (P .calendars))
-      → work ≡ getD (P .workTimes) i 0
-      → b ≡ boundsAt boxes i → x ≡ tripleAt schedule i
-      → r ≡ (unless (inBounds b x) 14 i orElse unless (validTriple cal work x) 15 i)
-      → r ≡ tripleFault P boxes (tripleAt schedule) i
-  unfolding tripleFault calendarOf calendarAt workTimeOf
-  triple-is i work cal b x r p w q s e = rw (← p, ← w, ← q, ← s) e
-
-  -- the capacity and the heights play no part in the triples' tests
-  pub triples-are : firstOf (tripleFault (plan (P .hours) 0 (P .calendars) (P .taskCalendars) (P .workTimes) []) boxes (tripleAt schedule)) (length (P .taskCalendars))
-      ≡ firstOf (tripleFault P boxes (tripleAt schedule)) (taskCount P)
-  unfolding tripleFault calendarOf calendarAt workTimeOf taskCount
-  triples-are = refl
+pub triple-is : (S : Shifts) (boxes schedule : List ℕ) (i work : ℕ) (cal : List ℕ) (b : Bounds) (x : Triple) (r : Option Fault)
+    → cal ≡ take (S .hours) (drop (firstSymbol (S .hours) (getD (S .taskCalendars) i 0)) (S .calendars))
+    → work ≡ getD (S .workTimes) i 0
+    → b ≡ boundsAt boxes i → x ≡ tripleAt schedule i
+    → r ≡ (unless (inBounds b x) 14 i orElse unless (validTriple cal work x) 15 i)
+    → r ≡ tripleFault S boxes (tripleAt schedule) i
+unfolding tripleFault calendarOf calendarAt workTimeOf
+triple-is S boxes schedule i work cal b x r p w q s e = rw (← p, ← w, ← q, ← s) e
 
 -- one task for each height, so the code counts the heights
 pub hours-are : (P : Plan) (schedule : List ℕ) → length (P .heights) ≡ taskCount P
-    → firstOf (λ t. unless (leb (runningHeights (P .heights) schedule t) (P .capacity)) 16 t) (P .hours)
-    ≡ firstOf (hourFault P (tripleAt schedule)) (P .hours)
+    → firstOf (λ t. unless (leb (runningHeights (P .heights) schedule t) (P .capacity)) 16 t) (P .shifts .hours)
+    ≡ firstOf (hourFault P (tripleAt schedule)) (P .shifts .hours)
 unfolding hourFault running heightsWhere heightOf
 hours-are P schedule e =
     ap
-    (λ (n : ℕ). firstOf (λ t. unless (leb (sumWhere (λ i. runs (tripleAt schedule i) t) (λ i. getD (P .heights) i 0) n) (P .capacity)) 16 t) (P .hours))
+    (λ (n : ℕ). firstOf (λ t. unless (leb (sumWhere (λ i. runs (tripleAt schedule i) t) (λ i. getD (P .heights) i 0) n) (P .capacity)) 16 t) (P .shifts .hours))
     e

@@ -13,7 +13,7 @@ use Rattle.schedule.specs.Entry.{isSized}
 
 -- 31 does not apply
 abbrev pub RightSize : Plan → List ℕ → List ℕ → Type 0
-RightSize P boxes schedule = (oneForEachTask (P .taskCalendars) (P .workTimes) (P .heights) boxes and isSized P schedule) ≡ true
+RightSize P boxes schedule = (oneForEachTask (P .shifts .taskCalendars) (P .shifts .workTimes) (P .heights) boxes and isSized P schedule) ≡ true
 
 pub record Decides (P : Plan) (boxes schedule : List ℕ) (answer : Answer ℕ) : Type 0 where
   -- a plan that passes the tests, with memory of the right size: exactly the feasible schedules, with the makespan

@@ -6,7 +6,7 @@ use Prim.Native.Nat.{ℕ, _*_}
 use lib.Dec.{leb, eqb}
 use lib.ListN.{length}
 use Rattle.units.specs.Choice.{_and_, _orElse_, firstOf}
-use Rattle.plan.specs.Plan.{Plan, taskCount, calendarOf, workTimeOf}
+use Rattle.plan.specs.Plan.{Shifts, Plan, taskCount, calendarOf, workTimeOf}
 use Rattle.plan.specs.Boxes.{boundsAt}
 use Rattle.plan.specs.Refusals.{Fault, unless, Answer, refused, answered, faultOf, answerUnless}
 use Rattle.plan.specs.Faults.{oneForEachTask, planFault}
@@ -17,10 +17,10 @@ use Rattle.schedule.specs.declared.ScheduleChecked.the-variants.{Refused
 use Rattle.schedule.specs.Schedule.{tripleAt, running, makespan}
 
 -- task by task 14, 15
-unfoldable pub tripleFault : Plan → List ℕ → (ℕ → Triple) → ℕ → Option Fault
-tripleFault P boxes σ i =
+unfoldable pub tripleFault : Shifts → List ℕ → (ℕ → Triple) → ℕ → Option Fault
+tripleFault S boxes σ i =
     unless (inBounds (boundsAt boxes i) (σ i)) 14 i
-    orElse unless (validTriple (calendarOf P i) (workTimeOf P i) (σ i)) 15 i
+    orElse unless (validTriple (calendarOf S i) (workTimeOf S i) (σ i)) 15 i
 
 -- 16
 unfoldable pub hourFault : Plan → (ℕ → Triple) → ℕ → Option Fault
@@ -28,7 +28,7 @@ hourFault P σ t = unless (leb (running P σ t) (P .capacity)) 16 t
 
 -- the tasks, and at last 16 at the first such hour
 unfoldable pub scheduleFault : Plan → List ℕ → (ℕ → Triple) → Option Fault
-scheduleFault P boxes σ = firstOf (tripleFault P boxes σ) (taskCount P) orElse firstOf (hourFault P σ) (P .hours)
+scheduleFault P boxes σ = firstOf (tripleFault (P .shifts) boxes σ) (taskCount P) orElse firstOf (hourFault P σ) (P .shifts .hours)
 
 -- one triple for each task: three numbers
 unfoldable pub isSized : Plan → List ℕ → Bool
@@ -38,7 +38,7 @@ isSized P schedule = eqb (length schedule) (3 * taskCount P)
 unfoldable pub checkSchedule : Plan → List ℕ → List ℕ → Answer ℕ
 checkSchedule P boxes schedule =
     answerUnless
-    (unless (oneForEachTask (P .taskCalendars) (P .workTimes) (P .heights) boxes and isSized P schedule) 31 0
+    (unless (oneForEachTask (P .shifts .taskCalendars) (P .shifts .workTimes) (P .heights) boxes and isSized P schedule) 31 0
     orElse planFault P boxes
     orElse scheduleFault P boxes (tripleAt schedule))
     (makespan P (tripleAt schedule))

@@ -27,8 +27,8 @@ running P σ t = heightsWhere P (λ i. runs (σ i) t)
 -- feasible: each triple lies in its box and is valid, and in each hour the heights of the running tasks add to at most the capacity
 pub record Feasible (P : Plan) (boxes : List ℕ) (σ : ℕ → Triple) : Type 0 where
   pub inside : (i : ℕ) → i < taskCount P → inBounds (boundsAt boxes i) (σ i) ≡ true
-  pub fits : (i : ℕ) → i < taskCount P → validTriple (calendarOf P i) (workTimeOf P i) (σ i) ≡ true
-  pub room : (t : ℕ) → t < P .hours → running P σ t ≤ P .capacity
+  pub fits : (i : ℕ) → i < taskCount P → validTriple (calendarOf (P .shifts) i) (workTimeOf (P .shifts) i) (σ i) ≡ true
+  pub room : (t : ℕ) → t < P .shifts .hours → running P σ t ≤ P .capacity
 
 -- the largest s + e, and 0 for a plan without tasks
 unfoldable pub makespan : Plan → (ℕ → Triple) → ℕ

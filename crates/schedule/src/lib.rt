@@ -7,16 +7,14 @@ use units::Duration;
 use units::Height;
 use units::Hour;
 ghost use mathlib.Core.Path.{_≡_};
-ghost use mathlib.Core.List.{[]};
 ghost use Prim.Native.Nat.{_+_, _*_, _≤_, max};
 ghost use lib.Dec.{eqb, leb};
 ghost use lib.ListN.{length};
 ghost use Rattle.units.specs.Choice.{_orElse_, firstOf};
 ghost use Rattle.units.specs.Limits.{mostHours, within};
 ghost use Rattle.units.specs.Sums.{maxTo};
-ghost use Rattle.plan.specs.Plan.{plan};
 ghost use Rattle.plan.specs.Refusals.{unless, answerUnless, testedFault};
-ghost use Rattle.plan.specs.Lent.{old, oldPlan};
+ghost use Rattle.plan.specs.Lent.{old, oldShifts, oldPlan};
 ghost use Rattle.calendar.specs.Triples.{endOf, validTriple, inBounds};
 ghost use Rattle.schedule.specs.Schedule.{tripleAt, runs, makespan};
 ghost use Rattle.schedule.specs.Ready.{TriplesReady, HoursReady, EndsReady, runningHeights};
@@ -95,7 +93,7 @@ fn test_triple(
     Tested::Passed
 }
 
-// Task by task. No test of a triple asks for the capacity or the heights, so the contract puts 0 and none there.
+// Task by task.
 fn test_triples(
     hours: Duration,
     calendars: &[u8],
@@ -106,7 +104,7 @@ fn test_triples(
 ) -> Tested
     requires { ⌜ TriplesReady (hours .0) (now calendars) (now «task_calendars») (now «work_times») (now boxes) (now schedule) ⌝ }
     ensures { λ r. ⌜ testedFault r ≡ firstOf
-        (tripleFault (plan (hours .0) 0 (old calendars) (old «task_calendars») (old «work_times») []) (old boxes)
+        (tripleFault (oldShifts (hours .0) calendars «task_calendars» «work_times») (old boxes)
         (tripleAt (old schedule)))
         (length (old «task_calendars»)) ⌝ }
 {

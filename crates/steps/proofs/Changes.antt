@@ -219,7 +219,7 @@ change-passes P boxes left c passed =
       task = λ j l. go j l (eqb j (c .task)) refl;
     }
   where
-    with-box : (j : ℕ) → j < taskCount P → Boxed (P .hours) (workTimeOf P j) (boundsAt left j) → PassedTask P left j
+    with-box : (j : ℕ) → j < taskCount P → Boxed (P .shifts .hours) (workTimeOf (P .shifts) j) (boundsAt left j) → PassedTask P left j
     with-box j l box =
         let task = passed .task j l in
         record {

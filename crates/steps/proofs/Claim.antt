@@ -14,7 +14,7 @@ use Rattle.steps.proofs.Replays.{accepted-admitted, admitted-accepted, 
 use Rattle.steps.proofs.Runs.{run-replays, run-fits, run-short}
 
 -- lent memory of the right size has a box for each task
-pub boxes-sized : (P : Plan) (boxes : List ℕ) → oneForEachTask (P .taskCalendars) (P .workTimes) (P .heights) boxes ≡ true
+pub boxes-sized : (P : Plan) (boxes : List ℕ) → oneForEachTask (P .shifts .taskCalendars) (P .shifts .workTimes) (P .heights) boxes ≡ true
     → length boxes ≡ 6 * taskCount P
 unfolding oneForEachTask taskCount
 boxes-sized P boxes e = eqb-true _ _ (and-right _ _ (and-right _ _ e))

@@ -20,7 +20,7 @@ use Rattle.steps.proofs.Contracts.{check-holds, filter-holds}
 
 module _ (P : Plan) (boxes kinds tasks hours : List ℕ) where
   abbrev Tasks : Bool
-  Tasks = oneForEachTask (P .taskCalendars) (P .workTimes) (P .heights) boxes
+  Tasks = oneForEachTask (P .shifts .taskCalendars) (P .shifts .workTimes) (P .heights) boxes
 
   abbrev Steps : Bool
   Steps = oneForEachStep kinds tasks hours

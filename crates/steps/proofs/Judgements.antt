@@ -34,14 +34,14 @@ fit-all C (Within w) a g p q = q w refl
 -- what L and U share: the task and the hour exist, the task has a valid triple, and there is the excess
 pub record Crowded (P : Plan) (boxes : List ℕ) (i t : ℕ) (w : Window) : Type 0 where
   pub task : i < taskCount P
-  pub hour : t < P .hours
-  pub fit : fitAt P boxes i ≡ Within w
+  pub hour : t < P .shifts .hours
+  pub fit : fitAt (P .shifts) boxes i ≡ Within w
   pub excess : P .capacity < heightOf P i + othersLoad P boxes i t
 
 module _ (P : Plan) (boxes : List ℕ) (i t : ℕ) where
   -- a step moves a bound
   pub data Moves (left : List ℕ) : Kind → Type 0 where
-    movesC : (w : Window) → i < taskCount P → fitAt P boxes i ≡ Within w → sameBounds (w .bounds) (boundsAt boxes i) ≡ false
+    movesC : (w : Window) → i < taskCount P → fitAt (P .shifts) boxes i ≡ Within w → sameBounds (w .bounds) (boundsAt boxes i) ≡ false
         → left ≡ withBounds boxes i (w .bounds) → Moves left kindC
     movesL : (w : Window) → Crowded P boxes i t w → t < ect w → boundsAt boxes i .earliest .0 ≤ t → t < boundsAt boxes i .latest .0
         → left ≡ withBounds boxes i (withEarliest (boundsAt boxes i) (t + 1)) → Moves left kindL
@@ -51,8 +51,8 @@ module _ (P : Plan) (boxes : List ℕ) (i t : ℕ) where
 
   -- a step says impossible
   pub data Stops : Kind → Type 0 where
-    stopsC : i < taskCount P → fitAt P boxes i ≡ Never → Stops kindC
-    stopsO : t < P .hours → P .capacity < load P boxes t → Stops kindO
+    stopsC : i < taskCount P → fitAt (P .shifts) boxes i ≡ Never → Stops kindC
+    stopsO : t < P .shifts .hours → P .capacity < load P boxes t → Stops kindO
     stopsL : (w : Window) → Crowded P boxes i t w → t < ect w → boundsAt boxes i .latest .0 ≤ t → Stops kindL
     stopsU : (w : Window) → Crowded P boxes i t w → lst w ≤ t → t < boundsAt boxes i .earliest .0 + boundsAt boxes i .shortest .0 → Stops kindU
 
@@ -65,10 +65,10 @@ module _ (P : Plan) (boxes : List ℕ) (i t : ℕ) where
   known-C : i < taskCount P → Known kindC (judgeC P boxes i)
   unfolding judgeC Known
   known-C l =
-      fit-all (Known kindC) (fitAt P boxes i) _ _ (λ q. stopsC l q)
+      fit-all (Known kindC) (fitAt (P .shifts) boxes i) _ _ (λ q. stopsC l q)
       (λ w q. if-all (Known kindC) _ _ _ (λ same. tt) (λ differ. movesC w l q differ refl))
 
-  known-O : t < P .hours → Known kindO (judgeO P boxes t)
+  known-O : t < P .shifts .hours → Known kindO (judgeO P boxes t)
   unfolding judgeO Known
   known-O m = if-all (Known kindO) _ _ _ (λ over. stopsO m (ltb-true _ _ over)) (λ under. tt)
 
@@ -76,10 +76,10 @@ module _ (P : Plan) (boxes : List ℕ) (i t : ℕ) where
   unfolding excess
   exceeds e = ltb-true _ _ e
 
-  known-L : i < taskCount P → t < P .hours → Known kindL (judgeL P boxes i t)
+  known-L : i < taskCount P → t < P .shifts .hours → Known kindL (judgeL P boxes i t)
   unfolding judgeL Known
   known-L l m =
-      fit-all (Known kindL) (fitAt P boxes i) _ _ (λ q. tt)
+      fit-all (Known kindL) (fitAt (P .shifts) boxes i) _ _ (λ q. tt)
       (λ w q. if-all (Known kindL) _ _ _
       (λ a.
       let c : Crowded P boxes i t w = record { task = l; hour = m; fit = q; excess = exceeds (and-right _ _ (and-right _ _ a)) } in
@@ -88,10 +88,10 @@ module _ (P : Plan) (boxes : List ℕ) (i t : ℕ) where
       (λ more. movesL w c ends (leb-true _ _ (and-left _ _ (and-right _ _ a))) (leb-false _ _ more) refl))
       (λ a. tt))
 
-  known-U : i < taskCount P → t < P .hours → Known kindU (judgeU P boxes i t)
+  known-U : i < taskCount P → t < P .shifts .hours → Known kindU (judgeU P boxes i t)
   unfolding judgeU Known
   known-U l m =
-      fit-all (Known kindU) (fitAt P boxes i) _ _ (λ q. tt)
+      fit-all (Known kindU) (fitAt (P .shifts) boxes i) _ _ (λ q. tt)
       (λ w q. if-all (Known kindU) _ _ _
       (λ a.
       let c : Crowded P boxes i t w = record { task = l; hour = m; fit = q; excess = exceeds (and-right _ _ (and-right _ _ a)) } in
@@ -100,7 +100,7 @@ module _ (P : Plan) (boxes : List ℕ) (i t : ℕ) where
       (λ more. movesU w c starts (ltb-true _ _ (and-left _ _ (and-right _ _ a))) (ltb-false _ _ more) refl))
       (λ a. tt))
 
-  known : (k : Kind) → isStep (taskCount P) (P .hours) k i t ≡ true → Known k (judgeKind P boxes k i t)
+  known : (k : Kind) → isStep (taskCount P) (P .shifts .hours) k i t ≡ true → Known k (judgeKind P boxes k i t)
   unfolding judgeKind isStep isHour
   known kindC e = known-C (ltb-true _ _ (and-left _ _ e))
   known kindO e = known-O (ltb-true _ _ (and-right _ _ e))

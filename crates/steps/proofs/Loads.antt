@@ -60,12 +60,12 @@ must-run (Within w) x t held e =
 
 module _ (P : Plan) (boxes : List ℕ) (σ : ℕ → Triple) (F : Feasible P boxes σ) where
   -- the windows hold the triples of a feasible schedule
-  pub fit-held : (i : ℕ) → i < taskCount P → (w : Window) → fitAt P boxes i ≡ Within w → Held w (σ i)
+  pub fit-held : (i : ℕ) → i < taskCount P → (w : Window) → fitAt (P .shifts) boxes i ≡ Within w → Held w (σ i)
   unfolding fitAt
   fit-held i l w e = rule-held _ _ (boundsAt boxes i) w e (σ i) (in-bounds _ _ (F .inside i l)) (F .fits i l)
 
-  running-must : (t j : ℕ) → j < taskCount P → mustRun (fitAt P boxes j) t ≡ true → runs (σ j) t ≡ true
-  running-must t j l e = must-run (fitAt P boxes j) (σ j) t (fit-held j l) e
+  running-must : (t j : ℕ) → j < taskCount P → mustRun (fitAt (P .shifts) boxes j) t ≡ true → runs (σ j) t ≡ true
+  running-must t j l e = must-run (fitAt (P .shifts) boxes j) (σ j) t (fit-held j l) e
 
   -- in each hour the running tasks' heights are at least the load
   pub load-runs : (t : ℕ) → load P boxes t ≤ running P σ t

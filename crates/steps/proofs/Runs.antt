@@ -90,7 +90,7 @@ module _ (P : Plan) (boxes : List ℕ) (e : next P boxes ≡ none) where
       let (l, u) = neither _ _ starts in
       record { byC = c; byO = o; byL = l; byU = u }
 
-  none-at : (k : Kind) (n i t : ℕ) → Letter k n → isStep (taskCount P) (P .hours) k i t ≡ true → ifAdmitted P boxes (step n i t) ≡ none
+  none-at : (k : Kind) (n i t : ℕ) → Letter k n → isStep (taskCount P) (P .shifts .hours) k i t ≡ true → ifAdmitted P boxes (step n i t) ≡ none
   unfolding Letter isStep isHour firstByTask firstByHour firstByTaskHour
   none-at kindC n i t q w =
       let z : t ≡ 0 = eqb-true _ _ (and-right _ _ w) in
@@ -105,9 +105,9 @@ module _ (P : Plan) (boxes : List ℕ) (e : next P boxes ≡ none) where
   none-at unknownKind n i t q w = absurd (false≢true w)
 
   pub next-none : (x : Step) → ifAdmitted P boxes x ≡ none
-  next-none x = go (isStep (taskCount P) (P .hours) (kindOf (x .kind)) (x .task) (x .hour)) refl
+  next-none x = go (isStep (taskCount P) (P .shifts .hours) (kindOf (x .kind)) (x .task) (x .hour)) refl
     where
-      go : (b : Bool) → isStep (taskCount P) (P .hours) (kindOf (x .kind)) (x .task) (x .hour) ≡ b → ifAdmitted P boxes x ≡ none
+      go : (b : Bool) → isStep (taskCount P) (P .shifts .hours) (kindOf (x .kind)) (x .task) (x .hour) ≡ b → ifAdmitted P boxes x ≡ none
       go true w = none-at (kindOf (x .kind)) (x .kind) (x .task) (x .hour) (letter (x .kind)) w
       go false w = unfold ifAdmitted judge onJudgement in (rw (if-false _ _ _ w))
 

@@ -39,7 +39,7 @@ oneForEachStep kinds tasks hours = eqb (length tasks) (length kinds) and eqb (le
 -- 31, then the plan's tests
 unfoldable pub entryFault : Plan → List ℕ → List ℕ → List ℕ → List ℕ → Option Fault
 entryFault P boxes kinds tasks hours =
-    unless (oneForEachTask (P .taskCalendars) (P .workTimes) (P .heights) boxes and oneForEachStep kinds tasks hours) 31 0
+    unless (oneForEachTask (P .shifts .taskCalendars) (P .shifts .workTimes) (P .heights) boxes and oneForEachStep kinds tasks hours) 31 0
     orElse planFault P boxes
 
 -- The log checker: the log's end, or at once a refusal that changes nothing. The boxes lent become those at the log's end.

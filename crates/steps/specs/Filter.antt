@@ -30,10 +30,10 @@ unfoldable pub firstByTask : Plan → List ℕ → ℕ → Option Admitted
 firstByTask P boxes letter = firstOf (λ i. ifAdmitted P boxes (step letter i 0)) (taskCount P)
 
 unfoldable pub firstByHour : Plan → List ℕ → ℕ → Option Admitted
-firstByHour P boxes letter = firstOf (λ t. ifAdmitted P boxes (step letter 0 t)) (P .hours)
+firstByHour P boxes letter = firstOf (λ t. ifAdmitted P boxes (step letter 0 t)) (P .shifts .hours)
 
 unfoldable pub firstByTaskHour : Plan → List ℕ → ℕ → Option Admitted
-firstByTaskHour P boxes letter = firstOf (λ i. firstOf (λ t. ifAdmitted P boxes (step letter i t)) (P .hours)) (taskCount P)
+firstByTaskHour P boxes letter = firstOf (λ i. firstOf (λ t. ifAdmitted P boxes (step letter i t)) (P .shifts .hours)) (taskCount P)
 
 -- the first admitted step: C by task; O by hour; L by task, then hour; U by task, then hour
 unfoldable pub next : Plan → List ℕ → Option Admitted

@@ -102,7 +102,7 @@ withLatest b s =
 -- is no valid triple, which is impossible
 unfoldable pub judgeC : Plan → List ℕ → ℕ → Judgement
 judgeC P boxes i =
-    onFit (fitAt P boxes i) impossible
+    onFit (fitAt (P .shifts) boxes i) impossible
     (λ w. if sameBounds (w .bounds) (boundsAt boxes i) then notAdmitted else moved (withBounds boxes i (w .bounds)))
 
 -- O hour t: load(t) exceeds the capacity. Impossible
@@ -112,7 +112,7 @@ judgeO P boxes t = if ltb (P .capacity) (load P boxes t) then impossible else no
 -- L task, hour t: the task has a valid triple, ect > t, lower S ≤ t, and the excess. Lower S becomes t + 1; if t ≥ upper S, impossible
 unfoldable pub judgeL : Plan → List ℕ → ℕ → ℕ → Judgement
 judgeL P boxes i t =
-    onFit (fitAt P boxes i) notAdmitted
+    onFit (fitAt (P .shifts) boxes i) notAdmitted
     (λ w. if ltb t (ect w) and leb (boundsAt boxes i .earliest .0) t and excess P boxes i t
     then (if leb (boundsAt boxes i .latest .0) t
     then impossible
@@ -123,7 +123,7 @@ judgeL P boxes i t =
 -- below lower S, impossible. The two tests stand as sums, since t minus lower E may be negative
 unfoldable pub judgeU : Plan → List ℕ → ℕ → ℕ → Judgement
 judgeU P boxes i t =
-    onFit (fitAt P boxes i) notAdmitted
+    onFit (fitAt (P .shifts) boxes i) notAdmitted
     (λ w. if leb (lst w) t and ltb t (boundsAt boxes i .latest .0 + boundsAt boxes i .shortest .0) and excess P boxes i t
     then (if ltb t (boundsAt boxes i .earliest .0 + boundsAt boxes i .shortest .0)
     then impossible
@@ -139,6 +139,6 @@ judgeKind P boxes unknownKind i t = unknown
 
 unfoldable pub judge : Plan → List ℕ → Step → Judgement
 judge P boxes x =
-    if isStep (taskCount P) (P .hours) (kindOf (x .kind)) (x .task) (x .hour)
+    if isStep (taskCount P) (P .shifts .hours) (kindOf (x .kind)) (x .task) (x .hour)
     then judgeKind P boxes (kindOf (x .kind)) (x .task) (x .hour)
     else unknown

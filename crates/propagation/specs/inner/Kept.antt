@@ -27,7 +27,7 @@ use Rattle.steps.specs.Steps.{step, letterC, letterO, letterL, letterU, Kind, k
 
 -- the answers of the calendar rule that are kept, one for each task, are those for the boxes
 abbrev pub Kept : Plan → List ℕ → List Fit → Type 0
-Kept P boxes fits = (i : ℕ) → i < taskCount P → getD fits i Never ≡ fitAt P boxes i
+Kept P boxes fits = (i : ℕ) → i < taskCount P → getD fits i Never ≡ fitAt (P .shifts) boxes i
 
 -- load(t), from the answers kept
 unfoldable pub loadOf : List Fit → List ℕ → ℕ → ℕ

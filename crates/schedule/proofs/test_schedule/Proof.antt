@@ -2,10 +2,11 @@ use mathlib.Core.Path.{sym, ap, _∙_}
 use borrow.Author.Tests.{not-true, not-false}
 use Rattle.units.proofs.Choices.{not-left, not-right, else-none, else-some}
 use Rattle.plan.specs.Plan.{taskCount}
+use Rattle.plan.specs.Plan.{taskCount}
 use Rattle.plan.specs.Refusals.{testedFault}
 use Rattle.plan.proofs.Refusing.{go-on, refuse}
 use Rattle.schedule.specs.Entry.{isSized, scheduleFault}
-use Rattle.schedule.proofs.Testing.{triples-are, hours-are}
+use Rattle.schedule.proofs.Testing.{hours-are}
 use Rattle.schedule.proofs.Readiness.{right-size, same-heights, triples-ready, hours-ready}
 use Rattle.schedule.proofs.Decision.{checks-as}
 use borrow.Author.Needs.{needs}
@@ -52,12 +53,12 @@ enum-told-4 : tie.Need-enum-told-4
 enum-told-4 c = search needs
 
 returns-4 : tie.Need-returns-4
-unfolding scheduleFault
+unfolding scheduleFault taskCount
 returns-4 c =
     let size = right-size _ _ _ _ _ (c .before .before .before .before .before .before .before .before .before .has-one-for-each-task .ensures) (c .before .before .before .before .before .before .before .before .if1 .left) (c .before .before .before .before .before .before .before .has-triples .ensures) (c .before .before .before .before .before .before .if2 .left) in
     let passes = sym (c .before .before .before .before .before .test-plan .ensures) ∙ ap testedFault (c .before .before .before .enum-told .given .1) in
     let told = ap testedFault (c .enum-told4 .given .1) in
-    checks-as _ _ _ _ (told ∙ sym (go-on _ 31 0 _ size ∙ else-none _ _ passes ∙ else-some _ _ _ (sym (c .before .before .test-triples .ensures ∙ triples-are _ _ _) ∙ told)))
+    checks-as _ _ _ _ (told ∙ sym (go-on _ 31 0 _ size ∙ else-none _ _ passes ∙ else-some _ _ _ (sym (c .before .before .test-triples .ensures) ∙ told)))
 
 test-hours-requires : tie.Need-test-hours-requires
 test-hours-requires c κs =
@@ -65,11 +66,11 @@ test-hours-requires c κs =
     hours-ready _ _ _ size (sym (c .before .before .before .before .before .test-plan .ensures) ∙ ap testedFault (c .before .before .before .enum-told .given .1))
 
 returns-5 : tie.Need-returns-5
-unfolding scheduleFault
+unfolding scheduleFault taskCount
 returns-5 c =
     let size = right-size _ _ _ _ _ (c .before .before .before .before .before .before .before .before .before .before .has-one-for-each-task .ensures) (c .before .before .before .before .before .before .before .before .before .if1 .left) (c .before .before .before .before .before .before .before .before .has-triples .ensures) (c .before .before .before .before .before .before .before .if2 .left) in
     let passes = sym (c .before .before .before .before .before .before .test-plan .ensures) ∙ ap testedFault (c .before .before .before .before .enum-told .given .1) in
-    let triples = sym (c .before .before .before .test-triples .ensures ∙ triples-are _ _ _) ∙ ap testedFault (c .before .enum-told3 .given .1) in
+    let triples = sym (c .before .before .before .test-triples .ensures) ∙ ap testedFault (c .before .enum-told3 .given .1) in
     checks-as _ _ _ _ (c .test-hours .ensures ∙ hours-are _ _ (same-heights _ _ _ size passes) ∙ sym (go-on _ 31 0 _ size ∙ else-none _ _ passes ∙ else-none _ _ triples))
 
 pub test-schedule-spec : {M : Type 1} → statement M

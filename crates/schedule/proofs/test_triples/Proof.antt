@@ -9,7 +9,7 @@ use lib.ListN.{length}
 use borrow.Author.Needs.{needs}
 use Rattle.units.specs.Choice.{firstOf}
 use Rattle.units.proofs.Choices.{first-next, first-hit}
-use Rattle.plan.specs.Plan.{plan}
+use Rattle.plan.specs.Plan.{shifts}
 use Rattle.plan.specs.Refusals.{testedFault}
 use Rattle.plan.proofs.Refusing.{first-end}
 use Rattle.schedule.specs.Schedule.{tripleAt}
@@ -20,7 +20,7 @@ use Rattle.schedule.proofs.test_triples.Tie as tie
 abbrev Inv-loop : tie.InvT-loop
 Inv-loop hours calendars task-calendars work-times boxes schedule i₀ i-end i =
     (i ≤ length task-calendars)
-    × (firstOf (tripleFault (plan (hours .0) 0 calendars task-calendars work-times []) boxes (tripleAt schedule)) i ≡ none)
+    × (firstOf (tripleFault (shifts (hours .0) calendars task-calendars work-times) boxes (tripleAt schedule)) i ≡ none)
 
 abbrev μ-loop : tie.MeasureT-loop
 μ-loop hours calendars task-calendars work-times boxes schedule i₀ i-end i = i-end - i

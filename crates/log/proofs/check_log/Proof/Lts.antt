@@ -99,8 +99,8 @@ abbrev pub τ9 : Syntax.Ty
     (Syntax.ttcons (Syntax.tcons (Syntax.tyInt Syntax.w64) Syntax.tnil) (Syntax.ttcons Syntax.tnil Syntax.ttnil)))))))))))))))))
 
 abbrev pub τ10 : Syntax.Ty
-τ10 = Syntax.tyEnum (112 ∷ 114 ∷ 111 ∷ 112 ∷ 97 ∷ 103 ∷ 97 ∷ 116 ∷ 105 ∷ 111 ∷ 110 ∷ 58 ∷ 58 ∷ 76 ∷ 111 ∷ 103 ∷ 67 ∷ 104 ∷ 101 ∷ 99 ∷ 107 ∷ 101 ∷ 100 ∷ []) (Syntax.ttcons (Syntax.tcons τ9
-    Syntax.tnil) (Syntax.ttcons (Syntax.tcons (Syntax.tyInt Syntax.w64) (Syntax.tcons Syntax.tyBool Syntax.tnil)) Syntax.ttnil))
+τ10 = Syntax.tyEnum (115 ∷ 116 ∷ 101 ∷ 112 ∷ 115 ∷ 58 ∷ 58 ∷ 76 ∷ 111 ∷ 103 ∷ 67 ∷ 104 ∷ 101 ∷ 99 ∷ 107 ∷ 101 ∷ 100 ∷ []) (Syntax.ttcons (Syntax.tcons τ9 Syntax.tnil) (Syntax.ttcons (Syntax.tcons
+    (Syntax.tyInt Syntax.w64) (Syntax.tcons Syntax.tyBool Syntax.tnil)) Syntax.ttnil))
 
 abbrev pub τ11 : Syntax.Ty
 τ11 = Syntax.tyStruct (108 ∷ 111 ∷ 103 ∷ 58 ∷ 58 ∷ 112 ∷ 97 ∷ 114 ∷ 116 ∷ 58 ∷ 58 ∷ 80 ∷ 97 ∷ 114 ∷ 116 ∷ 67 ∷ 104 ∷ 101 ∷ 99 ∷ 107 ∷ 101 ∷ 100 ∷ []) (Syntax.tcons τ10 (Syntax.tcons Syntax.tyBool

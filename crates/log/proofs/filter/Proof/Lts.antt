@@ -113,9 +113,8 @@ abbrev pub τ11 : Syntax.Ty
     (Syntax.ttcons (Syntax.tcons (Syntax.tyInt Syntax.w64) Syntax.tnil) (Syntax.ttcons Syntax.tnil Syntax.ttnil)))))))))))))))))
 
 abbrev pub τ12 : Syntax.Ty
-τ12 = Syntax.tyEnum (112 ∷ 114 ∷ 111 ∷ 112 ∷ 97 ∷ 103 ∷ 97 ∷ 116 ∷ 105 ∷ 111 ∷ 110 ∷ 58 ∷ 58 ∷ 70 ∷ 105 ∷ 108 ∷ 116 ∷ 101 ∷ 114 ∷ 101 ∷ 100 ∷ []) (Syntax.ttcons (Syntax.tcons τ11 Syntax.tnil)
-    (Syntax.ttcons (Syntax.tcons (Syntax.tyInt Syntax.w64) Syntax.tnil) (Syntax.ttcons (Syntax.tcons (Syntax.tyInt Syntax.w64) Syntax.tnil) (Syntax.ttcons (Syntax.tcons (Syntax.tyInt Syntax.w64)
-    Syntax.tnil) Syntax.ttnil))))
+τ12 = Syntax.tyEnum (115 ∷ 116 ∷ 101 ∷ 112 ∷ 115 ∷ 58 ∷ 58 ∷ 70 ∷ 105 ∷ 108 ∷ 116 ∷ 101 ∷ 114 ∷ 101 ∷ 100 ∷ []) (Syntax.ttcons (Syntax.tcons τ11 Syntax.tnil) (Syntax.ttcons (Syntax.tcons
+    (Syntax.tyInt Syntax.w64) Syntax.tnil) (Syntax.ttcons (Syntax.tcons (Syntax.tyInt Syntax.w64) Syntax.tnil) (Syntax.ttcons (Syntax.tcons (Syntax.tyInt Syntax.w64) Syntax.tnil) Syntax.ttnil))))
 
 abbrev pub τ13 : Syntax.Ty
 τ13 = Syntax.tyStruct (108 ∷ 111 ∷ 103 ∷ 58 ∷ 58 ∷ 112 ∷ 97 ∷ 114 ∷ 116 ∷ 58 ∷ 58 ∷ 80 ∷ 97 ∷ 114 ∷ 116 ∷ 70 ∷ 105 ∷ 108 ∷ 116 ∷ 101 ∷ 114 ∷ 101 ∷ 100 ∷ []) (Syntax.tcons τ10 (Syntax.tcons τ12

@@ -51,8 +51,8 @@ abbrev pub τ0 : Syntax.Ty
 τ0 = Syntax.tyRef (Syntax.named 0) Syntax.imm (Lent.pointed)
 
 abbrev pub τ1 : Syntax.Ty
-τ1 = Syntax.tyStruct (112 ∷ 114 ∷ 111 ∷ 112 ∷ 97 ∷ 103 ∷ 97 ∷ 116 ∷ 105 ∷ 111 ∷ 110 ∷ 58 ∷ 58 ∷ 83 ∷ 116 ∷ 101 ∷ 112 ∷ []) (Syntax.tcons (Syntax.tyInt Syntax.w8) (Syntax.tcons (Syntax.tyInt
-    Syntax.w16) (Syntax.tcons (Syntax.tyInt Syntax.w16) Syntax.tnil)))
+τ1 = Syntax.tyStruct (115 ∷ 116 ∷ 101 ∷ 112 ∷ 115 ∷ 58 ∷ 58 ∷ 83 ∷ 116 ∷ 101 ∷ 112 ∷ []) (Syntax.tcons (Syntax.tyInt Syntax.w8) (Syntax.tcons (Syntax.tyInt Syntax.w16) (Syntax.tcons (Syntax.tyInt
+    Syntax.w16) Syntax.tnil)))
 
 abbrev pub τ2 : Syntax.Ty
 τ2 = Syntax.tyStruct (108 ∷ 111 ∷ 103 ∷ 58 ∷ 58 ∷ 112 ∷ 97 ∷ 114 ∷ 116 ∷ 58 ∷ 58 ∷ 80 ∷ 97 ∷ 114 ∷ 116 ∷ []) (Syntax.tcons (Syntax.tyArray (Syntax.tyInt Syntax.w8) 64) (Syntax.tcons (Syntax.tyArray

@@ -60,8 +60,8 @@ abbrev pub τ2 : Syntax.Ty
 τ2 = Syntax.tyStruct (38 ∷ 91 ∷ 93 ∷ []) (Syntax.tcons τ0 (Syntax.tcons (Syntax.tyInt Syntax.w64) Syntax.tnil))
 
 abbrev pub τ3 : Syntax.Ty
-τ3 = Syntax.tyStruct (112 ∷ 114 ∷ 111 ∷ 112 ∷ 97 ∷ 103 ∷ 97 ∷ 116 ∷ 105 ∷ 111 ∷ 110 ∷ 58 ∷ 58 ∷ 83 ∷ 116 ∷ 101 ∷ 112 ∷ []) (Syntax.tcons (Syntax.tyInt Syntax.w8) (Syntax.tcons (Syntax.tyInt
-    Syntax.w16) (Syntax.tcons (Syntax.tyInt Syntax.w16) Syntax.tnil)))
+τ3 = Syntax.tyStruct (115 ∷ 116 ∷ 101 ∷ 112 ∷ 115 ∷ 58 ∷ 58 ∷ 83 ∷ 116 ∷ 101 ∷ 112 ∷ []) (Syntax.tcons (Syntax.tyInt Syntax.w8) (Syntax.tcons (Syntax.tyInt Syntax.w16) (Syntax.tcons (Syntax.tyInt
+    Syntax.w16) Syntax.tnil)))
 
 abbrev pub τ4 : Syntax.Ty
 τ4 = Syntax.tyStruct (108 ∷ 111 ∷ 103 ∷ 58 ∷ 58 ∷ 112 ∷ 97 ∷ 114 ∷ 116 ∷ 58 ∷ 58 ∷ 80 ∷ 97 ∷ 114 ∷ 116 ∷ []) (Syntax.tcons (Syntax.tyArray (Syntax.tyInt Syntax.w8) 64) (Syntax.tcons (Syntax.tyArray

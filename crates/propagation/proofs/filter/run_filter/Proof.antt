@@ -7,7 +7,7 @@ use borrow.Author.Needs.{needs}
 use Rattle.units.specs.declared.Bounds.{Bounds}
 use Rattle.plan.specs.Plan.{plan, taskCount}
 use Rattle.steps.specs.declared.Judged.the-variants.{Moved}
-use Rattle.propagation.proofs.Fits.{fitting, fit-alone}
+use Rattle.propagation.proofs.Fits.{fitting}
 use Rattle.propagation.proofs.Keeping.{ready}
 use Rattle.propagation.proofs.Replaying.{may-move}
 use Rattle.propagation.proofs.Filtering.{Filtering, filter-opens, settles, fills, stops-at, goes-on}
@@ -44,7 +44,7 @@ all-fits-requires c κs = (entry c .pre .0 .tasks, λ i l. fitting _ _ (entry c 
 
 loop-holds : tie.Need-loop-holds Inv-loop μ-loop
 unfolding taskCount
-loop-holds c = filter-opens (entry (c .before) .pre) (λ i l. c .all-fits .ensures .1 i l ∙ fit-alone _ _ i) (c .all-fits .ensures .0)
+loop-holds c = filter-opens (entry (c .before) .pre) (c .all-fits .ensures .1) (c .all-fits .ensures .0)
 
 slice-write-log-kinds : tie.Need-slice-write-log-kinds Inv-loop μ-loop
 slice-write-log-kinds c = omega (arith, c .if1 .left)

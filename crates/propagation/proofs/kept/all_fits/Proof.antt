@@ -5,7 +5,7 @@ use native.Mathlib.Omega.{arith}
 use lib.ListN.{length, getD, length-set}
 use borrow.Author.Needs.{needs}
 use Rattle.units.specs.Limits.{mostTasks}
-use Rattle.plan.specs.Plan.{plan}
+use Rattle.plan.specs.Plan.{shifts}
 use Rattle.calendar.specs.declared.Fit.the-variants.{Never}
 use Rattle.steps.specs.Load.{fitAt}
 use Rattle.propagation.proofs.Fits.{filled-more}
@@ -17,7 +17,7 @@ Inv-loop hours calendars task-calendars work-times boxes fits₀ i₀ i-end fits
     (i ≤ length task-calendars)
     × (i-end ≡ length task-calendars)
     × (length fits ≡ mostTasks)
-    × ((k : ℕ) → k < i → getD fits k Never ≡ fitAt (plan (hours .0) 0 calendars task-calendars work-times []) boxes k)
+    × ((k : ℕ) → k < i → getD fits k Never ≡ fitAt (shifts (hours .0) calendars task-calendars work-times) boxes k)
 
 abbrev μ-loop : tie.MeasureT-loop
 μ-loop hours calendars task-calendars work-times boxes fits₀ i₀ i-end fits i = i-end - i

@@ -5,11 +5,11 @@ use Rattle.propagation.proofs.kept.fit_of.Tie as tie
 
 rule-requires : tie.Need-rule-requires
 rule-requires c κs =
-    core-asks _ _ _ _ _ _ _ _ (c .calendar-at .ensures) (c .before .before .bounds-at .ensures)
+    core-asks _ _ _ _ _ (c .calendar-at .ensures) (c .before .before .bounds-at .ensures)
     (c .before .before .before .before .before .before .before .before .pre)
 
 returns : tie.Need-returns
-returns c = core-answers _ _ _ _ _ _ _ _ (c .before .calendar-at .ensures) (c .before .before .before .bounds-at .ensures) _ (c .rule .ensures)
+returns c = core-answers _ _ _ _ _ (c .before .calendar-at .ensures) (c .before .before .before .bounds-at .ensures) _ (c .rule .ensures)
 
 pub fit-of-spec : {M : Type 1} → statement M
 fit-of-spec =

@@ -5,7 +5,7 @@ use lib.ListN.{length}
 use borrow.Author.Needs.{needs}
 use Rattle.plan.specs.Plan.{plan, taskCount}
 use Rattle.steps.specs.Entry.{stepAt}
-use Rattle.propagation.proofs.Fits.{fitting, fit-alone}
+use Rattle.propagation.proofs.Fits.{fitting}
 use Rattle.propagation.proofs.Keeping.{ready}
 use Rattle.propagation.proofs.Replaying.{below, Replaying, may-move, replay-opens, replay-done, replay-13}
 use Rattle.propagation.proofs.Replaying.{replay-11, replay-12, replay-stops, replay-moves}
@@ -42,7 +42,7 @@ all-fits-requires c κs = (entry c .pre .0 .0 .tasks, λ i l. fitting _ _ (entry
 loop-holds : tie.Need-loop-holds Inv-loop μ-loop
 unfolding taskCount
 loop-holds c =
-    (omega arith, refl, replay-opens (entry (c .before) .pre .0) (λ i l. c .all-fits .ensures .1 i l ∙ fit-alone _ _ i) (c .all-fits .ensures .0))
+    (omega arith, refl, replay-opens (entry (c .before) .pre .0) (c .all-fits .ensures .1) (c .all-fits .ensures .0))
 
 add-t25 : tie.Need-add-t25 Inv-loop μ-loop
 add-t25 c = let h = c in omega (arith, h .before .loop-test .taken, h .before .before .loop .inv .1, number (h .before .before) .pre .1)
