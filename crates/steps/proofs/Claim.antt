@@ -9,6 +9,7 @@ use Rattle.units.proofs.Choices.{and-right}
 use Rattle.plan.specs.Plan.{Plan, taskCount}
 use Rattle.plan.specs.Faults.{oneForEachTask}
 use Rattle.steps.specs.declared.Step.{Step}
+use Rattle.steps.specs.Filter.{next}
 use Rattle.steps.specs.Claim.{LogsHold}
 use Rattle.steps.proofs.Replays.{accepted-admitted, admitted-accepted, accepted-steps, replay-keeps, replay-possible}
 use Rattle.steps.proofs.Runs.{run-replays, run-fits, run-short}
@@ -27,6 +28,6 @@ logs-hold P boxes sized log room =
       keeps = λ σ F. replay-keeps P boxes log sized σ F .inside;
       noSchedule = λ e σ F. false≢true (sym (replay-possible P boxes log sized σ F) ∙ e);
       own = run-replays P boxes room;
-      fits = run-fits P boxes room;
+      fits = run-fits (next P) boxes room;
       short = run-short P boxes room sized;
     }

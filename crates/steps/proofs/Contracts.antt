@@ -20,13 +20,14 @@ use Rattle.calendar.specs.declared.Triple.{Triple}
 use Rattle.calendar.specs.Triples.{inBounds}
 use Rattle.schedule.specs.Schedule.{Feasible}
 use Rattle.steps.specs.Steps.{judge}
-use Rattle.steps.specs.Log.{LogEnd, logEnd, replayFrom, replay}
-use Rattle.steps.specs.Filter.{Ending, settled, impossible, noRoom, Run, count, run}
+use Rattle.steps.specs.Log.{LogEnd, logEnd, replayFrom, replayBy, replay}
+use Rattle.steps.specs.Filter.{filterOrder, next, Ending, settled, impossible, noRoom, Run, count, run}
 use Rattle.steps.specs.Entry.{stepAt, stepsFrom, stepsIn, entryFault, Accepted, checkLog, checkAnswer, refusedBy, endingAnswer, FilterEnd, logged, filterPlan}
 use Rattle.steps.specs.Claim.{saidImpossible, CheckedHolds, FilterHolds}
 use Rattle.steps.proofs.Judgements.{judgement-all}
 use Rattle.steps.proofs.Replays.{accepted-admitted, admitted-accepted, replay-keeps, replay-possible}
-use Rattle.steps.proofs.Runs.{next-none, run-replays, run-fits, run-short, run-rests}
+use Rattle.steps.proofs.Searches.{next-none, filter-complete}
+use Rattle.steps.proofs.Runs.{run-replays, run-fits, run-short, run-rests}
 use Rattle.steps.proofs.Claim.{boxes-sized}
 
 -- ---- the faults found before a log is read are none of the log's own
@@ -92,7 +93,7 @@ other-number : {C : Type 0} (f g : Fault) → (f .number ≡ g .number → ⊥) 
 other-number f g ne e = absurd (ne (let z : f ≡ g = cc in ap (λ (h : Fault). h .number) z))
 
 refused-13 : (P : Plan) (k : ℕ) (boxes : List ℕ) (log : List Step) → After-impossible (replayFrom P k false boxes log)
-unfolding After-impossible replayFrom
+unfolding After-impossible replayBy
 refused-13 P k boxes [] = λ n e. none≢some e
 refused-13 P k boxes (x ∷ xs) =
     judgement-all After-impossible (judge P boxes x) _ _ _ _
@@ -219,9 +220,9 @@ module _ (P : Plan) (boxes : List ℕ) (room : ℕ) (first : ℕ → List Step) 
         own = λ e n q.
             let s = same-ending (r .ending) e (count r) n q in
             rw (← s .0, ← s .1) (ap (replay P boxes) is-log ∙ run-replays P boxes room);
-        fits = λ e n q. rw (← (same-ending (r .ending) e (count r) n q .1)) (run-fits P boxes room);
+        fits = λ e n q. rw (← (same-ending (r .ending) e (count r) n q .1)) (run-fits (next P) boxes room);
         short = λ e n q. rw (← (same-ending (r .ending) e (count r) n q .1)) (run-short P boxes room size);
-        settles = λ n q. next-none P (r .boxes) (run-rests P boxes room (same-ending (r .ending) settled (count r) n q .0));
+        settles = λ n q. next-none P (r .boxes) filterOrder filter-complete (run-rests (next P) boxes room (same-ending (r .ending) settled (count r) n q .0));
         keeps = λ σ F. subst (λ (l : LogEnd). (i : ℕ) → i < taskCount P → inBounds (boundsAt (l .boxes) i) (σ i) ≡ true) (run-replays P boxes room)
             (replay-keeps P boxes (r .log) size σ F .inside);
         noSchedule = λ n q σ F.

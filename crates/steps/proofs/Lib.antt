@@ -2,6 +2,7 @@ pub mod Loads
 pub mod Judgements
 pub mod Changes
 pub mod Replays
+pub mod Searches
 pub mod Runs
 pub mod Claim
 pub mod Contracts

@@ -6,7 +6,7 @@ use lib.ListN.{length}
 use Rattle.units.specs.Choice.{onOption, _orElse_, firstOf}
 use Rattle.plan.specs.Plan.{Plan, taskCount}
 use Rattle.steps.specs.declared.Step.{Step}
-use Rattle.steps.specs.Steps.{step, letterC, letterO, letterL, letterU, judge, onJudgement}
+use Rattle.steps.specs.Steps.{step, letterC, letterO, letterL, letterU, Kind, kindC, kindO, kindL, kindU, unknownKind, judge, onJudgement}
 
 -- An admitted step: one that says impossible, or one that moves a bound, with the boxes that it leaves.
 pub data Admitted : Type 0 where
@@ -25,23 +25,30 @@ onAdmitted (moves x left) f g = g x left
 unfoldable pub ifAdmitted : Plan → List ℕ → Step → Option Admitted
 ifAdmitted P boxes x = onJudgement (judge P boxes x) none none (some (stops x)) (λ left. some (moves x left))
 
--- the first admitted step of a kind, by task; by hour; by task, then hour
-unfoldable pub firstByTask : Plan → List ℕ → ℕ → Option Admitted
-firstByTask P boxes letter = firstOf (λ i. ifAdmitted P boxes (step letter i 0)) (taskCount P)
+-- the first that f finds among the steps of a kind: C by task; O by hour; L by task, then hour; U by task, then hour
+module _ {A : Type 0} (tasks hours : ℕ) (f : Step → Option A) where
+  unfoldable pub firstOfKind : Kind → Option A
+  firstOfKind kindC = firstOf (λ i. f (step letterC i 0)) tasks
+  firstOfKind kindO = firstOf (λ t. f (step letterO 0 t)) hours
+  firstOfKind kindL = firstOf (λ i. firstOf (λ t. f (step letterL i t)) hours) tasks
+  firstOfKind kindU = firstOf (λ i. firstOf (λ t. f (step letterU i t)) hours) tasks
+  firstOfKind unknownKind = none
 
-unfoldable pub firstByHour : Plan → List ℕ → ℕ → Option Admitted
-firstByHour P boxes letter = firstOf (λ t. ifAdmitted P boxes (step letter 0 t)) (P .shifts .hours)
+  -- and in an order of kinds
+  unfoldable pub firstBy : List Kind → Option A
+  firstBy [] = none
+  firstBy (k ∷ ks) = firstOfKind k orElse firstBy ks
 
-unfoldable pub firstByTaskHour : Plan → List ℕ → ℕ → Option Admitted
-firstByTaskHour P boxes letter = firstOf (λ i. firstOf (λ t. ifAdmitted P boxes (step letter i t)) (P .shifts .hours)) (taskCount P)
+-- the filter's order
+unfoldable pub filterOrder : List Kind
+filterOrder = kindC ∷ kindO ∷ kindL ∷ kindU ∷ []
 
--- the first admitted step: C by task; O by hour; L by task, then hour; U by task, then hour
-unfoldable pub next : Plan → List ℕ → Option Admitted
-next P boxes =
-    firstByTask P boxes letterC
-    orElse firstByHour P boxes letterO
-    orElse firstByTaskHour P boxes letterL
-    orElse firstByTaskHour P boxes letterU
+-- the first admitted step, in an order of kinds; in the filter's
+unfoldable pub nextBy : List Kind → Plan → List ℕ → Option Admitted
+nextBy order P boxes = firstBy (taskCount P) (P .shifts .hours) (ifAdmitted P boxes) order
+
+abbrev pub next : Plan → List ℕ → Option Admitted
+next = nextBy filterOrder
 
 -- How a run ends: no step is admitted; the last step said impossible; a step is admitted and the log has no room for it (32).
 pub data Ending : Type 0 where
@@ -62,10 +69,14 @@ ended ending log boxes = record { ending = ending; log = log; boxes = boxes }
 unfoldable pub after : Step → Run → Run
 after x r = ended (r .ending) (x ∷ r .log) (r .boxes)
 
--- the run from the boxes with room for so many steps
-unfoldable pub run : Plan → List ℕ → ℕ → Run
-run P boxes zero = ended (onOption (next P boxes) settled (λ a. noRoom)) [] boxes
-run P boxes (suc room) =
-    onOption (next P boxes)
-    (ended settled [] boxes)
-    (λ a. onAdmitted a (λ x. ended impossible (x ∷ []) boxes) (λ x left. after x (run P left room)))
+-- the run from the boxes with room for so many steps, for any choice of the step that stands next; the filter's
+module _ (nextAt : List ℕ → Option Admitted) where
+  unfoldable pub runBy : List ℕ → ℕ → Run
+  runBy boxes zero = ended (onOption (nextAt boxes) settled (λ a. noRoom)) [] boxes
+  runBy boxes (suc room) =
+      onOption (nextAt boxes)
+      (ended settled [] boxes)
+      (λ a. onAdmitted a (λ x. ended impossible (x ∷ []) boxes) (λ x left. after x (runBy left room)))
+
+abbrev pub run : Plan → List ℕ → ℕ → Run
+run P = runBy (next P)

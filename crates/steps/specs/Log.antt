@@ -7,7 +7,7 @@ use Prim.Native.Nat.{ℕ, _+_}
 use Rattle.plan.specs.Plan.{Plan}
 use Rattle.plan.specs.Refusals.{Fault, fault}
 use Rattle.steps.specs.declared.Step.{Step}
-use Rattle.steps.specs.Steps.{judge, onJudgement}
+use Rattle.steps.specs.Steps.{Judgement, moved, onJudgement, judge}
 use Rattle.steps.specs.Steps as judged
 
 -- The log's end: its first record that isn't admitted at its turn or that follows one which said impossible, or past its last step.
@@ -23,25 +23,32 @@ pub record LogEnd : Type 0 where
 abbrev pub logEnd : ℕ → Bool → List ℕ → Option Fault → LogEnd
 logEnd steps impossible boxes refusal = record { steps = steps; impossible = impossible; boxes = boxes; refusal = refusal }
 
--- from step number k on, from the boxes that the step before it left, and whether that one said impossible
-unfoldable pub replayFrom : Plan → ℕ → Bool → List ℕ → List Step → LogEnd
-replayFrom P k said boxes [] = logEnd k said boxes none
-replayFrom P k true boxes (x ∷ xs) = logEnd k true boxes (some (fault 13 k))
-replayFrom P k false boxes (x ∷ xs) =
-    onJudgement (judge P boxes x)
-    (logEnd k false boxes (some (fault 11 k)))
-    (logEnd k false boxes (some (fault 12 k)))
-    (replayFrom P (k + 1) true boxes xs)
-    (λ left. replayFrom P (k + 1) false left xs)
+-- For any judgement of a step at its turn: the end of a log from step number k on, from the boxes that the step before it left, and whether that
+-- one said impossible.
+module _ (judgeAt : List ℕ → Step → Judgement) where
+  unfoldable pub replayBy : ℕ → Bool → List ℕ → List Step → LogEnd
+  replayBy k said boxes [] = logEnd k said boxes none
+  replayBy k true boxes (x ∷ xs) = logEnd k true boxes (some (fault 13 k))
+  replayBy k false boxes (x ∷ xs) =
+      onJudgement (judgeAt boxes x)
+      (logEnd k false boxes (some (fault 11 k)))
+      (logEnd k false boxes (some (fault 12 k)))
+      (replayBy (k + 1) true boxes xs)
+      (λ left. replayBy (k + 1) false left xs)
 
--- from the opening boxes
+  -- Each step is admitted at its turn and nothing follows one that says impossible: the first step meets the opening boxes, each later one the
+  -- boxes that the step before it left (01, "Steps", the paragraph on the opening boxes and the log's end).
+  pub data AdmittedBy : List ℕ → List Step → Type 0 where
+    noStep : {boxes : List ℕ} → AdmittedBy boxes []
+    lastStep : {boxes : List ℕ} {x : Step} → judgeAt boxes x ≡ judged.impossible → AdmittedBy boxes (x ∷ [])
+    nextStep : {boxes left : List ℕ} {x : Step} {xs : List Step} → judgeAt boxes x ≡ moved left → AdmittedBy left xs → AdmittedBy boxes (x ∷ xs)
+
+-- a plan's steps, judged as 01 says; and from the opening boxes
+abbrev pub replayFrom : Plan → ℕ → Bool → List ℕ → List Step → LogEnd
+replayFrom P = replayBy (judge P)
+
 unfoldable pub replay : Plan → List ℕ → List Step → LogEnd
 replay P boxes log = replayFrom P 0 false boxes log
 
--- Each step is admitted at its turn and nothing follows one that says impossible: the first step meets the opening boxes, each later one the
--- boxes that the step before it left (01, "Steps", the paragraph on the opening boxes and the log's end).
-pub data AllAdmitted (P : Plan) : List ℕ → List Step → Type 0 where
-  noStep : {boxes : List ℕ} → AllAdmitted P boxes []
-  lastStep : {boxes : List ℕ} {x : Step} → judge P boxes x ≡ judged.impossible → AllAdmitted P boxes (x ∷ [])
-  nextStep : {boxes left : List ℕ} {x : Step} {xs : List Step} → judge P boxes x ≡ judged.moved left → AllAdmitted P left xs
-      → AllAdmitted P boxes (x ∷ xs)
+abbrev pub AllAdmitted : Plan → List ℕ → List Step → Type 0
+AllAdmitted P = AdmittedBy (judge P)
