@@ -1,22 +1,27 @@
--- What is worked out from the answers kept is what the definitions say, for the boxes that the answers are kept for. Assumes nothing.
-use mathlib.Core.Path.{_≡_, refl, sym, ap, ap₂, _∙_}
-use mathlib.Core.Bool.{Bool, true, false}
+-- What is worked out from the answers kept is what the definitions say, for the boxes that the answers are kept for; and what is kept stays right
+-- when a box changes. Assumes nothing.
+use mathlib.Core.Path.{_≡_, refl, sym, ap, _∙_}
+use mathlib.Core.Logic.{_≢_}
+use mathlib.Core.Bool.{Bool, true, false, false≢true}
 use mathlib.Core.Option.{none, some}
 use mathlib.Core.List.{List}
 use Prim.Native.Nat.{ℕ, _+_, _-_, _≤_, _<_}
+use native.Mathlib.Decide.{ℕ-discrete}
 use native.Mathlib.Omega.{arith}
 use lib.Dec.{leb, ltb}
-use lib.ListN.{length, getD, List·getD-eq-default}
+use lib.ListN.{length, getD, set, length-set, List·getD-eq-default}
+use lib.Seq.{getD-set-same, getD-set-other}
 use borrow.Author.Tests.{ltb-true, ltb-false}
-use Rattle.units.specs.Choice.{_and_, if_then_else_, onOption, _orElse_, firstOf}
-use Rattle.units.specs.Limits.{mostHeight}
+use Rattle.units.specs.Choice.{_and_, if_then_else_, onOption}
+use Rattle.units.specs.Limits.{mostTasks, mostHeight}
 use Rattle.units.specs.declared.Bounds.{Bounds}
-use Rattle.units.proofs.Choices.{and-left, if-true, if-false, if-all, if-ap, else-on, first-on}
+use Rattle.units.proofs.Choices.{and-left, if-true, if-false, if-case, if-all, if-ap}
 use Rattle.units.proofs.Ranges.{Boxed}
 use Rattle.units.proofs.Summing.{where-eq, where-split}
 use Rattle.plan.specs.Plan.{Plan, taskCount, workTimeOf, heightOf, heightsWhere}
 use Rattle.plan.specs.Boxes.{boundsAt, withBounds}
 use Rattle.plan.proofs.Passed.{Passed}
+use Rattle.plan.proofs.Cells.{bounds-other}
 use Rattle.calendar.specs.declared.Window.{Window}
 use Rattle.calendar.specs.declared.Fit.{Fit}
 use Rattle.calendar.specs.declared.Fit.the-variants.{Never, Within}
@@ -25,25 +30,27 @@ use Rattle.steps.specs.declared.Step.{Step}
 use Rattle.steps.specs.declared.Judged.{Judged}
 use Rattle.steps.specs.declared.Judged.the-variants.{Unknown, NotAdmitted, Impossible, Moved}
 use Rattle.steps.specs.Load.{fitAt, mustRun, load, othersLoad, excess}
-use Rattle.steps.specs.Steps.{step, letterC, letterO, letterL, letterU, Kind, kindC, kindO, kindL, kindU, unknownKind, kindOf, isStep, Judgement, notAdmitted, impossible, moved, onJudgement, onFit, sameBounds, withEarliest, withLatest, judgeC, judgeO, judgeL, judgeU, judgeKind, judge}
-use Rattle.steps.specs.Filter.{stops, moves, stepOf, ifAdmitted, firstByTask, firstByHour, firstByTaskHour, next}
-use Rattle.propagation.specs.inner.Ready.{Ready}
-use Rattle.propagation.specs.inner.Kept.{Kept, loadOf, crowded, onJudged, calendarBy, lowerBy, upperBy, judgeKindBy, judgeBy, admittedBy, nextBy, judgementOf}
+use Rattle.steps.specs.Steps.{Kind, kindC, kindO, kindL, kindU, unknownKind, kindOf, isStep, Judgement, unknown, notAdmitted, impossible, moved, onJudgement, onFit, sameBounds, withEarliest, withLatest, judgeC, judgeO, judgeL, judgeU, judgeKind, judge}
+use Rattle.steps.specs.Filter.{stops, moves, stepOf, ifAdmitted, firstBy, nextBy}
+use Rattle.steps.proofs.Judgements.{fit-all}
 use Rattle.steps.proofs.Changes.{judge-change, change-passes}
+use Rattle.steps.proofs.Searches.{first-maps}
+use Rattle.propagation.specs.inner.Fitting.{Fitting}
+use Rattle.propagation.specs.inner.Ready.{Ready}
+use Rattle.propagation.specs.inner.Kept.{Keeping, loadOf, exceeds, onJudged, calendarBy, lowerBy, upperBy, moveBy, boundBy, judgeKindBy, judgeBy, admittedBy, judgementOf}
+use Rattle.propagation.proofs.Fits.{fitting}
 
 -- ---- what passes the tests is small enough, before and after a step
 
-pub ready : (P : Plan) (boxes : List ℕ) → Passed P boxes → Ready (P .shifts .hours) (P .heights) boxes
+pub ready : (P : Plan) (boxes : List ℕ) → Passed P boxes → Ready (P .heights) boxes
 ready P boxes passed =
     record {
-      hours = passed .hours;
       tasks = omega (arith, passed .tasks, passed .heights);
-      heights = λ i. small i (ltb i (taskCount P)) refl;
-      boxes = omega (arith, passed .boxes, passed .heights);
+      small = λ i. small i (ltb i (taskCount P)) refl;
+      sized = omega (arith, passed .boxes, passed .heights);
       starts = λ i l. box i l .starts;
-      latest = λ i l. box i l .latest;
-      some-time = λ i l. box i l .shortest;
-      shortest = λ i l. let b = box i l in omega arith;
+      latest = λ i l. let b = box i l in omega (arith, passed .hours);
+      shortest = λ i l. let b = box i l in omega (arith, passed .hours);
     }
   where
     small : (i : ℕ) (b : Bool) → ltb i (taskCount P) ≡ b → getD (P .heights) i 0 ≤ mostHeight
@@ -55,9 +62,6 @@ ready P boxes passed =
     box : (i : ℕ) → i < length (P .heights) → Boxed (P .shifts .hours) (workTimeOf (P .shifts) i) (boundsAt boxes i)
     box i l = passed .task i (omega (arith, passed .heights)) .box
 
-pub moved-passes : (P : Plan) (boxes left : List ℕ) (x : Step) → Passed P boxes → judge P boxes x ≡ moved left → Passed P left
-moved-passes P boxes left x passed e = change-passes P boxes left (judge-change P boxes x left e) passed
-
 -- ---- the excess, from the load
 
 module _ (P : Plan) (boxes : List ℕ) (i t : ℕ) where
@@ -65,10 +69,10 @@ module _ (P : Plan) (boxes : List ℕ) (i t : ℕ) where
   unfolding othersLoad load heightsWhere
   own-share l = where-split _ _ (taskCount P) i l
 
-  pub crowded-kept : (w : Window) → i < taskCount P → fitAt (P .shifts) boxes i ≡ Within w
-      → crowded w (heightOf P i) (load P boxes t) (P .capacity) t ≡ excess P boxes i t
-  unfolding crowded excess
-  crowded-kept w l e =
+  exceeds-excess : (w : Window) → i < taskCount P → fitAt (P .shifts) boxes i ≡ Within w
+      → exceeds w (heightOf P i) (load P boxes t) (P .capacity) t ≡ excess P boxes i t
+  unfolding exceeds excess
+  exceeds-excess w l e =
       ap (ltb (P .capacity))
       (if-all (λ (n : ℕ). n ≡ heightOf P i + othersLoad P boxes i t) (mustRun (Within w) t) (load P boxes t) (heightOf P i + load P boxes t)
       (λ q. omega (arith, own-share l, if-true (mustRun (fitAt (P .shifts) boxes i) t) (heightOf P i) 0 (rw e q)))
@@ -78,107 +82,224 @@ module _ (P : Plan) (boxes : List ℕ) (i t : ℕ) where
 
 module _ (boxes : List ℕ) (i : ℕ) where
   calendar-judged : (fit : Fit) (b : Bounds)
-      → judgementOf boxes i (calendarBy fit b)
+      → judgementOf boxes (calendarBy fit i b)
       ≡ onFit fit impossible (λ w. if sameBounds (w .bounds) b then notAdmitted else moved (withBounds boxes i (w .bounds)))
   unfolding calendarBy onFit judgementOf onJudged
   calendar-judged Never b = refl
-  calendar-judged (Within w) b = if-ap (judgementOf boxes i) _ _ _
+  calendar-judged (Within w) b = if-ap (judgementOf boxes) _ _ _
 
-  -- where f finds e of the window
-  module _ (b : Bounds) (t : ℕ) (f : Window → Bool) (e : Bool) where
-    lower-judged : (fit : Fit) → ((w : Window) → fit ≡ Within w → f w ≡ e)
-        → judgementOf boxes i (onFit fit NotAdmitted (λ w. lowerBy w b (f w) t))
-        ≡ onFit fit notAdmitted
-        (λ w. if ltb t (ect w) and leb (b .earliest .0) t and e
-        then (if leb (b .latest .0) t then impossible else moved (withBounds boxes i (withEarliest b (t + 1))))
-        else notAdmitted)
-    unfolding onFit lowerBy judgementOf onJudged
-    lower-judged Never h = refl
-    lower-judged (Within w) h =
-        rw (h w refl)
-        (if-ap (judgementOf boxes i) _ _ _ ∙ ap (λ (j : Judgement). if ltb t (ect w) and leb (b .earliest .0) t and e then j else notAdmitted) (if-ap (judgementOf boxes i) _ _ _))
+  -- L and U: tests that must hold, and then one that says impossible
+  test-judged : (p q : Bool) (b : Bounds)
+      → judgementOf boxes (if p then (if q then Impossible else Moved i b) else NotAdmitted)
+      ≡ (if p then (if q then impossible else moved (withBounds boxes i b)) else notAdmitted)
+  unfolding judgementOf onJudged if_then_else_
+  test-judged true true b = refl
+  test-judged true false b = refl
+  test-judged false q b = refl
 
-    upper-judged : (fit : Fit) → ((w : Window) → fit ≡ Within w → f w ≡ e)
-        → judgementOf boxes i (onFit fit NotAdmitted (λ w. upperBy w b (f w) t))
-        ≡ onFit fit notAdmitted
-        (λ w. if leb (lst w) t and ltb t (b .latest .0 + b .shortest .0) and e
-        then (if ltb t (b .earliest .0 + b .shortest .0)
-        then impossible
-        else moved (withBounds boxes i (withLatest b (t - b .shortest .0))))
-        else notAdmitted)
-    unfolding onFit upperBy judgementOf onJudged
-    upper-judged Never h = refl
-    upper-judged (Within w) h =
-        rw (h w refl)
-        (if-ap (judgementOf boxes i) _ _ _
-        ∙ ap (λ (j : Judgement). if leb (lst w) t and ltb t (b .latest .0 + b .shortest .0) and e then j else notAdmitted)
-        (if-ap (judgementOf boxes i) _ _ _))
+  lower-judged : (w : Window) (b : Bounds) (e : Bool) (t : ℕ)
+      → judgementOf boxes (moveBy true w i b e t)
+      ≡ (if ltb t (ect w) and leb (b .earliest .0) t and e
+      then (if leb (b .latest .0) t then impossible else moved (withBounds boxes i (withEarliest b (t + 1))))
+      else notAdmitted)
+  unfolding moveBy lowerBy
+  lower-judged w b e t = test-judged _ _ _
 
-module _ (P : Plan) (boxes : List ℕ) (fits : List Fit) (sized : length (P .heights) ≡ taskCount P) (kept : Kept P boxes fits) where
+  upper-judged : (w : Window) (b : Bounds) (e : Bool) (t : ℕ)
+      → judgementOf boxes (moveBy false w i b e t)
+      ≡ (if leb (lst w) t and ltb t (b .latest .0 + b .shortest .0) and e
+      then (if ltb t (b .earliest .0 + b .shortest .0) then impossible else moved (withBounds boxes i (withLatest b (t - b .shortest .0))))
+      else notAdmitted)
+  unfolding moveBy upperBy
+  upper-judged w b e t = test-judged _ _ _
+
+  -- of a task with a window, where f finds e of it
+  bound-judged : (by : Window → Bool → Judged) (says : Window → Judgement) (f : Window → Bool) (e : Bool)
+      → ((w : Window) → judgementOf boxes (by w e) ≡ says w) → (fit : Fit) → ((w : Window) → fit ≡ Within w → f w ≡ e)
+      → judgementOf boxes (onFit fit NotAdmitted (λ w. by w (f w))) ≡ onFit fit notAdmitted says
+  unfolding onFit judgementOf onJudged
+  bound-judged by says f e same Never h = refl
+  bound-judged by says f e same (Within w) h = rw (h w refl) (same w)
+
+module _ (P : Plan) (boxes : List ℕ) (fits : List Fit) (k : Keeping P boxes fits) where
+  abbrev By : Step → Judged
+  By = judgeBy (P .shifts .hours) (P .capacity) (P .heights) boxes fits
+
   pub load-kept : (t : ℕ) → loadOf fits (P .heights) t ≡ load P boxes t
   unfolding loadOf load heightsWhere heightOf
-  load-kept t = rw sized (where-eq _ _ _ (taskCount P) (λ j l. ap (λ (f : Fit). mustRun f t) (kept j l)))
+  load-kept t = rw (k .passed .heights) (where-eq _ _ _ (taskCount P) (λ j l. ap (λ (f : Fit). mustRun f t) (k .kept j l)))
 
   excess-kept : (i t : ℕ) → i < taskCount P → (w : Window) → fitAt (P .shifts) boxes i ≡ Within w
-      → crowded w (getD (P .heights) i 0) (loadOf fits (P .heights) t) (P .capacity) t ≡ excess P boxes i t
+      → exceeds w (getD (P .heights) i 0) (loadOf fits (P .heights) t) (P .capacity) t ≡ excess P boxes i t
   unfolding heightOf
-  excess-kept i t l w e = rw (load-kept t) (crowded-kept P boxes i t w l e)
+  excess-kept i t l w e = rw (load-kept t) (exceeds-excess P boxes i t w l e)
 
-  kind-kept : (k : Kind) (i t : ℕ) → isStep (taskCount P) (P .shifts .hours) k i t ≡ true
-      → judgementOf boxes i (judgeKindBy (P .shifts .hours) (P .capacity) (P .heights) boxes fits k i t) ≡ judgeKind P boxes k i t
-  unfolding judgeKindBy judgeKind judgeC judgeO judgeL judgeU isStep judgementOf onJudged
+  kind-kept : (kind : Kind) (i t : ℕ) → isStep (taskCount P) (P .shifts .hours) kind i t ≡ true
+      → judgementOf boxes (judgeKindBy (P .shifts .hours) (P .capacity) (P .heights) boxes fits kind i t) ≡ judgeKind P boxes kind i t
+  unfolding judgeKindBy judgeKind judgeC judgeO judgeL judgeU boundBy isStep judgementOf onJudged
   kind-kept kindC i t is =
-      rw (kept i (ltb-true _ _ (and-left _ _ is))) (calendar-judged boxes i (fitAt (P .shifts) boxes i) (boundsAt boxes i))
-  kind-kept kindO i t is = rw (load-kept t) (if-ap (judgementOf boxes i) _ _ _)
+      rw (k .kept i (ltb-true _ _ (and-left _ _ is))) (calendar-judged boxes i (fitAt (P .shifts) boxes i) (boundsAt boxes i))
+  kind-kept kindO i t is = rw (load-kept t) (if-ap (judgementOf boxes) _ _ _)
   kind-kept kindL i t is =
       let l : i < taskCount P = ltb-true _ _ (and-left _ _ is) in
-      rw (kept i l) (lower-judged boxes i (boundsAt boxes i) t _ (excess P boxes i t) (fitAt (P .shifts) boxes i) (excess-kept i t l))
+      rw (k .kept i l)
+      (bound-judged boxes i (λ w x. moveBy true w i (boundsAt boxes i) x t) _ _ (excess P boxes i t)
+      (λ w. lower-judged boxes i w (boundsAt boxes i) (excess P boxes i t) t)
+      (fitAt (P .shifts) boxes i)
+      (excess-kept i t l))
   kind-kept kindU i t is =
       let l : i < taskCount P = ltb-true _ _ (and-left _ _ is) in
-      rw (kept i l) (upper-judged boxes i (boundsAt boxes i) t _ (excess P boxes i t) (fitAt (P .shifts) boxes i) (excess-kept i t l))
+      rw (k .kept i l)
+      (bound-judged boxes i (λ w x. moveBy false w i (boundsAt boxes i) x t) _ _ (excess P boxes i t)
+      (λ w. upper-judged boxes i w (boundsAt boxes i) (excess P boxes i t) t)
+      (fitAt (P .shifts) boxes i)
+      (excess-kept i t l))
   kind-kept unknownKind i t is = refl
 
-  pub judge-kept : (x : Step) → judgementOf boxes (x .task) (judgeBy (P .shifts .hours) (P .capacity) (P .heights) boxes fits x) ≡ judge P boxes x
+  pub judge-kept : (x : Step) → judgementOf boxes (By x) ≡ judge P boxes x
   unfolding judge judgeBy judgementOf onJudged
   judge-kept x =
-      if-all (λ (j : Judgement). judgementOf boxes (x .task) (judgeBy (P .shifts .hours) (P .capacity) (P .heights) boxes fits x) ≡ j) _ _ _
-      (λ e. ap (judgementOf boxes (x .task)) (if-true _ _ _ (same ∙ e)) ∙ kind-kept (kindOf (x .kind)) (x .task) (x .hour) e)
-      (λ e. ap (judgementOf boxes (x .task)) (if-false _ _ _ (same ∙ e)))
+      if-all (λ (j : Judgement). judgementOf boxes (By x) ≡ j) _ _ _
+      (λ e. ap (judgementOf boxes) (if-true _ _ _ (same ∙ e)) ∙ kind-kept (kindOf (x .kind)) (x .task) (x .hour) e)
+      (λ e. ap (judgementOf boxes) (if-false _ _ _ (same ∙ e)))
     where
       same : isStep (length (P .heights)) (P .shifts .hours) (kindOf (x .kind)) (x .task) (x .hour)
           ≡ isStep (taskCount P) (P .shifts .hours) (kindOf (x .kind)) (x .task) (x .hour)
-      same = rw sized
+      same = rw (k .passed .heights)
 
-  -- ---- the first admitted step
+  -- ---- the first admitted step, in any order of kinds
 
   by-judged : (x : Step) (r : Judged)
-      → onJudged r none none (some x) (λ b. some x)
-      ≡ onOption (onJudgement (judgementOf boxes (x .task) r) none none (some (stops x)) (λ left. some (moves x left))) none (λ a. some (stepOf a))
+      → onJudged r none none (some x) (λ i b. some x)
+      ≡ onOption (onJudgement (judgementOf boxes r) none none (some (stops x)) (λ left. some (moves x left))) none (λ a. some (stepOf a))
   unfolding judgementOf onJudged onJudgement onOption
   by-judged x Unknown = refl
   by-judged x NotAdmitted = refl
   by-judged x Impossible = refl
-  by-judged x (Moved b) = refl
+  by-judged x (Moved i b) = refl
 
   admitted-kept : (x : Step)
       → admittedBy (P .shifts .hours) (P .capacity) (P .heights) boxes fits x ≡ onOption (ifAdmitted P boxes x) none (λ a. some (stepOf a))
   unfolding admittedBy ifAdmitted
   admitted-kept x = rw (← judge-kept x) (by-judged x _)
 
-  pub next-kept : nextBy (P .shifts .hours) (P .capacity) (P .heights) boxes fits ≡ onOption (next P boxes) none (λ a. some (stepOf a))
-  unfolding nextBy next firstByTask firstByHour firstByTaskHour
-  next-kept =
-      rw sized
-      (sym
-      (else-on stepOf _ _
-      ∙ ap₂ _orElse_ (sym (first-on stepOf _ _ (taskCount P) (λ i. admitted-kept (step letterC i 0))))
-      (else-on stepOf _ _
-      ∙ ap₂ _orElse_ (sym (first-on stepOf _ _ (P .shifts .hours) (λ t. admitted-kept (step letterO 0 t))))
-      (else-on stepOf _ _
-      ∙ ap₂ _orElse_ (sym (by-task-hour letterL)) (sym (by-task-hour letterU))))))
-    where
-      by-task-hour : (letter : ℕ)
-          → firstOf (λ i. firstOf (λ t. admittedBy (P .shifts .hours) (P .capacity) (P .heights) boxes fits (step letter i t)) (P .shifts .hours)) (taskCount P)
-          ≡ onOption (firstByTaskHour P boxes letter) none (λ a. some (stepOf a))
-      by-task-hour letter =
-          first-on stepOf _ _ (taskCount P) (λ i. first-on stepOf _ _ (P .shifts .hours) (λ t. admitted-kept (step letter i t)))
+  pub next-kept : (order : List Kind)
+      → firstBy (length (P .heights)) (P .shifts .hours) (admittedBy (P .shifts .hours) (P .capacity) (P .heights) boxes fits) order
+      ≡ onOption (nextBy order P boxes) none (λ a. some (stepOf a))
+  unfolding nextBy
+  next-kept order = rw (k .passed .heights) (first-maps (taskCount P) (P .shifts .hours) stepOf (ifAdmitted P boxes) _ admitted-kept order)
+
+  -- ---- what is known of a step that the code has judged
+
+  module _ (x : Step) (r : Judged) (is : r ≡ By x) where
+    pub judges : judgementOf boxes r ≡ judge P boxes x
+    judges = ap (judgementOf boxes) is ∙ judge-kept x
+
+    pub judges-unknown : r ≡ Unknown → judge P boxes x ≡ unknown
+    unfolding judgementOf onJudged
+    judges-unknown e = sym judges ∙ ap (judgementOf boxes) e
+
+    pub judges-not : r ≡ NotAdmitted → judge P boxes x ≡ notAdmitted
+    unfolding judgementOf onJudged
+    judges-not e = sym judges ∙ ap (judgementOf boxes) e
+
+    pub judges-impossible : r ≡ Impossible → judge P boxes x ≡ impossible
+    unfolding judgementOf onJudged
+    judges-impossible e = sym judges ∙ ap (judgementOf boxes) e
+
+    pub judges-moved : (i : ℕ) (b : Bounds) → r ≡ Moved i b → judge P boxes x ≡ moved (withBounds boxes i b)
+    unfolding judgementOf onJudged
+    judges-moved i b e = sym judges ∙ ap (judgementOf boxes) e
+
+  -- ---- a box is stored, and its task's answer worked out anew
+
+  fit-other : (i j : ℕ) (b : Bounds) → j ≢ i → fitAt (P .shifts) (withBounds boxes i b) j ≡ fitAt (P .shifts) boxes j
+  unfolding fitAt
+  fit-other i j b ne = rw (bounds-other boxes i j b ne)
+
+  module _ (x : Step) (i : ℕ) (b : Bounds) (moves-so : judge P boxes x ≡ moved (withBounds boxes i b)) (there : i < taskCount P) where
+    passes-moved : Passed P (withBounds boxes i b)
+    passes-moved = change-passes P boxes (withBounds boxes i b) (judge-change P boxes x (withBounds boxes i b) moves-so) (k .passed)
+
+    -- what `move_bounds` asks
+    pub may-move : (i < mostTasks) × Fitting (P .shifts) (withBounds boxes i b) i
+    may-move = (omega (arith, there, k .passed .tasks), fitting P _ passes-moved i there)
+
+    pub keeps-moved : {left : List ℕ} {fits′ : List Fit} → (left ≡ withBounds boxes i b) × (fits′ ≡ set fits i (fitAt (P .shifts) left i))
+        → Keeping P left fits′
+    keeps-moved {left} {fits′} (e, f) =
+        rw (f, e)
+        record {
+          passed = passes-moved;
+          kept = λ j l. go j l (ℕ-discrete j i);
+          full = length-set fits i _ ∙ k .full;
+        }
+      where
+        new : Fit
+        new = fitAt (P .shifts) (withBounds boxes i b) i
+
+        go : (j : ℕ) → j < taskCount P → Dec (j ≡ i) → getD (set fits i new) j Never ≡ fitAt (P .shifts) (withBounds boxes i b) j
+        go j l (yes q) = rw q (getD-set-same fits i new Never (omega (arith, there, k .full, k .passed .tasks)))
+        go j l (no q) = getD-set-other fits i j new Never q ∙ k .kept j l ∙ sym (fit-other i j b q)
+
+-- ---- a bound that the code moves is one of a task that exists
+
+module _ (i : ℕ) (b : Bounds) (n : ℕ) where
+  -- a step of task n, so judged, moves the bounds of task n
+  Names : Judged → Type 0
+  Names r = r ≡ Moved i b → i ≡ n
+
+  impossible-names : Names Impossible
+  unfolding Names
+  impossible-names e = absurd (let z : _≡_ {A = ℕ} 0 1 = cc in omega arith)
+
+  not-names : Names NotAdmitted
+  unfolding Names
+  not-names e = absurd (let z : _≡_ {A = ℕ} 0 1 = cc in omega arith)
+
+  moved-names : (c : Bounds) → Names (Moved n c)
+  unfolding Names
+  moved-names c e = cc
+
+  names-test : (p q : Bool) (c : Bounds) → Names (if p then (if q then Impossible else Moved n c) else NotAdmitted)
+  names-test p q c =
+      if-all Names p _ _ (λ e. if-all Names q _ _ (λ f. impossible-names) (λ f. moved-names c)) (λ e. not-names)
+
+  names-calendar : (fit : Fit) (c : Bounds) → Names (calendarBy fit n c)
+  unfolding calendarBy
+  names-calendar fit c =
+      fit-all Names fit _ _ (λ q. impossible-names) (λ w q. if-all Names _ _ _ (λ s. not-names) (λ d. moved-names (w .bounds)))
+
+  names-move : (lower : Bool) (w : Window) (c : Bounds) (excess : Bool) (t : ℕ) → Names (moveBy lower w n c excess t)
+  unfolding moveBy lowerBy upperBy
+  names-move true w c excess t = names-test _ _ _
+  names-move false w c excess t = names-test _ _ _
+
+  names-bound : (hours capacity : ℕ) (heights boxes : List ℕ) (fits : List Fit) (lower : Bool) (t : ℕ)
+      → Names (boundBy hours capacity heights boxes fits lower n t)
+  unfolding boundBy
+  names-bound hours capacity heights boxes fits lower t =
+      fit-all Names (getD fits n Never) _ _ (λ q. not-names)
+      (λ w q. names-move lower w (boundsAt boxes n) _ t)
+
+  names-kind : (hours capacity : ℕ) (heights boxes : List ℕ) (fits : List Fit) (kind : Kind) (t : ℕ)
+      → isStep (length heights) hours kind n t ≡ true → judgeKindBy hours capacity heights boxes fits kind n t ≡ Moved i b
+      → (i ≡ n) × (n < length heights)
+  unfolding judgeKindBy isStep Names
+  names-kind hours capacity heights boxes fits kindC t is e =
+      (names-calendar (getD fits n Never) (boundsAt boxes n) e, ltb-true _ _ (and-left _ _ is))
+  names-kind hours capacity heights boxes fits kindO t is e =
+      absurd (if-case _ _ _ _ e (λ p q. let z : _≡_ {A = ℕ} 0 1 = cc in omega arith) (λ p q. let z : _≡_ {A = ℕ} 0 1 = cc in omega arith))
+  names-kind hours capacity heights boxes fits kindL t is e =
+      (names-bound hours capacity heights boxes fits true t e, ltb-true _ _ (and-left _ _ is))
+  names-kind hours capacity heights boxes fits kindU t is e =
+      (names-bound hours capacity heights boxes fits false t e, ltb-true _ _ (and-left _ _ is))
+  names-kind hours capacity heights boxes fits unknownKind t is e = absurd (false≢true is)
+
+pub moved-there : (hours capacity : ℕ) (heights boxes : List ℕ) (fits : List Fit) (x : Step) (r : Judged) (i : ℕ) (b : Bounds)
+    → r ≡ judgeBy hours capacity heights boxes fits x → r ≡ Moved i b → i < length heights
+unfolding judgeBy
+moved-there hours capacity heights boxes fits x r i b is e =
+    if-case _ _ _ _ (sym is ∙ e)
+    (λ w q. let (same, l) = names-kind i b (x .task) hours capacity heights boxes fits (kindOf (x .kind)) (x .hour) w q in omega arith)
+    (λ w q. absurd (let z : _≡_ {A = ℕ} 0 1 = cc in omega arith))

@@ -1,8 +1,8 @@
 pub mod Fits
-pub mod Deciding
+pub mod Judging
 pub mod Keeping
-pub mod Findings
-pub mod Filling
-pub mod Turns
+pub mod Searching
+pub mod Loading
+pub mod Turning
 pub mod Replaying
 pub mod Filtering

@@ -1,98 +1,111 @@
--- Laws of the log checker's loop: what holds at each turn, and what each case of a step makes of it. Assumes nothing.
+-- Laws of the log checker's loop: the end of a log from a step on, what holds at each turn, and what each case of a step makes of it. Assumes
+-- nothing.
 use mathlib.Core.Path.{_≡_, refl, sym, ap, _∙_}
 use mathlib.Core.Bool.{Bool, true, false}
-use mathlib.Core.List.{List, []}
-use Prim.Native.Nat.{ℕ, _+_, _≤_, _<_}
+use mathlib.Core.Option.{none, some}
+use mathlib.Core.List.{List, [], _∷_}
+use Prim.Native.Nat.{ℕ, suc, _+_, _-_, _≤_, _<_}
+use native.Mathlib.Nat.{add-zero}
 use native.Mathlib.Omega.{arith}
-use lib.ListN.{length, set, length-set}
+use lib.ListN.{length, getD, set}
 use Rattle.units.specs.Limits.{mostTasks}
 use Rattle.units.specs.declared.Bounds.{Bounds}
-use Rattle.plan.specs.Plan.{Plan, plan, taskCount}
+use Rattle.plan.specs.Plan.{Plan, taskCount}
 use Rattle.plan.specs.Boxes.{withBounds}
-use Rattle.plan.specs.Refusals.{fault, Answer, refused, answered}
+use Rattle.plan.specs.Refusals.{Fault, fault, Answer, refused, answered, answerUnless}
 use Rattle.plan.proofs.Passed.{Passed}
 use Rattle.plan.proofs.Cells.{length-with}
 use Rattle.calendar.specs.declared.Fit.{Fit}
-use Rattle.steps.specs.declared.Step.{Step}
+use Rattle.calendar.specs.declared.Fit.the-variants.{Never}
 use Rattle.steps.specs.declared.Judged.{Judged}
 use Rattle.steps.specs.declared.Judged.the-variants.{Unknown, NotAdmitted, Impossible, Moved}
 use Rattle.steps.specs.Load.{fitAt}
-use Rattle.steps.specs.Steps.{Kind, judge, unknown, notAdmitted, moved}
+use Rattle.steps.specs.Steps.{judge, unknown, notAdmitted, moved, onJudgement}
 use Rattle.steps.specs.Steps as judged
-use Rattle.steps.specs.Log.{LogEnd, replayFrom}
-use Rattle.steps.specs.Entry.{stepAt, stepsIn, oneForEachStep, Accepted, checkAnswer}
+use Rattle.steps.specs.Log.{LogEnd, logEnd, replayBy, replayFrom}
+use Rattle.steps.specs.Entry.{stepAt, stepsFrom, stepsIn, oneForEachStep, Accepted, checkAnswer}
+use Rattle.steps.proofs.Entering.{one-each}
 use Rattle.propagation.specs.inner.Fitting.{Fitting}
-use Rattle.propagation.specs.inner.Kept.{Kept, onJudged, judgeBy, judgementOf}
-use Rattle.propagation.proofs.Fits.{fitting}
-use Rattle.propagation.proofs.Keeping.{judge-kept, moved-passes}
-use Rattle.steps.proofs.Judgements.{Moves, movesC, movesL, movesU, judged-moved}
-use Rattle.propagation.proofs.Turns.{one-each, kept-moved, endFrom, end-opens, end-done, end-13, end-11, end-12, end-stops, end-moves, answers-refused, answers-accepted}
+use Rattle.propagation.specs.inner.Kept.{Keeping, judgeBy}
+use Rattle.propagation.proofs.Keeping.{judges-unknown, judges-not, judges-impossible, judges-moved, moved-there, may-move, keeps-moved}
 
--- a step that moves a bound is of a task that exists
-of-task : (P : Plan) (boxes left : List ℕ) (i t : ℕ) (k : Kind) → Moves P boxes i t left k → i < taskCount P
-of-task P boxes left i t k (movesC w l q d e) = l
-of-task P boxes left i t k (movesL w c a b d e) = c .task
-of-task P boxes left i t k (movesU w c a b d e) = c .task
+-- ---- the end of a log from a step on
 
--- What the log checker and the filter keep at each turn: a plan that passes with the boxes as they are, and its tasks' answers.
-pub record Keeps (P : Plan) (opening boxes : List ℕ) (fits : List Fit) : Type 0 where
-  pub passed : Passed P boxes
-  pub kept : Kept P boxes fits
-  pub full : length fits ≡ mostTasks
-  pub same : length boxes ≡ length opening
+module _ (kinds tasks hours : List ℕ) (k : ℕ) where
+  steps-next : k < length kinds
+      → stepsFrom kinds tasks hours k (length kinds - k)
+      ≡ stepAt kinds tasks hours k ∷ stepsFrom kinds tasks hours (k + 1) (length kinds - (k + 1))
+  unfolding stepsFrom
+  steps-next l =
+      let e : length kinds - k ≡ suc (length kinds - (k + 1)) = omega arith in
+      rw e
 
-module _ (P : Plan) (opening boxes : List ℕ) (fits : List Fit) (k : Keeps P opening boxes fits) (x : Step) (r : Judged)
-    (is : r ≡ judgeBy (P .shifts .hours) (P .capacity) (P .heights) boxes fits x) where
-  -- what the code answers for a step is what the step comes to
-  judges : judgementOf boxes (x .task) r ≡ judge P boxes x
-  judges = ap (judgementOf boxes (x .task)) is ∙ judge-kept P boxes fits (k .passed .heights) (k .kept) x
+  steps-done : length kinds ≤ k → stepsFrom kinds tasks hours k (length kinds - k) ≡ []
+  unfolding stepsFrom
+  steps-done l =
+      let e : length kinds - k ≡ 0 = omega arith in
+      rw e
 
-  pub judges-unknown : r ≡ Unknown → judge P boxes x ≡ unknown
-  unfolding judgementOf onJudged
-  judges-unknown e = sym judges ∙ ap (judgementOf boxes (x .task)) e
+-- the end of a log whose first step has the number n, from its step k on
+unfoldable pub endFrom : Plan → ℕ → List ℕ → List ℕ → List ℕ → ℕ → Bool → List ℕ → LogEnd
+endFrom P n kinds tasks hours k said boxes = replayFrom P (n + k) said boxes (stepsFrom kinds tasks hours k (length kinds - k))
 
-  pub judges-not : r ≡ NotAdmitted → judge P boxes x ≡ notAdmitted
-  unfolding judgementOf onJudged
-  judges-not e = sym judges ∙ ap (judgementOf boxes (x .task)) e
+pub end-opens : (P : Plan) (n : ℕ) (kinds tasks hours : List ℕ) (said : Bool) (boxes : List ℕ)
+    → endFrom P n kinds tasks hours 0 said boxes ≡ replayFrom P n said boxes (stepsIn kinds tasks hours)
+unfolding endFrom stepsIn
+end-opens P n kinds tasks hours said boxes =
+    let e : length kinds - 0 ≡ length kinds = omega arith in
+    rw (add-zero n, e)
 
-  pub judges-impossible : r ≡ Impossible → judge P boxes x ≡ judged.impossible
-  unfolding judgementOf onJudged
-  judges-impossible e = sym judges ∙ ap (judgementOf boxes (x .task)) e
+module _ (P : Plan) (n : ℕ) (kinds tasks hours : List ℕ) (k : ℕ) (boxes : List ℕ) where
+  pub end-done : (said : Bool) → length kinds ≤ k → endFrom P n kinds tasks hours k said boxes ≡ logEnd (n + k) said boxes none
+  unfolding endFrom replayBy
+  end-done said l = rw (steps-done kinds tasks hours k l)
 
-  module _ (b : Bounds) (m : r ≡ Moved b) where
-    pub judges-moved : judge P boxes x ≡ moved (withBounds boxes (x .task) b)
-    unfolding judgementOf onJudged
-    judges-moved = sym judges ∙ ap (judgementOf boxes (x .task)) m
+  module _ (l : k < length kinds) where
+    next-number : n + k + 1 ≡ n + (k + 1)
+    next-number = omega arith
 
-    pub moves-task : x .task < taskCount P
-    moves-task = of-task P boxes _ _ _ _ (judged-moved P boxes x _ judges-moved)
+    pub end-13 : endFrom P n kinds tasks hours k true boxes ≡ logEnd (n + k) true boxes (some (fault 13 (n + k)))
+    unfolding endFrom replayBy
+    end-13 = rw (steps-next kinds tasks hours k l)
 
-    pub passes-moved : (left : List ℕ) → left ≡ withBounds boxes (x .task) b → Passed P left
-    passes-moved left e = moved-passes P boxes left x (k .passed) (judges-moved ∙ ap moved (sym e))
+    pub end-11 : judge P boxes (stepAt kinds tasks hours k) ≡ unknown
+        → endFrom P n kinds tasks hours k false boxes ≡ logEnd (n + k) false boxes (some (fault 11 (n + k)))
+    unfolding endFrom replayBy onJudgement
+    end-11 e = rw (steps-next kinds tasks hours k l, e)
 
-    -- after the box is stored, and its task's answer worked out anew
-    pub keeps-moved : (left : List ℕ) (fit : Fit) → left ≡ withBounds boxes (x .task) b
-        → fit ≡ fitAt (P .shifts) left (x .task)
-        → Keeps P opening left (set fits (x .task) fit)
-    keeps-moved left fit e f =
-        record {
-          passed = passes-moved left e;
-          kept = kept-moved P boxes left fits (x .task) b fit (k .kept) e f (omega (arith, moves-task, k .full, k .passed .tasks));
-          full = length-set fits (x .task) fit ∙ k .full;
-          same = ap length e ∙ length-with boxes (x .task) b ∙ k .same;
-        }
+    pub end-12 : judge P boxes (stepAt kinds tasks hours k) ≡ notAdmitted
+        → endFrom P n kinds tasks hours k false boxes ≡ logEnd (n + k) false boxes (some (fault 12 (n + k)))
+    unfolding endFrom replayBy onJudgement
+    end-12 e = rw (steps-next kinds tasks hours k l, e)
 
--- what `move_bounds` asks, at a turn whose step moves a bound
-pub may-move : {P : Plan} {opening boxes : List ℕ} {fits : List Fit} → Keeps P opening boxes fits → (x : Step) {r : Judged}
-    → r ≡ judgeBy (P .shifts .hours) (P .capacity) (P .heights) boxes fits x → {b : Bounds} → r ≡ Moved b
-    → (x .task < mostTasks) × Fitting (P .shifts) (withBounds boxes (x .task) b) (x .task)
-may-move {P} {opening} {boxes} {fits} k x {r} is {b} m =
-    let l = moves-task P opening boxes fits k x r is b m in
-    (omega (arith, l, k .passed .tasks), fitting P _ (passes-moved P opening boxes fits k x r is b m _ refl) (x .task) l)
+    pub end-stops : judge P boxes (stepAt kinds tasks hours k) ≡ judged.impossible
+        → endFrom P n kinds tasks hours k false boxes ≡ endFrom P n kinds tasks hours (k + 1) true boxes
+    unfolding endFrom replayBy onJudgement
+    end-stops e = rw (steps-next kinds tasks hours k l, e, next-number)
+
+    pub end-moves : (left : List ℕ) → judge P boxes (stepAt kinds tasks hours k) ≡ moved left
+        → endFrom P n kinds tasks hours k false boxes ≡ endFrom P n kinds tasks hours (k + 1) false left
+    unfolding endFrom replayBy onJudgement
+    end-moves left e = rw (steps-next kinds tasks hours k l, e, next-number)
+
+-- what an end answers
+pub answers-refused : (e : LogEnd) {k : ℕ} {said : Bool} {boxes : List ℕ} {f : Fault} → e ≡ logEnd k said boxes (some f) → refused f ≡ checkAnswer e
+unfolding checkAnswer answerUnless
+answers-refused e q = rw q
+
+pub answers-accepted : (e : LogEnd) {k : ℕ} {said : Bool} {boxes : List ℕ} → e ≡ logEnd k said boxes none
+    → answered (record { steps = k; impossible = said }) ≡ checkAnswer e
+unfolding checkAnswer answerUnless
+answers-accepted e q = rw q
+
+-- ---- each turn
 
 -- What holds at each turn of the log checker: the end from here is the log's end.
 pub record Replaying (P : Plan) (n : ℕ) (said₀ : Bool) (opening kinds tasks hours : List ℕ) (k : ℕ) (said : Bool) (boxes : List ℕ) (fits : List Fit) : Type 0 where
-  pub keeps : Keeps P opening boxes fits
+  pub keeps : Keeping P boxes fits
+  pub same : length boxes ≡ length opening
   pub ends : endFrom P n kinds tasks hours k said boxes ≡ replayFrom P n said₀ opening (stepsIn kinds tasks hours)
   pub each-task : length tasks ≡ length kinds
   pub each-hour : length hours ≡ length kinds
@@ -106,10 +119,12 @@ Replayed P n said₀ opening kinds tasks hours answer left =
     (answer ≡ checkAnswer (replayFrom P n said₀ opening (stepsIn kinds tasks hours))) × (left ≡ replayFrom P n said₀ opening (stepsIn kinds tasks hours) .boxes)
 
 pub replay-opens : {P : Plan} {n : ℕ} {said₀ : Bool} {opening kinds tasks hours : List ℕ} {fits : List Fit} → Passed P opening × (oneForEachStep kinds tasks hours ≡ true)
-    → Kept P opening fits → length fits ≡ mostTasks → Replaying P n said₀ opening kinds tasks hours 0 said₀ opening fits
+    → ((i : ℕ) → i < taskCount P → getD fits i Never ≡ fitAt (P .shifts) opening i) → length fits ≡ mostTasks
+    → Replaying P n said₀ opening kinds tasks hours 0 said₀ opening fits
 replay-opens {P} {n} {said₀} {opening} {kinds} {tasks} {hours} (p, e) q r =
     record {
-      keeps = record { passed = p; kept = q; full = r; same = refl };
+      keeps = record { passed = p; kept = q; full = r };
+      same = refl;
       ends = end-opens P n kinds tasks hours said₀ opening;
       each-task = one-each kinds tasks hours e .0;
       each-hour = one-each kinds tasks hours e .1;
@@ -134,36 +149,44 @@ module _ {P : Plan} {n : ℕ} {said₀ : Bool} {opening kinds tasks hours : List
 
     pub replay-11 : r ≡ Unknown → Replayed P n said₀ opening kinds tasks hours (refused (fault 11 (n + k))) boxes
     replay-11 m =
-        let e = sym going ∙ end-11 P n kinds tasks hours k boxes l (judges-unknown P opening boxes fits (at .keeps) _ r is m) in
+        let e = sym going ∙ end-11 P n kinds tasks hours k boxes l (judges-unknown P boxes fits (at .keeps) _ r is m) in
         (answers-refused _ e, sym (ap (λ (x : LogEnd). x .boxes) e))
 
     pub replay-12 : r ≡ NotAdmitted → Replayed P n said₀ opening kinds tasks hours (refused (fault 12 (n + k))) boxes
     replay-12 m =
-        let e = sym going ∙ end-12 P n kinds tasks hours k boxes l (judges-not P opening boxes fits (at .keeps) _ r is m) in
+        let e = sym going ∙ end-12 P n kinds tasks hours k boxes l (judges-not P boxes fits (at .keeps) _ r is m) in
         (answers-refused _ e, sym (ap (λ (x : LogEnd). x .boxes) e))
 
     pub replay-stops : r ≡ Impossible → Replaying P n said₀ opening kinds tasks hours (k + 1) true boxes fits
     replay-stops m =
         record {
           keeps = at .keeps;
-          ends = sym (end-stops P n kinds tasks hours k boxes l (judges-impossible P opening boxes fits (at .keeps) _ r is m)) ∙ going;
+          same = at .same;
+          ends = sym (end-stops P n kinds tasks hours k boxes l (judges-impossible P boxes fits (at .keeps) _ r is m)) ∙ going;
           each-task = at .each-task;
           each-hour = at .each-hour;
         }
 
-    pub replay-moves : {b : Bounds} → r ≡ Moved b → {boxes′ : List ℕ} {fits′ : List Fit}
-        → (boxes′ ≡ withBounds boxes (stepAt kinds tasks hours k .task) b)
-        × (fits′
-        ≡ set fits (stepAt kinds tasks hours k .task)
-        (fitAt (P .shifts) boxes′ (stepAt kinds tasks hours k .task)))
-        → Replaying P n said₀ opening kinds tasks hours (k + 1) said boxes′ fits′
-    replay-moves {b} m {boxes′} {fits′} (e, f) =
-        record {
-          keeps = rw f (keeps-moved P opening boxes fits (at .keeps) _ r is b m boxes′ _ e refl);
-          ends =
-              ap (λ (b : Bool). endFrom P n kinds tasks hours (k + 1) b boxes′) s
-              ∙ sym (end-moves P n kinds tasks hours k boxes l boxes′ (judges-moved P opening boxes fits (at .keeps) _ r is b m ∙ ap moved (sym e)))
-              ∙ going;
-          each-task = at .each-task;
-          each-hour = at .each-hour;
-        }
+    module _ {i : ℕ} {b : Bounds} (m : r ≡ Moved i b) where
+      moves-so : judge P boxes (stepAt kinds tasks hours k) ≡ moved (withBounds boxes i b)
+      moves-so = judges-moved P boxes fits (at .keeps) _ r is i b m
+
+      there : i < taskCount P
+      there = rw (← (at .keeps .passed .heights)) (moved-there _ _ _ _ _ _ r i b is m)
+
+      pub replay-may-move : (i < mostTasks) × Fitting (P .shifts) (withBounds boxes i b) i
+      replay-may-move = may-move P boxes fits (at .keeps) _ i b moves-so there
+
+      pub replay-moves : {boxes′ : List ℕ} {fits′ : List Fit} → (boxes′ ≡ withBounds boxes i b) × (fits′ ≡ set fits i (fitAt (P .shifts) boxes′ i))
+          → Replaying P n said₀ opening kinds tasks hours (k + 1) said boxes′ fits′
+      replay-moves {boxes′} {fits′} (e, f) =
+          record {
+            keeps = keeps-moved P boxes fits (at .keeps) _ i b moves-so there (e, f);
+            same = ap length e ∙ length-with boxes i b ∙ at .same;
+            ends =
+                ap (λ (b : Bool). endFrom P n kinds tasks hours (k + 1) b boxes′) s
+                ∙ sym (end-moves P n kinds tasks hours k boxes l boxes′ (moves-so ∙ ap moved (sym e)))
+                ∙ going;
+            each-task = at .each-task;
+            each-hour = at .each-hour;
+          }

@@ -1,4 +1,5 @@
 // What a step comes to at its turn, from the boxes and the answers of the calendar rule that are kept.
+use crate::load;
 use calendar::Fit;
 use calendar::Window;
 use plan;
@@ -10,32 +11,21 @@ use units::Hour;
 ghost use mathlib.Core.Path.{_≡_};
 ghost use Prim.Native.Nat.{ℕ, _+_, _≤_, _<_};
 ghost use lib.Dec.{ltb};
-ghost use lib.ListN.{length, getD};
+ghost use lib.ListN.{length};
 ghost use Rattle.units.specs.Choice.{_and_, if_then_else_};
-ghost use Rattle.units.specs.Limits.{mostHours, mostTasks, mostHeight, isHour};
+ghost use Rattle.units.specs.Limits.{mostHours, isHour};
 ghost use Rattle.plan.specs.Lent.{old};
-ghost use Rattle.steps.specs.Load.{mustRun};
-ghost use Rattle.steps.specs.Steps.{kindOf, isStep, onFit, sameBounds};
+ghost use Rattle.steps.specs.Steps.{kindOf, isStep, sameBounds};
 ghost use Rattle.propagation.specs.inner.Ready.{Ready};
-ghost use Rattle.propagation.specs.inner.Kept.{loadOf, crowded, calendarBy, lowerBy, upperBy, judgeBy};
-
-// Whether the compulsory part of a task with the window holds the hour.
-pub fn must_run(w: Window, t: u16) -> bool
-    ensures { λ r. ⌜ r ≡ mustRun (Fit.Within w) t ⌝ }
-{
-    if t < w.bounds.latest.0 {
-        return false;
-    }
-    t < w.ect.0
-}
+ghost use Rattle.propagation.specs.inner.Kept.{exceeds, calendarBy, lowerBy, upperBy, boundBy, judgeBy};
 
 // Whether a task of the height exceeds the capacity in the hour, with the other tasks' load. A task that must run in the hour is in its load
 // already.
-pub fn is_crowded(w: Window, height: u16, load: u16, capacity: u16, t: u16) -> bool
+pub fn exceeds(w: Window, height: u16, load: u16, capacity: u16, t: u16) -> bool
     requires { ⌜ height + load < 65536 ⌝ }
-    ensures { λ r. ⌜ r ≡ crowded w height load capacity t ⌝ }
+    ensures { λ r. ⌜ r ≡ exceeds w height load capacity t ⌝ }
 {
-    if must_run(w, t) {
+    if load::must_run(w, t) {
         return capacity < load;
     }
     capacity < height + load
@@ -63,36 +53,18 @@ pub fn same_bounds(a: Bounds, b: Bounds) -> bool
     a.most.0 == b.most.0
 }
 
-// The heights of the tasks whose compulsory part holds the hour, added. A task with no valid triple has none.
-pub fn load_at(fits: [Fit; Bounds::MOST], heights: &[u16], t: u16) -> u16
-    requires { ⌜ (length (now heights) ≤ mostTasks) × ((i : ℕ) → getD (now heights) i 0 ≤ mostHeight) ⌝ }
-    ensures { λ r. ⌜ r ≡ loadOf fits (old heights) t ⌝ }
-{
-    let mut sum = 0;
-    for i in 0..heights.len() {
-        let fit = fits[i];
-        let Fit::Within(w) = fit else {
-            continue;
-        };
-        if must_run(w, t) {
-            sum += heights[i];
-        }
-    }
-    sum
-}
-
 // C of a task with the bounds and the calendar rule's answer.
-fn judge_calendar(fit: Fit, b: Bounds) -> Judged
-    ensures { λ r. ⌜ r ≡ calendarBy fit b ⌝ }
+fn judge_calendar(fit: Fit, task: u16, b: Bounds) -> Judged
+    ensures { λ r. ⌜ r ≡ calendarBy fit task b ⌝ }
 {
     let Fit::Within(w) = fit else {
         return Judged::Impossible;
     };
-    let to = w.bounds;
-    if same_bounds(to, b) {
+    let bounds = w.bounds;
+    if same_bounds(bounds, b) {
         return Judged::NotAdmitted;
     }
-    Judged::Moved(to)
+    Judged::Moved { task, bounds }
 }
 
 // O of an hour with the load.
@@ -106,9 +78,9 @@ fn judge_load(capacity: u16, load: u16) -> Judged
 }
 
 // L of a task with the bounds and the window, in an hour with or without the excess.
-fn judge_lower(w: Window, b: Bounds, excess: bool, t: u16) -> Judged
+fn judge_lower(w: Window, task: u16, b: Bounds, excess: bool, t: u16) -> Judged
     requires { ⌜ t < mostHours ⌝ }
-    ensures { λ r. ⌜ r ≡ lowerBy w b excess t ⌝ }
+    ensures { λ r. ⌜ r ≡ lowerBy w task b excess t ⌝ }
 {
     if w.ect.0 <= t {
         return Judged::NotAdmitted;
@@ -123,16 +95,16 @@ fn judge_lower(w: Window, b: Bounds, excess: bool, t: u16) -> Judged
         return Judged::Impossible;
     }
     let earliest = Hour(t + 1);
-    let mut to = b;
-    to.earliest = earliest;
-    Judged::Moved(to)
+    let mut bounds = b;
+    bounds.earliest = earliest;
+    Judged::Moved { task, bounds }
 }
 
 // U of a task with the bounds and the window, in an hour with or without the excess. The tests add, so that the difference is taken only where
 // it is not negative.
-fn judge_upper(w: Window, b: Bounds, excess: bool, t: u16) -> Judged
+fn judge_upper(w: Window, task: u16, b: Bounds, excess: bool, t: u16) -> Judged
     requires { ⌜ (b .earliest .0 + b .shortest .0 < 65536) × (b .latest .0 + b .shortest .0 < 65536) ⌝ }
-    ensures { λ r. ⌜ r ≡ upperBy w b excess t ⌝ }
+    ensures { λ r. ⌜ r ≡ upperBy w task b excess t ⌝ }
 {
     if t < w.bounds.latest.0 {
         return Judged::NotAdmitted;
@@ -147,74 +119,36 @@ fn judge_upper(w: Window, b: Bounds, excess: bool, t: u16) -> Judged
         return Judged::Impossible;
     }
     let latest = Hour(t - b.shortest.0);
-    let mut to = b;
-    to.latest = latest;
-    Judged::Moved(to)
+    let mut bounds = b;
+    bounds.latest = latest;
+    Judged::Moved { task, bounds }
 }
 
-// Whether task i, with the window, exceeds the capacity in the hour.
-fn has_excess(
+// L of a task, or U: which of the two bounds of its start moves.
+fn judge_bound(
+    lower: bool,
     capacity: u16,
     heights: &[u16],
+    boxes: &[u16],
     fits: [Fit; Bounds::MOST],
-    w: Window,
-    i: usize,
-    t: u16,
-) -> bool
-    requires { ⌜ (i < length (now heights)) × (length (now heights) ≤ mostTasks) × ((j : ℕ) → getD (now heights) j 0 ≤ mostHeight) ⌝ }
-    ensures { λ r. ⌜ r ≡ crowded w (getD (old heights) i 0) (loadOf fits (old heights) t) capacity t ⌝ }
-{
-    let load = load_at(fits, heights, t);
-    is_crowded(w, heights[i], load, capacity, t)
-}
-
-// L of task i with the bounds.
-fn judge_start(
-    capacity: u16,
-    heights: &[u16],
-    fits: [Fit; Bounds::MOST],
-    b: Bounds,
-    i: usize,
+    task: u16,
     t: u16,
 ) -> Judged
-    requires { ⌜ (t < mostHours)
-        × (i < length (now heights))
-        × (length (now heights) ≤ mostTasks)
-        × ((j : ℕ) → getD (now heights) j 0 ≤ mostHeight) ⌝ }
-    ensures { λ r. ⌜ r ≡ onFit (getD fits i Fit.Never) Judged.NotAdmitted
-        (λ w. lowerBy w b (crowded w (getD (old heights) i 0) (loadOf fits (old heights) t) capacity t) t) ⌝ }
+    requires { ⌜ Ready (now heights) (now boxes) × (task < length (now heights)) × (t < mostHours) ⌝ }
+    ensures { λ r. ⌜ ((hours : ℕ) → r ≡ boundBy hours capacity (old heights) (old boxes) fits lower task t) ⌝ }
 {
+    let i = task as usize;
     let fit = fits[i];
     let Fit::Within(w) = fit else {
         return Judged::NotAdmitted;
     };
-    let excess = has_excess(capacity, heights, fits, w, i, t);
-    judge_lower(w, b, excess, t)
-}
-
-// U of task i with the bounds.
-fn judge_end(
-    capacity: u16,
-    heights: &[u16],
-    fits: [Fit; Bounds::MOST],
-    b: Bounds,
-    i: usize,
-    t: u16,
-) -> Judged
-    requires { ⌜ (b .earliest .0 + b .shortest .0 < 65536)
-        × (b .latest .0 + b .shortest .0 < 65536)
-        × (i < length (now heights))
-        × (length (now heights) ≤ mostTasks)
-        × ((j : ℕ) → getD (now heights) j 0 ≤ mostHeight) ⌝ }
-    ensures { λ r. ⌜ r ≡ onFit (getD fits i Fit.Never) Judged.NotAdmitted
-        (λ w. upperBy w b (crowded w (getD (old heights) i 0) (loadOf fits (old heights) t) capacity t) t) ⌝ }
-{
-    let fit = fits[i];
-    let Fit::Within(w) = fit else {
-        return Judged::NotAdmitted;
-    };
-    let excess = has_excess(capacity, heights, fits, w, i, t);
-    judge_upper(w, b, excess, t)
+    let load = load::load_at(fits, heights, t);
+    let excess = exceeds(w, heights[i], load, capacity, t);
+    let b = plan::bounds_at(boxes, i);
+    if lower {
+        return judge_lower(w, task, b, excess, t);
+    }
+    judge_upper(w, task, b, excess, t)
 }
 
 // Whether the task and the hour exist.
@@ -262,20 +196,21 @@ pub fn judge_step(
     fits: [Fit; Bounds::MOST],
     x: Step,
 ) -> Judged
-    requires { ⌜ Ready (hours .0) (now heights) (now boxes) ⌝ }
+    requires { ⌜ Ready (now heights) (now boxes) × (hours .0 ≤ mostHours) ⌝ }
     ensures { λ r. ⌜ r ≡ judgeBy (hours .0) capacity (old heights) (old boxes) fits x ⌝ }
 {
     if !is_step(heights.len(), hours, x) {
         return Judged::Unknown;
     }
     let kind = x.kind;
-    let i = x.task as usize;
+    let task = x.task;
+    let i = task as usize;
     let t = x.hour;
     match kind {
-        b'C' => judge_calendar(fits[i], plan::bounds_at(boxes, i)),
-        b'O' => judge_load(capacity, load_at(fits, heights, t)),
-        b'L' => judge_start(capacity, heights, fits, plan::bounds_at(boxes, i), i, t),
-        b'U' => judge_end(capacity, heights, fits, plan::bounds_at(boxes, i), i, t),
+        b'C' => judge_calendar(fits[i], task, plan::bounds_at(boxes, i)),
+        b'O' => judge_load(capacity, load::load_at(fits, heights, t)),
+        b'L' => judge_bound(true, capacity, heights, boxes, fits, task, t),
+        b'U' => judge_bound(false, capacity, heights, boxes, fits, task, t),
         _ => Judged::Unknown,
     }
 }

@@ -1,8 +1,9 @@
-// Steps, the log checker and the filter.
+// The log checker and the filter, over the definitions of `steps`.
 mod entry;
 pub mod filter;
-mod first;
 mod judge;
 mod kept;
 mod load;
 pub mod replay;
+mod search;
+mod turn;

@@ -17,7 +17,8 @@ ghost use lib.ListN.{length};
 ghost use Rattle.plan.specs.Lent.{old, left, planOf, oldPlan};
 ghost use Rattle.plan.proofs.Passed.{Passed};
 ghost use Rattle.steps.specs.Log.{replayFrom};
-ghost use Rattle.steps.specs.Entry.{stepsIn, oneForEachStep, entryFault, checkLog, checkFrom, checkAnswer, logAnswer};
+ghost use Rattle.steps.specs.Entry.{stepsIn, oneForEachStep, entryFault, checkLog, checkAnswer, logAnswer};
+ghost use Rattle.steps.specs.inner.From.{checkFrom};
 ghost use Rattle.steps.specs.Claim.{CheckedHolds};
 
 // The replay of a log on a plan that passed its tests, from the boxes that the step before its first left, and whether that one said impossible;
@@ -50,10 +51,9 @@ fn replay_log(
         if impossible {
             return LogChecked::Refused(Refusal::AfterImpossible(from + k));
         }
-        let task = log_tasks[k];
         let x = Step {
             kind: log_kinds[k],
-            task,
+            task: log_tasks[k],
             hour: log_hours[k],
         };
         let judged = judge::judge_step(hours, capacity, heights, boxes, fits, x);
@@ -68,7 +68,7 @@ fn replay_log(
                 impossible = true;
                 continue;
             }
-            Judged::Moved(b) => {
+            Judged::Moved { task, bounds } => {
                 let next = kept::move_bounds(
                     hours,
                     calendars,
@@ -77,7 +77,7 @@ fn replay_log(
                     boxes,
                     fits,
                     task,
-                    b,
+                    bounds,
                 );
                 fits = next;
             }
@@ -87,58 +87,6 @@ fn replay_log(
         steps: from + log_kinds.len(),
         impossible,
     }
-}
-
-// The log checker. Accepted or refused by 11, 12 or 13, the boxes become those at the log's end; any other refusal changes nothing.
-pub fn check_log(
-    hours: u16,
-    capacity: u16,
-    calendars: &[u8],
-    task_calendars: &[u16],
-    work_times: &[u16],
-    heights: &[u16],
-    boxes: &mut [u16],
-    log_kinds: &[u8],
-    log_tasks: &[u16],
-    log_hours: &[u16],
-) -> LogChecked
-    ensures { λ r.
-        let P = oldPlan hours capacity calendars «task_calendars» «work_times» heights in
-        let e = checkLog P (old boxes) (old «log_kinds») (old «log_tasks») (old «log_hours») in
-        let refusal = entryFault P (old boxes) (old «log_kinds») (old «log_tasks») (old «log_hours») in
-        let steps = stepsIn (old «log_kinds») (old «log_tasks») (old «log_hours») in
-        ⌜ (logAnswer r ≡ checkAnswer e) × (left boxes ≡ e .boxes) ⌝
-        ∗ ⌜ CheckedHolds P (old boxes) refusal steps (logAnswer r) (left boxes) ⌝ }
-{
-    let tested = entry::test_entry(
-        hours,
-        capacity,
-        calendars,
-        task_calendars,
-        work_times,
-        heights,
-        boxes,
-        log_kinds,
-        log_tasks,
-        log_hours,
-    );
-    if let Tested::Refused(refusal) = tested {
-        return LogChecked::Refused(refusal);
-    }
-    replay_log(
-        Duration(hours),
-        capacity,
-        calendars,
-        task_calendars,
-        work_times,
-        heights,
-        boxes,
-        log_kinds,
-        log_tasks,
-        log_hours,
-        0,
-        false,
-    )
 }
 
 // The log checker from a step on: over the log's steps from number `from`, on the boxes that the step before it left, and whether that one said
@@ -191,5 +139,42 @@ pub fn check_from(
         log_hours,
         from,
         said,
+    )
+}
+
+// The log checker. Accepted or refused by 11, 12 or 13, the boxes become those at the log's end; any other refusal changes nothing.
+pub fn check_log(
+    hours: u16,
+    capacity: u16,
+    calendars: &[u8],
+    task_calendars: &[u16],
+    work_times: &[u16],
+    heights: &[u16],
+    boxes: &mut [u16],
+    log_kinds: &[u8],
+    log_tasks: &[u16],
+    log_hours: &[u16],
+) -> LogChecked
+    ensures { λ r.
+        let P = oldPlan hours capacity calendars «task_calendars» «work_times» heights in
+        let e = checkLog P (old boxes) (old «log_kinds») (old «log_tasks») (old «log_hours») in
+        let refusal = entryFault P (old boxes) (old «log_kinds») (old «log_tasks») (old «log_hours») in
+        let steps = stepsIn (old «log_kinds») (old «log_tasks») (old «log_hours») in
+        ⌜ (logAnswer r ≡ checkAnswer e) × (left boxes ≡ e .boxes) ⌝
+        ∗ ⌜ CheckedHolds P (old boxes) refusal steps (logAnswer r) (left boxes) ⌝ }
+{
+    check_from(
+        hours,
+        capacity,
+        calendars,
+        task_calendars,
+        work_times,
+        heights,
+        boxes,
+        log_kinds,
+        log_tasks,
+        log_hours,
+        0,
+        false,
     )
 }

@@ -1,10 +1,12 @@
 -- Laws of the entry points' own tests: what each outcome makes of the log checker's contract and of the filter's. Assumes nothing.
-use mathlib.Core.Path.{_≡_, refl}
+use mathlib.Core.Path.{_≡_, _∙_}
 use mathlib.Core.Bool.{Bool, true, false}
 use mathlib.Core.Option.{none, some}
 use mathlib.Core.List.{List}
 use Prim.Native.Nat.{ℕ}
+use native.Mathlib.Nat.{zero-add}
 use lib.ListN.{length}
+use borrow.Author.Tests.{eqb-true}
 use Rattle.units.specs.Choice.{onOption}
 use Rattle.units.proofs.Choices.{and-both, and-left, and-right, not-left, not-right, neither}
 use Rattle.plan.specs.Plan.{Plan}
@@ -13,10 +15,15 @@ use Rattle.plan.specs.Faults.{oneForEachTask, planFault}
 use Rattle.plan.proofs.Refusing.{unless-none, go-on, refuse}
 use Rattle.plan.proofs.Passed.{Passed, passed}
 use Rattle.steps.specs.Log.{replayFrom, replay}
-use Rattle.steps.specs.Filter.{run}
-use Rattle.steps.specs.Entry.{stepsFrom, stepsIn, oneForEachStep, entryFault, Accepted, checkLog, checkFrom, checkAnswer, FilterAnswer, refusedBy, Leaves, logged, filterPlan}
+use Rattle.steps.specs.Filter.{count, run}
+use Rattle.steps.specs.Entry.{stepsFrom, stepsIn, oneForEachStep, entryFault, Accepted, checkLog, checkAnswer, refusedBy, FilterEnd, filterEnd, logged, filterPlan}
+use Rattle.steps.specs.inner.From.{checkFrom, loggedFrom, filterFrom}
 use Rattle.steps.specs.Claim.{CheckedHolds, FilterHolds}
 use Rattle.steps.proofs.Contracts.{check-holds, filter-holds}
+
+pub one-each : (kinds tasks hours : List ℕ) → oneForEachStep kinds tasks hours ≡ true → (length tasks ≡ length kinds) × (length hours ≡ length kinds)
+unfolding oneForEachStep
+one-each kinds tasks hours e = (eqb-true _ _ (and-left _ _ e), eqb-true _ _ (and-right _ _ e))
 
 module _ (P : Plan) (boxes kinds tasks hours : List ℕ) where
   abbrev Tasks : Bool
@@ -45,27 +52,7 @@ module _ (P : Plan) (boxes kinds tasks hours : List ℕ) where
       let sizes = unless-none _ 31 0 (faults .0) in
       (passed P boxes (and-left _ _ sizes) (faults .1), and-right _ _ sizes)
 
-  -- the log checker's contract
-  abbrev pub Checks : Answer Accepted → List ℕ → Type 0
-  Checks answer left =
-      ((answer ≡ checkAnswer (checkLog P boxes kinds tasks hours)) × (left ≡ checkLog P boxes kinds tasks hours .boxes))
-      × CheckedHolds P boxes (entryFault P boxes kinds tasks hours) (stepsIn kinds tasks hours) answer left
-
-  checks : (answer : Answer Accepted) (left : List ℕ) → answer ≡ checkAnswer (checkLog P boxes kinds tasks hours)
-      → left ≡ checkLog P boxes kinds tasks hours .boxes → Checks answer left
-  checks answer left a l = ((a, l), rw (a, l) (check-holds P boxes kinds tasks hours))
-
-  pub check-refuses : (f : Fault) → entryFault P boxes kinds tasks hours ≡ some f → Checks (refused f) boxes
-  unfolding checkLog checkAnswer answerUnless onOption
-  check-refuses f e = checks (refused f) boxes (rw e) (rw e)
-
-  pub check-replays : entryFault P boxes kinds tasks hours ≡ none → (answer : Answer Accepted) (left : List ℕ)
-      → answer ≡ checkAnswer (replayFrom P 0 false boxes (stepsIn kinds tasks hours))
-      → left ≡ replayFrom P 0 false boxes (stepsIn kinds tasks hours) .boxes → Checks answer left
-  unfolding checkLog replay onOption
-  check-replays e answer left a l = checks answer left (rw e a) (rw e l)
-
-  -- the log checker from a step on
+  -- the log checker from a step on, and what its answer is once its own tests are through
   abbrev pub ChecksFrom : ℕ → Bool → Answer Accepted → List ℕ → Type 0
   ChecksFrom k said answer left =
       (answer ≡ checkAnswer (checkFrom P boxes kinds tasks hours k said)) × (left ≡ checkFrom P boxes kinds tasks hours k said .boxes)
@@ -81,23 +68,33 @@ module _ (P : Plan) (boxes kinds tasks hours : List ℕ) where
   unfolding checkFrom onOption
   from-replays k said e answer left (a, l) = (rw e a, rw e l)
 
-  -- the filter's contract
-  abbrev pub Filters : FilterAnswer → List ℕ → List ℕ → List ℕ → List ℕ → Type 0
-  Filters answer left ks ts hs =
-      Leaves (filterPlan P boxes kinds tasks hours) answer left ks ts hs × FilterHolds P boxes (length kinds) answer left (stepsFrom ks ts hs 0)
+  -- the log checker's contract: from the log's first step
+  pub check-holds-of : (answer : Answer Accepted) (left : List ℕ) → ChecksFrom 0 false answer left
+      → ((answer ≡ checkAnswer (checkLog P boxes kinds tasks hours)) × (left ≡ checkLog P boxes kinds tasks hours .boxes))
+      × CheckedHolds P boxes (entryFault P boxes kinds tasks hours) (stepsIn kinds tasks hours) answer left
+  unfolding checkFrom checkLog replay
+  check-holds-of answer left (a, l) = ((a, l), rw (a, l) (unfold checkLog replay in (check-holds P boxes kinds tasks hours)))
 
-  filters : (answer : FilterAnswer) (left ks ts hs : List ℕ) → Leaves (filterPlan P boxes kinds tasks hours) answer left ks ts hs
-      → Filters answer left ks ts hs
-  filters answer left ks ts hs l =
-      (l, rw (l .answers, l .leaves-boxes, l .leaves-kinds, l .leaves-tasks, l .leaves-hours) (filter-holds P boxes kinds tasks hours))
+  -- the filter from a count on
+  abbrev pub FiltersFrom : ℕ → FilterEnd → Type 0
+  FiltersFrom taken e = e ≡ filterFrom P boxes kinds tasks hours taken
 
-  pub filter-refuses : (f : Fault) → entryFault P boxes kinds tasks hours ≡ some f → Filters (refusedBy f) boxes kinds tasks hours
-  unfolding filterPlan onOption
-  filter-refuses f e =
-      filters (refusedBy f) boxes kinds tasks hours
-      (rw e record { answers = refl; leaves-boxes = refl; leaves-kinds = refl; leaves-tasks = refl; leaves-hours = refl })
+  pub filter-refuses : (taken : ℕ) (f : Fault) → entryFault P boxes kinds tasks hours ≡ some f
+      → FiltersFrom taken (filterEnd (refusedBy f) boxes kinds tasks hours)
+  unfolding filterFrom onOption
+  filter-refuses taken f e = rw e
 
-  pub filter-runs : entryFault P boxes kinds tasks hours ≡ none → (answer : FilterAnswer) (left ks ts hs : List ℕ)
-      → Leaves (logged (run P boxes (length kinds)) kinds tasks hours) answer left ks ts hs → Filters answer left ks ts hs
-  unfolding filterPlan onOption
-  filter-runs e answer left ks ts hs l = filters answer left ks ts hs (rw e l)
+  pub filter-runs : (taken : ℕ) → entryFault P boxes kinds tasks hours ≡ none → (end : FilterEnd)
+      → end ≡ loggedFrom taken (run P boxes (length kinds)) kinds tasks hours → FiltersFrom taken end
+  unfolding filterFrom onOption
+  filter-runs taken e end l = rw e l
+
+  -- the filter's contract: after no step
+  from-none : filterFrom P boxes kinds tasks hours 0 ≡ filterPlan P boxes kinds tasks hours
+  unfolding filterFrom filterPlan loggedFrom logged
+  from-none = rw (zero-add (count (run P boxes (length kinds))))
+
+  pub filter-holds-of : (end : FilterEnd) → FiltersFrom 0 end
+      → (end ≡ filterPlan P boxes kinds tasks hours)
+      × FilterHolds P boxes (length kinds) (end .answer) (end .boxes) (stepsFrom (end .kinds) (end .tasks) (end .hours) 0)
+  filter-holds-of end e = let is = e ∙ from-none in (is, rw is (filter-holds P boxes kinds tasks hours))

@@ -1,14 +1,15 @@
 -- Laws of the search for the first admitted step (Filter: firstOfKind, firstBy, nextBy), in any order of kinds: what it finds is admitted, and where
 -- it finds none in an order that has every kind, no step at all is. Assumes nothing.
-use mathlib.Core.Path.{_≡_, refl, _∙_, subst}
+use mathlib.Core.Path.{_≡_, refl, sym, ap₂, _∙_, subst}
 use mathlib.Core.Bool.{Bool, true, false, false≢true}
 use mathlib.Core.Option.{Option, none, some}
 use mathlib.Core.List.{List, [], _∷_}
 use Prim.Native.Nat.{ℕ}
 use lib.Dec.{eqb}
 use borrow.Author.Tests.{eqb-true, ltb-true}
+use Rattle.units.specs.Choice.{onOption, _orElse_}
 use Rattle.units.specs.Limits.{isHour}
-use Rattle.units.proofs.Choices.{and-left, and-right, if-false, if-all, none≢some, else-case, neither, first-at, first-none}
+use Rattle.units.proofs.Choices.{and-left, and-right, if-false, if-all, none≢some, else-case, neither, first-at, first-none, else-on, first-on}
 use Rattle.plan.specs.Plan.{Plan, taskCount}
 use Rattle.steps.specs.declared.Step.{Step}
 use Rattle.steps.specs.Steps.{step, letterC, letterO, letterL, letterU, Kind, kindC, kindO, kindL, kindU, unknownKind, kindOf, isStep, impossible, moved, onJudgement, judge}
@@ -37,6 +38,22 @@ module _ {A : Type 0} (tasks hours : ℕ) (f : Step → Option A) where
   unfolding firstBy
   first-found [] a e = none≢some e
   first-found (k ∷ ks) a e = else-case _ _ _ e (λ q r. first-found ks a r) (λ b q r. kind-found k a (q ∙ r))
+
+-- where each test finds what the other makes of its finding, so do the searches
+module _ {A B : Type 0} (tasks hours : ℕ) (φ : A → B) (g : Step → Option A) (h : Step → Option B)
+    (maps : (x : Step) → h x ≡ onOption (g x) none (λ a. some (φ a))) where
+  kind-maps : (k : Kind) → firstOfKind tasks hours h k ≡ onOption (firstOfKind tasks hours g k) none (λ a. some (φ a))
+  unfolding firstOfKind
+  kind-maps kindC = first-on φ _ _ tasks (λ i. maps (step letterC i 0))
+  kind-maps kindO = first-on φ _ _ hours (λ t. maps (step letterO 0 t))
+  kind-maps kindL = first-on φ _ _ tasks (λ i. first-on φ _ _ hours (λ t. maps (step letterL i t)))
+  kind-maps kindU = first-on φ _ _ tasks (λ i. first-on φ _ _ hours (λ t. maps (step letterU i t)))
+  kind-maps unknownKind = unfold onOption in refl
+
+  pub first-maps : (order : List Kind) → firstBy tasks hours h order ≡ onOption (firstBy tasks hours g order) none (λ a. some (φ a))
+  unfolding firstBy
+  first-maps [] = unfold onOption in refl
+  first-maps (k ∷ ks) = ap₂ _orElse_ (kind-maps k) (first-maps ks) ∙ sym (else-on φ _ _)
 
 -- ---- orders that have every kind
 

@@ -1,7 +1,6 @@
 -- The log checker and the filter as entry points: what each answers and leaves in lent memory (01, "Steps", and the order of refusals).
 use mathlib.Core.Bool.{Bool, false}
 use mathlib.Core.Option.{Option, some}
-use mathlib.Core.Path.{_≡_}
 use mathlib.Core.List.{List, [], _∷_, map}
 use Prim.Native.Nat.{ℕ, zero, suc, _+_}
 use lib.Dec.{eqb}
@@ -17,7 +16,7 @@ use Rattle.steps.specs.declared.LogChecked.the-variants as checked
 use Rattle.steps.specs.declared.Filtered.{Filtered}
 use Rattle.steps.specs.declared.Filtered.the-variants as filtered
 use Rattle.steps.specs.Steps.{step}
-use Rattle.steps.specs.Log.{LogEnd, logEnd, replayFrom, replay}
+use Rattle.steps.specs.Log.{LogEnd, logEnd, replay}
 use Rattle.steps.specs.Filter.{Ending, settled, impossible, noRoom, Run, count, run}
 
 -- the log in lent memory: the kinds, the tasks and the hours of its steps, each in a slice of its own
@@ -46,11 +45,6 @@ entryFault P boxes kinds tasks hours =
 unfoldable pub checkLog : Plan → List ℕ → List ℕ → List ℕ → List ℕ → LogEnd
 checkLog P boxes kinds tasks hours =
     onOption (entryFault P boxes kinds tasks hours) (replay P boxes (stepsIn kinds tasks hours)) (λ f. logEnd 0 false boxes (some f))
-
--- from a step of the log on, with the number of the first step lent, and whether the one before it said impossible
-unfoldable pub checkFrom : Plan → List ℕ → List ℕ → List ℕ → List ℕ → ℕ → Bool → LogEnd
-checkFrom P boxes kinds tasks hours k said =
-    onOption (entryFault P boxes kinds tasks hours) (replayFrom P k said boxes (stepsIn kinds tasks hours)) (λ f. logEnd 0 false boxes (some f))
 
 -- accepting, it answers the number of steps and whether the last said impossible
 pub record Accepted : Type 0 where
@@ -84,30 +78,22 @@ pub record FilterEnd : Type 0 where
   pub tasks : List ℕ
   pub hours : List ℕ
 
--- an answer and the contents of the memory lent are those of an end, number for number
-pub record Leaves (e : FilterEnd) (answer : FilterAnswer) (boxes kinds tasks hours : List ℕ) : Type 0 where
-  pub answers : answer ≡ e .answer
-  pub leaves-boxes : boxes ≡ e .boxes
-  pub leaves-kinds : kinds ≡ e .kinds
-  pub leaves-tasks : tasks ≡ e .tasks
-  pub leaves-hours : hours ≡ e .hours
+abbrev pub filterEnd : FilterAnswer → List ℕ → List ℕ → List ℕ → List ℕ → FilterEnd
+filterEnd answer boxes kinds tasks hours = record { answer = answer; boxes = boxes; kinds = kinds; tasks = tasks; hours = hours }
 
 unfoldable pub logged : Run → List ℕ → List ℕ → List ℕ → FilterEnd
 logged r kinds tasks hours =
-    record {
-      answer = endingAnswer (r .ending) (count r);
-      boxes = r .boxes;
-      kinds = written (map (λ x. x .kind) (r .log)) kinds;
-      tasks = written (map (λ x. x .task) (r .log)) tasks;
-      hours = written (map (λ x. x .hour) (r .log)) hours;
-    }
+    filterEnd (endingAnswer (r .ending) (count r)) (r .boxes)
+    (written (map (λ x. x .kind) (r .log)) kinds)
+    (written (map (λ x. x .task) (r .log)) tasks)
+    (written (map (λ x. x .hour) (r .log)) hours)
 
 -- The filter, with the log lent as its room: the run, or a refusal that changes nothing.
 unfoldable pub filterPlan : Plan → List ℕ → List ℕ → List ℕ → List ℕ → FilterEnd
 filterPlan P boxes kinds tasks hours =
     onOption (entryFault P boxes kinds tasks hours)
     (logged (run P boxes (length kinds)) kinds tasks hours)
-    (λ f. record { answer = refusedBy f; boxes = boxes; kinds = kinds; tasks = tasks; hours = hours })
+    (λ f. filterEnd (refusedBy f) boxes kinds tasks hours)
 
 -- the number and the values of each case of the filter's answer
 abbrev pub filterAnswer : Filtered → FilterAnswer

@@ -6,3 +6,4 @@ pub mod Widths
 pub mod Entry
 pub mod Claim
 pub mod Weeks
+pub mod inner

@@ -10,12 +10,12 @@ pub struct Step {
     pub hour: u16,
 }
 
-// What a step comes to at its turn; where it moves a bound, the bounds that its task has then.
+// What a step comes to at its turn; where it moves a bound, the task whose bound it moves, and the bounds that the task has then.
 pub enum Judged {
     NotAdmitted,
     Unknown,
     Impossible,
-    Moved(Bounds),
+    Moved { task: u16, bounds: Bounds },
 }
 
 // The first admitted step, if there is one.

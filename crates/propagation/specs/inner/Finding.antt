@@ -4,21 +4,24 @@ use mathlib.Core.Option.{Option}
 use mathlib.Core.Path.{_≡_}
 use mathlib.Core.List.{List}
 use Prim.Native.Nat.{ℕ, _+_, _<_}
+use lib.Dec.{ltb}
 use lib.ListN.{length, getD}
-use Rattle.units.specs.Choice.{if_then_else_, firstOf}
+use Rattle.units.specs.Choice.{if_then_else_, someIf, firstOf}
 use Rattle.units.specs.declared.Bounds.{Bounds}
+use Rattle.plan.specs.Boxes.{boundsAt}
 use Rattle.calendar.specs.declared.Window.{Window}
 use Rattle.calendar.specs.declared.Fit.{Fit}
+use Rattle.calendar.specs.declared.Fit.the-variants.{Never}
 use Rattle.calendar.specs.Rule.{lst, ect}
 use Rattle.steps.specs.declared.Step.{Step}
 use Rattle.steps.specs.declared.Judged.{Judged}
 use Rattle.steps.specs.Load.{mustRun}
 use Rattle.steps.specs.Steps.{step, letterC, letterO, letterL, letterU}
-use Rattle.propagation.specs.inner.Kept.{loadOf, onJudged, admittedBy}
+use Rattle.propagation.specs.inner.Kept.{loadOf, onJudged, calendarBy, admittedBy}
 
 -- a step so judged is admitted
 unfoldable pub admits : Judged → Bool
-admits j = onJudged j false false true (λ b. true)
+admits j = onJudged j false false true (λ i b. true)
 
 -- L moves the lower S, U the upper
 unfoldable pub letterOf : Bool → ℕ
@@ -39,13 +42,14 @@ partAt fit height t = if mustRun fit t then height else 0
 abbrev pub Loaded : List ℕ → List Fit → List ℕ → Type 0
 Loaded loads fits heights = (t : ℕ) → t < length loads → getD loads t 0 ≡ loadOf fits heights t
 
--- the first admitted step of a kind, from H, the capacity, the heights, the boxes and the answers kept
-module _ (hours capacity : ℕ) (heights boxes : List ℕ) (fits : List Fit) where
-  unfoldable pub firstCalendar : Option Step
-  firstCalendar = firstOf (λ i. admittedBy hours capacity heights boxes fits (step letterC i 0)) (length heights)
+-- the first C; the first O, from the loads; the first L or U
+unfoldable pub firstCalendar : List ℕ → List Fit → ℕ → Option Step
+firstCalendar boxes fits tasks =
+    firstOf (λ i. someIf (admits (calendarBy (getD fits i Never) i (boundsAt boxes i))) (step letterC i 0)) tasks
 
-  unfoldable pub firstOverload : Option Step
-  firstOverload = firstOf (λ t. admittedBy hours capacity heights boxes fits (step letterO 0 t)) hours
+unfoldable pub firstOverload : List ℕ → ℕ → Option Step
+firstOverload loads capacity = firstOf (λ t. someIf (ltb capacity (getD loads t 0)) (step letterO 0 t)) (length loads)
 
-  unfoldable pub firstCrowded : Bool → Option Step
-  firstCrowded lower = firstOf (λ i. firstOf (λ t. admittedBy hours capacity heights boxes fits (step (letterOf lower) i t)) hours) (length heights)
+unfoldable pub firstExcess : ℕ → ℕ → List ℕ → List ℕ → List Fit → Bool → Option Step
+firstExcess hours capacity heights boxes fits lower =
+    firstOf (λ i. firstOf (λ t. admittedBy hours capacity heights boxes fits (step (letterOf lower) i t)) hours) (length heights)

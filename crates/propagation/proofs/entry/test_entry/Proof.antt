@@ -5,14 +5,8 @@ use borrow.Author.Needs.{needs}
 use Rattle.propagation.proofs.entry.test_entry.Statement.{statement}
 use Rattle.propagation.proofs.entry.test_entry.Tie as tie
 
-has-one-for-each-task-requires : tie.Need-has-one-for-each-task-requires
-has-one-for-each-task-requires c κs = search needs
-
 returns : tie.Need-returns
 returns c = sym (other-tasks _ _ _ _ _ (sym (c .before .has-one-for-each-task .ensures) ∙ not-true _ (c .if1 .taken)))
-
-has-one-for-each-step-requires : tie.Need-has-one-for-each-step-requires
-has-one-for-each-step-requires c κs = search needs
 
 returns-2 : tie.Need-returns-2
 returns-2 c = sym (other-steps _ _ _ _ _ (sym (c .before .has-one-for-each-step .ensures) ∙ not-true _ (c .if2 .taken)))
@@ -30,9 +24,9 @@ pub test-entry-spec : {M : Type 1} → statement M
 test-entry-spec =
     tie.close
     (tie.spec
-    has-one-for-each-task-requires
+    (λ c κs. search needs)
     returns
-    has-one-for-each-step-requires
+    (λ c κs. search needs)
     returns-2
     test-plan-requires
     returns-3)

@@ -3,25 +3,16 @@ use borrow.Author.Tests.{lt-ltb, le-ltb, eq-eqb, ne-eqb}
 use Rattle.units.specs.Limits.{isHour}
 use Rattle.units.proofs.Choices.{not-left}
 use Rattle.plan.proofs.Refusing.{and-rest}
-use Rattle.propagation.proofs.Deciding.{step-C, step-O, step-L, step-U, no-step}
+use Rattle.propagation.proofs.Judging.{step-C, step-O, step-L, step-U, no-step}
 use borrow.Author.Needs.{needs}
 use Rattle.propagation.proofs.judge.is_step.Statement.{statement}
 use Rattle.propagation.proofs.judge.is_step.Tie as tie
-
-cast-if1 : tie.Need-cast-if1
-cast-if1 c = search needs
 
 returns : tie.Need-returns
 returns c = sym (step-C _ _ _ _ _ (c .before .match .keys1) ∙ not-left _ _ (le-ltb _ _ (c .if1 .taken)))
 
 returns-2 : tie.Need-returns-2
 returns-2 c = sym (step-O _ _ _ _ _ (c .before .match .keys2) ∙ not-left _ _ (ne-eqb _ _ (c .if2 .taken)))
-
-is-task-hour-requires : tie.Need-is-task-hour-requires
-is-task-hour-requires c κs = search needs
-
-is-task-hour-requires-2 : tie.Need-is-task-hour-requires-2
-is-task-hour-requires-2 c κs = search needs
 
 returns-3 : tie.Need-returns-3
 returns-3 c = sym (step-C _ _ _ _ _ (c .before .match .keys1) ∙ and-rest _ _ (lt-ltb _ _ (c .if1 .left)))
@@ -43,11 +34,11 @@ pub is-step-spec : {M : Type 1} → statement M
 is-step-spec =
     tie.close
     (tie.spec
-    cast-if1
+    (λ c. search needs)
     returns
     returns-2
-    is-task-hour-requires
-    is-task-hour-requires-2
+    (λ c κs. search needs)
+    (λ c κs. search needs)
     returns-3
     returns-4
     returns-5

@@ -28,18 +28,6 @@ loop-holds c = (omega arith, refl, refl, λ k l. absurd (omega arith))
 fit-of-requires : tie.Need-fit-of-requires Inv-loop μ-loop
 fit-of-requires c κs = c .before .before .before .before .before .before .pre .1 _ (omega arith)
 
-mul-fits : tie.Need-mul-fits Inv-loop μ-loop
-mul-fits c = search needs
-
-array-set-from-fits : tie.Need-array-set-from-fits Inv-loop μ-loop
-array-set-from-fits c = search needs
-
-add-i : tie.Need-add-i Inv-loop μ-loop
-add-i c = search needs
-
-loop-less : tie.Need-loop-less Inv-loop μ-loop
-loop-less c = search needs
-
 loop-again : tie.Need-loop-again Inv-loop μ-loop
 loop-again c = (omega arith, omega arith, simp length-set (c .before .before .loop .inv .2), filled-more _ (c .before .before .loop .fits) _ (c .before .before .loop .i) _ (c .before .before .loop .inv .3) (c .fit-of .ensures) (omega arith))
 
@@ -54,9 +42,9 @@ all-fits-spec =
     μ-loop
     loop-holds
     fit-of-requires
-    mul-fits
-    array-set-from-fits
-    add-i
-    loop-less
+    (λ c. search needs)
+    (λ c. search needs)
+    (λ c. search needs)
+    (λ c. search needs)
     loop-again
     returns)

@@ -1,7 +1,7 @@
 use Prim.Native.Nat.{_-_}
 use native.Mathlib.Omega.{arith}
 use borrow.Author.Needs.{needs}
-use Rattle.propagation.proofs.Filling.{Raised, raised-none, raised-next, raised-all}
+use Rattle.propagation.proofs.Loading.{Raised, raised-none, raised-next, raised-all}
 use Rattle.propagation.proofs.load.add_part.Statement.{statement}
 use Rattle.propagation.proofs.load.add_part.Tie as tie
 
@@ -11,35 +11,11 @@ Inv-loop loads₀ height end t₀ loads t = Raised t₀ end height loads₀ load
 abbrev μ-loop : tie.MeasureT-loop
 μ-loop loads₀ height end t₀ loads t = end - t
 
-clipped-requires : tie.Need-clipped-requires Inv-loop μ-loop
-clipped-requires c κs = search needs
-
 loop-holds : tie.Need-loop-holds Inv-loop μ-loop
 loop-holds c = raised-none _ _ _ _
 
-cast-at : tie.Need-cast-at Inv-loop μ-loop
-cast-at c = search needs
-
-mul-loads : tie.Need-mul-loads Inv-loop μ-loop
-mul-loads c = search needs
-
-slice-read-loads : tie.Need-slice-read-loads Inv-loop μ-loop
-slice-read-loads c = search needs
-
 add-loads : tie.Need-add-loads Inv-loop μ-loop
 add-loads c = omega (arith, c .before .before .before .before .before .pre .1 (c .before .before .loop .t) (omega (arith, c .before .before .before .clipped .ensures)), c .before .before .loop .inv .rest (c .before .before .loop .t) (omega arith))
-
-mul-loads-2 : tie.Need-mul-loads-2 Inv-loop μ-loop
-mul-loads-2 c = search needs
-
-slice-write-loads : tie.Need-slice-write-loads Inv-loop μ-loop
-slice-write-loads c = search needs
-
-add-t : tie.Need-add-t Inv-loop μ-loop
-add-t c = search needs
-
-loop-less : tie.Need-loop-less Inv-loop μ-loop
-loop-less c = search needs
 
 loop-again : tie.Need-loop-again Inv-loop μ-loop
 loop-again c = raised-next (c .before .loop-test .taken) (omega (arith, c .before .before .before .clipped .ensures)) (c .before .before .loop .inv)
@@ -56,16 +32,16 @@ add-part-spec =
     (tie.spec
     Inv-loop
     μ-loop
-    clipped-requires
+    (λ c κs. search needs)
     loop-holds
-    cast-at
-    mul-loads
-    slice-read-loads
+    (λ c. search needs)
+    (λ c. search needs)
+    (λ c. search needs)
     add-loads
-    mul-loads-2
-    slice-write-loads
-    add-t
-    loop-less
+    (λ c. search needs)
+    (λ c. search needs)
+    (λ c. search needs)
+    (λ c. search needs)
     loop-again
     same-length
     returns)

@@ -1,7 +1,7 @@
 use Prim.Native.Nat.{_-_}
 use native.Mathlib.Omega.{arith}
 use borrow.Author.Needs.{needs}
-use Rattle.propagation.proofs.Filling.{Cleared, cleared-none, cleared-next}
+use Rattle.propagation.proofs.Loading.{Cleared, cleared-none, cleared-next}
 use Rattle.propagation.proofs.load.clear.Statement.{statement}
 use Rattle.propagation.proofs.load.clear.Tie as tie
 
@@ -13,18 +13,6 @@ abbrev μ-loop : tie.MeasureT-loop
 
 loop-holds : tie.Need-loop-holds Inv-loop μ-loop
 loop-holds c = cleared-none _
-
-mul-loads : tie.Need-mul-loads Inv-loop μ-loop
-mul-loads c = search needs
-
-slice-write-loads : tie.Need-slice-write-loads Inv-loop μ-loop
-slice-write-loads c = search needs
-
-add-t : tie.Need-add-t Inv-loop μ-loop
-add-t c = search needs
-
-loop-less : tie.Need-loop-less Inv-loop μ-loop
-loop-less c = search needs
 
 loop-again : tie.Need-loop-again Inv-loop μ-loop
 loop-again c = cleared-next (omega arith) (c .before .loop .inv)
@@ -42,10 +30,10 @@ clear-spec =
     Inv-loop
     μ-loop
     loop-holds
-    mul-loads
-    slice-write-loads
-    add-t
-    loop-less
+    (λ c. search needs)
+    (λ c. search needs)
+    (λ c. search needs)
+    (λ c. search needs)
     loop-again
     same-length
     returns)

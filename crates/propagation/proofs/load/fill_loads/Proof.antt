@@ -3,7 +3,7 @@ use Prim.Native.Nat.{_≤_, _-_}
 use native.Mathlib.Omega.{arith}
 use lib.ListN.{length}
 use borrow.Author.Needs.{needs}
-use Rattle.propagation.proofs.Filling.{Filled, filled-none, filled-never, filled-next, filled-room, filled-all}
+use Rattle.propagation.proofs.Loading.{Filled, filled-none, filled-never, filled-next, filled-room, filled-all}
 use Rattle.propagation.proofs.load.fill_loads.Statement.{statement}
 use Rattle.propagation.proofs.load.fill_loads.Tie as tie
 
@@ -13,47 +13,14 @@ Inv-loop loads₀ heights fits j₀ j-end loads j = (j ≤ length heights) × Fi
 abbrev μ-loop : tie.MeasureT-loop
 μ-loop loads₀ heights fits j₀ j-end loads j = j-end - j
 
-clear-requires : tie.Need-clear-requires Inv-loop μ-loop
-clear-requires c κs = search needs
-
 loop-holds : tie.Need-loop-holds Inv-loop μ-loop
 loop-holds c = (omega arith, filled-none (c .before .before .clear .ensures .0) (c .before .before .clear .ensures .1))
-
-mul-fit : tie.Need-mul-fit Inv-loop μ-loop
-mul-fit c = search needs
-
-array-copy-out-fit : tie.Need-array-copy-out-fit Inv-loop μ-loop
-array-copy-out-fit c = search needs
-
-enum-known-fit : tie.Need-enum-known-fit Inv-loop μ-loop
-enum-known-fit c = search needs
-
-enum-told : tie.Need-enum-told Inv-loop μ-loop
-enum-told c = search needs
-
-add-j : tie.Need-add-j Inv-loop μ-loop
-add-j c = search needs
-
-loop-less : tie.Need-loop-less Inv-loop μ-loop
-loop-less c = search needs
 
 loop-again : tie.Need-loop-again Inv-loop μ-loop
 loop-again c = (omega arith, filled-never (c .before .before .before .before .loop .inv .1) (c .enum-told .given .1))
 
-mul-add-part : tie.Need-mul-add-part Inv-loop μ-loop
-mul-add-part c = search needs
-
-shared-slice-read-add-part : tie.Need-shared-slice-read-add-part Inv-loop μ-loop
-shared-slice-read-add-part c = search needs
-
 add-part-requires : tie.Need-add-part-requires Inv-loop μ-loop
 add-part-requires c κs = (omega (arith, c .before .before .before .before .before .before .before .loop .inv .1 .same, c .before .before .before .before .before .before .before .before .before .before .before .before .before .before .pre .0), filled-room (c .before .before .before .before .before .before .before .loop .inv .1) (c .before .before .before .before .before .before .before .before .before .before .before .before .before .before .pre .1) (c .before .before .before .before .before .before .before .before .before .before .before .before .before .before .pre .2) (c .before .before .before .before .before .before .loop-test .taken))
-
-add-j-2 : tie.Need-add-j-2 Inv-loop μ-loop
-add-j-2 c = search needs
-
-loop-less-2 : tie.Need-loop-less-2 Inv-loop μ-loop
-loop-less-2 c = search needs
 
 loop-again-2 : tie.Need-loop-again-2 Inv-loop μ-loop
 loop-again-2 c = (omega arith, filled-next (c .before .before .before .before .before .before .before .before .before .before .loop .inv .1) _ _ (c .before .before .before .before .before .before .fit2 .given .1) (c .before .before .add-part .ensures .0) (c .before .before .add-part .ensures .1))
@@ -70,20 +37,20 @@ fill-loads-spec =
     (tie.spec
     Inv-loop
     μ-loop
-    clear-requires
+    (λ c κs. search needs)
     loop-holds
-    mul-fit
-    array-copy-out-fit
-    enum-known-fit
-    enum-told
-    add-j
-    loop-less
+    (λ c. search needs)
+    (λ c. search needs)
+    (λ c. search needs)
+    (λ c. search needs)
+    (λ c. search needs)
+    (λ c. search needs)
     loop-again
-    mul-add-part
-    shared-slice-read-add-part
+    (λ c. search needs)
+    (λ c. search needs)
     add-part-requires
-    add-j-2
-    loop-less-2
+    (λ c. search needs)
+    (λ c. search needs)
     loop-again-2
     same-length
     returns)

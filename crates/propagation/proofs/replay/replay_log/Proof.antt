@@ -7,8 +7,8 @@ use Rattle.plan.specs.Plan.{plan, taskCount}
 use Rattle.steps.specs.Entry.{stepAt}
 use Rattle.propagation.proofs.Fits.{fitting}
 use Rattle.propagation.proofs.Keeping.{ready}
-use Rattle.propagation.proofs.Replaying.{below, Replaying, may-move, replay-opens, replay-done, replay-13}
-use Rattle.propagation.proofs.Replaying.{replay-11, replay-12, replay-stops, replay-moves}
+use Rattle.propagation.proofs.Replaying.{below, Replaying, replay-opens, replay-done, replay-13}
+use Rattle.propagation.proofs.Replaying.{replay-11, replay-12, replay-stops, replay-may-move, replay-moves}
 use Rattle.propagation.proofs.replay.replay_log.Statement.{statement}
 use Rattle.propagation.proofs.replay.replay_log.Tie as tie
 
@@ -50,14 +50,14 @@ add-t25 c = let h = c in omega (arith, h .before .loop-test .taken, h .before .b
 returns : tie.Need-returns Inv-loop μ-loop
 returns c = replay-13 (c .before .before .loop .inv .2) (omega arith) (c .if1 .taken)
 
-shared-slice-read-task : tie.Need-shared-slice-read-task Inv-loop μ-loop
-shared-slice-read-task c = let g = c .before in omega (arith, g .before .loop-test .taken, head g .loop .inv)
+shared-slice-read-t31 : tie.Need-shared-slice-read-t31 Inv-loop μ-loop
+shared-slice-read-t31 c = let g = c .before .before in omega (arith, g .before .loop-test .taken, head g .loop .inv)
 
-shared-slice-read-t29 : tie.Need-shared-slice-read-t29 Inv-loop μ-loop
-shared-slice-read-t29 c = let g = c .before .before .before in omega (arith, g .before .loop-test .taken, head g .loop .inv)
+shared-slice-read-t34 : tie.Need-shared-slice-read-t34 Inv-loop μ-loop
+shared-slice-read-t34 c = let g = c .before .before .before in omega (arith, g .before .loop-test .taken, head g .loop .inv)
 
-add-t35 : tie.Need-add-t35 Inv-loop μ-loop
-add-t35 c = let h = going (c .before .before) in omega (arith, h .before .loop-test .taken, h .before .before .loop .inv .1, number (h .before .before) .pre .1)
+add-t37 : tie.Need-add-t37 Inv-loop μ-loop
+add-t37 c = let h = going (c .before .before) in omega (arith, h .before .loop-test .taken, h .before .before .loop .inv .1, number (h .before .before) .pre .1)
 
 returns-2 : tie.Need-returns-2 Inv-loop μ-loop
 unfolding stepAt
@@ -66,8 +66,8 @@ returns-2 c =
     replay-11 (head g .loop .inv .2) (below (g .before .loop-test .taken) (head g .loop .inv .1)) (g .if1 .left)
     (c .before .before .judge-step .ensures) (c .enum-told .given .1)
 
-add-t37 : tie.Need-add-t37 Inv-loop μ-loop
-add-t37 c = let h = going (c .before .before) in omega (arith, h .before .loop-test .taken, h .before .before .loop .inv .1, number (h .before .before) .pre .1)
+add-t39 : tie.Need-add-t39 Inv-loop μ-loop
+add-t39 c = let h = going (c .before .before) in omega (arith, h .before .loop-test .taken, h .before .before .loop .inv .1, number (h .before .before) .pre .1)
 
 returns-3 : tie.Need-returns-3 Inv-loop μ-loop
 unfolding stepAt
@@ -89,9 +89,12 @@ loop-again c =
     )
 
 move-bounds-requires : tie.Need-move-bounds-requires Inv-loop μ-loop
+unfolding stepAt
 move-bounds-requires c κs =
     let k = c .before in
-    may-move (head (going (judged k)) .loop .inv .2 .keeps) _ (judged k .judge-step .ensures) (k .before .judged .given .1)
+    let g = going (judged k) in
+    replay-may-move (head g .loop .inv .2) (below (g .before .loop-test .taken) (head g .loop .inv .1)) (g .if1 .left) (judged k .judge-step .ensures)
+    (k .before .judged .given .1)
 
 add-k-2 : tie.Need-add-k-2 Inv-loop μ-loop
 add-k-2 c =
@@ -109,8 +112,8 @@ loop-again-2 c =
           (c .before .before .move-bounds .ensures),
     )
 
-add-t42 : tie.Need-add-t42 Inv-loop μ-loop
-add-t42 c = omega (arith, number (c .before) .pre .1)
+add-t44 : tie.Need-add-t44 Inv-loop μ-loop
+add-t44 c = omega (arith, number (c .before) .pre .1)
 
 returns-4 : tie.Need-returns-4 Inv-loop μ-loop
 returns-4 c =
@@ -125,21 +128,21 @@ replay-log-spec =
     all-fits-requires
     loop-holds
     add-t25
-    (λ c. c .before .before .loop .inv .2 .keeps .same)
+    (λ c. c .before .before .loop .inv .2 .same)
     returns
     (λ c. search needs)
-    shared-slice-read-task
     (λ c. search needs)
+    shared-slice-read-t31
     (λ c. search needs)
-    shared-slice-read-t29
-    (λ c κs. ready _ _ (head (c .before .before .before .before) .loop .inv .2 .keeps .passed))
-    (λ c. search needs)
-    add-t35
-    (λ c. head (going (c .before .before)) .loop .inv .2 .keeps .same)
-    returns-2
+    shared-slice-read-t34
+    (λ c κs. let p = head (c .before .before .before .before) .loop .inv .2 .keeps .passed in (ready _ _ p, p .hours))
     (λ c. search needs)
     add-t37
-    (λ c. head (going (c .before .before)) .loop .inv .2 .keeps .same)
+    (λ c. head (going (c .before .before)) .loop .inv .2 .same)
+    returns-2
+    (λ c. search needs)
+    add-t39
+    (λ c. head (going (c .before .before)) .loop .inv .2 .same)
     returns-3
     (λ c. search needs)
     add-k
@@ -150,6 +153,6 @@ replay-log-spec =
     add-k-2
     (λ c. omega (arith, going (judged (c .before .before .before .before)) .before .loop-test .taken))
     loop-again-2
-    add-t42
-    (λ c. c .before .loop .inv .2 .keeps .same)
+    add-t44
+    (λ c. c .before .loop .inv .2 .same)
     returns-4)

@@ -1,0 +1,278 @@
+-- Laws of the search for the first admitted step, over the answers that are kept: where a step of each kind is admitted, and what the search finds
+-- once it has passed over the tasks and the hours in which none is. Assumes nothing.
+use mathlib.Core.Path.{_≡_, refl, sym, ap, ap₂, _∙_}
+use mathlib.Core.Bool.{Bool, true, false, not}
+use mathlib.Core.Option.{Option, none, some}
+use mathlib.Core.List.{List}
+use Prim.Native.Nat.{ℕ, zero, suc, _+_, _≤_, _<_, min}
+use native.Mathlib.Omega.{arith}
+use lib.Dec.{leb, ltb}
+use lib.ListN.{length, getD}
+use borrow.Author.Tests.{lt-ltb, le-ltb, le-leb, lt-leb, ltb-true, ltb-false}
+use Rattle.units.specs.Choice.{_and_, if_then_else_, someIf, _orElse_, firstOf}
+use Rattle.units.specs.Limits.{isHour}
+use Rattle.units.specs.declared.Bounds.{Bounds}
+use Rattle.units.proofs.Choices.{and-both, not-left, not-right, if-true, if-all, none-if, else-none, else-some, first-none, first-all-none, first-next, first-hit}
+use Rattle.plan.specs.Boxes.{boundsAt}
+use Rattle.plan.proofs.Refusing.{and-rest}
+use Rattle.calendar.specs.declared.Window.{Window}
+use Rattle.calendar.specs.declared.Fit.{Fit}
+use Rattle.calendar.specs.declared.Fit.the-variants.{Never, Within}
+use Rattle.calendar.specs.Rule.{lst, ect}
+use Rattle.steps.specs.declared.Step.{Step}
+use Rattle.steps.specs.declared.Judged.{Judged}
+use Rattle.steps.specs.declared.Judged.the-variants.{Unknown, NotAdmitted, Impossible, Moved}
+use Rattle.steps.specs.Steps.{step, letterC, letterO, Kind, kindC, kindO, kindL, kindU, kindOf, isStep, onFit, sameBounds}
+use Rattle.steps.specs.Filter.{firstOfKind, firstBy, filterOrder}
+use Rattle.propagation.specs.inner.Kept.{loadOf, exceeds, onJudged, calendarBy, lowerBy, upperBy, moveBy, boundBy, judgeKindBy, judgeBy, admittedBy}
+use Rattle.propagation.specs.inner.Ready.{Ready}
+use Rattle.propagation.specs.inner.Finding.{admits, letterOf, firstHour, endHour, Loaded, firstCalendar, firstOverload, firstExcess}
+
+-- ---- the first of several
+
+pub first-eq : {A : Type 0} (f g : ℕ → Option A) (n : ℕ) → ((i : ℕ) → i < n → f i ≡ g i) → firstOf f n ≡ firstOf g n
+unfolding firstOf
+first-eq f g zero h = refl
+first-eq f g (suc n) h = ap₂ _orElse_ (first-eq f g n (λ i l. h i (omega arith))) (h n (omega arith))
+
+-- nothing among the first n, nor at the others below m
+pub first-rest : {A : Type 0} (f : ℕ → Option A) (n m : ℕ) → firstOf f n ≡ none → ((i : ℕ) → n ≤ i → i < m → f i ≡ none) → firstOf f m ≡ none
+first-rest f n m e h = first-all-none f m (λ i l. go i l (ltb i n) refl)
+  where
+    go : (i : ℕ) → i < m → (b : Bool) → ltb i n ≡ b → f i ≡ none
+    go i l true q = first-none f n e i (ltb-true _ _ q)
+    go i l false q = h i (ltb-false _ _ q) l
+
+-- one search after another: a hit of the first ends them, and where it finds nothing the rest decides
+module _ {A : Type 0} (x y : Option A) {r : Option A} (e : r ≡ x) where
+  pub outer-ends : {a : A} → r ≡ some a → r ≡ (x orElse y)
+  outer-ends {a} q = q ∙ sym (else-some x y a (sym e ∙ q))
+
+  pub outer-goes-on : {s : Option A} → r ≡ none → s ≡ y → s ≡ (x orElse y)
+  outer-goes-on q k = k ∙ sym (else-none x y (sym e ∙ q))
+
+else-last : {A : Type 0} (x : Option A) → (x orElse none) ≡ x
+unfolding _orElse_
+else-last none = refl
+else-last (some a) = refl
+
+-- ---- what is admitted
+
+judged-is : (j : Judged) (x : Step) → onJudged j none none (some x) (λ i b. some x) ≡ someIf (admits j) x
+unfolding onJudged admits someIf
+judged-is Unknown x = refl
+judged-is NotAdmitted x = refl
+judged-is Impossible x = refl
+judged-is (Moved i b) x = refl
+
+-- C, of a task with no valid triple, and of one with a window
+pub never-narrowed : (fit : Fit) (i : ℕ) (b : Bounds) → fit ≡ Never → admits (calendarBy fit i b) ≡ true
+unfolding admits calendarBy onJudged onFit
+never-narrowed fit i b e = rw e
+
+pub narrowed : (fit : Fit) (i : ℕ) (w : Window) (b : Bounds) → fit ≡ Within w → admits (calendarBy fit i b) ≡ not (sameBounds (w .bounds) b)
+unfolding calendarBy onFit
+narrowed fit i w b e = rw e (go (sameBounds (w .bounds) b))
+  where
+    go : (same : Bool) → admits (if same then NotAdmitted else Moved i (w .bounds)) ≡ not same
+    go true = unfold admits onJudged if_then_else_ in refl
+    go false = unfold admits onJudged if_then_else_ in refl
+
+-- O, L and U
+stops-is : (p : Bool) → admits (if p then Impossible else NotAdmitted) ≡ p
+unfolding admits onJudged if_then_else_
+stops-is true = refl
+stops-is false = refl
+
+moves-is : (p q : Bool) (i : ℕ) (b : Bounds) → admits (if p then (if q then Impossible else Moved i b) else NotAdmitted) ≡ p
+unfolding admits onJudged if_then_else_
+moves-is true true i b = refl
+moves-is true false i b = refl
+moves-is false q i b = refl
+
+-- the kind of each letter
+is-C : kindOf letterC ≡ kindC
+unfolding kindOf if_then_else_
+is-C = refl
+
+is-O : kindOf letterO ≡ kindO
+unfolding kindOf if_then_else_
+is-O = refl
+
+is-L : kindOf (letterOf true) ≡ kindL
+unfolding kindOf letterOf if_then_else_
+is-L = refl
+
+is-U : kindOf (letterOf false) ≡ kindU
+unfolding kindOf letterOf if_then_else_
+is-U = refl
+
+module _ (hours capacity : ℕ) (heights boxes : List ℕ) (fits : List Fit) where
+  admitted-is : (letter i t : ℕ) (k : Kind) → kindOf letter ≡ k → isStep (length heights) hours k i t ≡ true
+      → admittedBy hours capacity heights boxes fits (step letter i t)
+      ≡ someIf (admits (judgeKindBy hours capacity heights boxes fits k i t)) (step letter i t)
+  unfolding admittedBy judgeBy
+  admitted-is letter i t k q e = rw (q, if-true _ _ _ e) (judged-is _ _)
+
+  not-admitted : (letter i t : ℕ) (k : Kind) → kindOf letter ≡ k → admits (judgeKindBy hours capacity heights boxes fits k i t) ≡ false
+      → admittedBy hours capacity heights boxes fits (step letter i t) ≡ none
+  unfolding admittedBy judgeBy
+  not-admitted letter i t k q e =
+      if-all (λ (j : Judged). onJudged j none none (some (step letter i t)) (λ k b. some (step letter i t)) ≡ none) _ _ _
+      (λ known. rw q (judged-is _ _ ∙ none-if _ _ e))
+      (λ unknown. unfold onJudged in refl)
+
+  -- ---- C
+
+  pub calendar-is : (i : ℕ) → i < length heights
+      → admittedBy hours capacity heights boxes fits (step letterC i 0)
+      ≡ someIf (admits (calendarBy (getD fits i Never) i (boundsAt boxes i))) (step letterC i 0)
+  unfolding judgeKindBy isStep
+  calendar-is i l = admitted-is letterC i 0 kindC is-C (and-both _ _ (lt-ltb i (length heights) l) refl)
+
+  -- ---- O
+
+  pub overload-is : (t : ℕ) → t < hours
+      → admittedBy hours capacity heights boxes fits (step letterO 0 t) ≡ someIf (ltb capacity (loadOf fits heights t)) (step letterO 0 t)
+  unfolding judgeKindBy isStep isHour
+  overload-is t l =
+      admitted-is letterO 0 t kindO is-O (and-both _ _ refl (lt-ltb t hours l)) ∙ ap (λ (p : Bool). someIf p (step letterO 0 t)) (stops-is _)
+
+  -- ---- L and U
+
+  module _ (i t : ℕ) where
+    -- a task with no valid triple
+    pub none-never : (lower : Bool) → getD fits i Never ≡ Never → admittedBy hours capacity heights boxes fits (step (letterOf lower) i t) ≡ none
+    unfolding judgeKindBy boundBy onFit admits onJudged
+    none-never true e = not-admitted (letterOf true) i t kindL is-L (rw e)
+    none-never false e = not-admitted (letterOf false) i t kindU is-U (rw e)
+
+    module _ (w : Window) (b : Bounds) (e : getD fits i Never ≡ Within w) (f : b ≡ boundsAt boxes i) where
+      excess : Bool
+      excess = exceeds w (getD heights i 0) (loadOf fits heights t) capacity t
+
+      lower-is : admits (judgeKindBy hours capacity heights boxes fits kindL i t) ≡ (ltb t (ect w) and leb (b .earliest .0) t and excess)
+      unfolding judgeKindBy boundBy onFit moveBy lowerBy excess
+      lower-is = rw (e, ← f) (moves-is _ _ _ _)
+
+      upper-is : admits (judgeKindBy hours capacity heights boxes fits kindU i t)
+          ≡ (leb (lst w) t and ltb t (b .latest .0 + b .shortest .0) and excess)
+      unfolding judgeKindBy boundBy onFit moveBy upperBy excess
+      upper-is = rw (e, ← f) (moves-is _ _ _ _)
+
+      -- before its first hour, from its end on, and between
+      pub none-before : (lower : Bool) → t < firstHour lower w b → admittedBy hours capacity heights boxes fits (step (letterOf lower) i t) ≡ none
+      unfolding firstHour if_then_else_
+      none-before true l = not-admitted (letterOf true) i t kindL is-L (lower-is ∙ not-right _ _ (not-left _ _ (lt-leb (b .earliest .0) t l)))
+      none-before false l = not-admitted (letterOf false) i t kindU is-U (upper-is ∙ not-left _ _ (lt-leb (lst w) t l))
+
+      pub none-after : (lower : Bool) → endHour lower w b ≤ t → admittedBy hours capacity heights boxes fits (step (letterOf lower) i t) ≡ none
+      unfolding endHour if_then_else_
+      none-after true l = not-admitted (letterOf true) i t kindL is-L (lower-is ∙ not-left _ _ (le-ltb t (ect w) l))
+      none-after false l =
+          not-admitted (letterOf false) i t kindU is-U (upper-is ∙ not-right _ _ (not-left _ _ (le-ltb t (b .latest .0 + b .shortest .0) l)))
+
+      pub excess-is : (lower : Bool) → i < length heights → t < hours → firstHour lower w b ≤ t → t < endHour lower w b
+          → admittedBy hours capacity heights boxes fits (step (letterOf lower) i t)
+          ≡ someIf (exceeds w (getD heights i 0) (loadOf fits heights t) capacity t) (step (letterOf lower) i t)
+      unfolding firstHour endHour if_then_else_ isStep isHour excess
+      excess-is true l m n o =
+          admitted-is (letterOf true) i t kindL is-L (and-both _ _ (lt-ltb i (length heights) l) (lt-ltb t hours m))
+          ∙ ap (λ (p : Bool). someIf p (step (letterOf true) i t))
+          (lower-is ∙ and-rest _ _ (lt-ltb t (ect w) o) ∙ and-rest _ _ (le-leb (b .earliest .0) t n))
+      excess-is false l m n o =
+          admitted-is (letterOf false) i t kindU is-U (and-both _ _ (lt-ltb i (length heights) l) (lt-ltb t hours m))
+          ∙ ap (λ (p : Bool). someIf p (step (letterOf false) i t))
+          (upper-is ∙ and-rest _ _ (le-leb (lst w) t n) ∙ and-rest _ _ (lt-ltb t (b .latest .0 + b .shortest .0) o))
+
+  -- ---- what the loops find
+
+  module _ (lower : Bool) where
+    -- L, or U, of a task in an hour, and the first of a task
+    abbrev pub atHour : ℕ → ℕ → Option Step
+    atHour i t = admittedBy hours capacity heights boxes fits (step (letterOf lower) i t)
+
+    abbrev pub ofTask : ℕ → Option Step
+    ofTask i = firstOf (atHour i) hours
+
+    -- a task with no valid triple is passed over
+    pub skip-never : (i : ℕ) → getD fits i Never ≡ Never → firstOf ofTask i ≡ none → firstOf ofTask (i + 1) ≡ none
+    skip-never i e n = first-next ofTask i n ∙ first-all-none (atHour i) hours (λ t l. none-never i t lower e)
+
+    module _ (i : ℕ) (w : Window) (b : Bounds) (e : getD fits i Never ≡ Within w) (f : b ≡ boundsAt boxes i) where
+      -- the hours before the first, and those from the end on
+      pub skip-before : (t : ℕ) → t ≡ firstHour lower w b → firstOf (atHour i) t ≡ none
+      skip-before t q = first-all-none (atHour i) t (λ u l. none-before i u w b e f lower (omega arith))
+
+      pub skip-after : (end clip t : ℕ) → end ≡ endHour lower w b → clip ≡ min end hours → clip ≤ t → firstOf (atHour i) t ≡ none
+          → firstOf ofTask i ≡ none → firstOf ofTask (i + 1) ≡ none
+      skip-after end clip t q r l n m =
+          first-next ofTask i m ∙ first-rest (atHour i) t hours n (λ u k h. none-after i u w b e f lower (omega arith))
+
+      -- an hour between, by the test on its load
+      pub test-hour : (from end clip t load : ℕ) (r : Bool) → from ≡ firstHour lower w b → end ≡ endHour lower w b → clip ≡ min end hours
+          → from ≤ t → t < clip → i < length heights → load ≡ loadOf fits heights t → r ≡ exceeds w (getD heights i 0) load capacity t
+          → atHour i t ≡ someIf r (step (letterOf lower) i t)
+      test-hour from end clip t load r p q s k l m g h =
+          excess-is i t w b e f lower m (omega arith) (omega arith) (omega arith) ∙ rw (h, g)
+
+    -- the search is left at the first hit
+    pub found-at : (kind i t : ℕ) → kind ≡ letterOf lower → i < length heights → t < hours → firstOf ofTask i ≡ none → firstOf (atHour i) t ≡ none
+        → atHour i t ≡ some (step (letterOf lower) i t) → some (step kind i t) ≡ firstExcess hours capacity heights boxes fits lower
+    unfolding firstExcess
+    found-at kind i t q l m n o h =
+        rw q (sym (first-hit ofTask i (length heights) _ l n (first-hit (atHour i) t hours _ m o h)))
+
+-- ---- what the loop over the tasks finds of C
+
+pub calendar-at : (boxes : List ℕ) (fits : List Fit) (i : ℕ) (b : Bounds) (r : Bool) → b ≡ boundsAt boxes i
+    → r ≡ admits (calendarBy (getD fits i Never) i b)
+    → someIf (admits (calendarBy (getD fits i Never) i (boundsAt boxes i))) (step letterC i 0) ≡ someIf r (step letterC i 0)
+calendar-at boxes fits i b r f q = rw (q, f)
+
+-- ---- a box that is tested: upper S + lower E fits a number of the code
+
+pub ends-soon : (heights boxes : List ℕ) (i : ℕ) (b : Bounds) → Ready heights boxes → i < length heights → b ≡ boundsAt boxes i
+    → b .latest .0 + b .shortest .0 < 65536
+ends-soon heights boxes i b r l e = rw e (omega (arith, r .latest i l, r .shortest i l))
+
+-- ---- the first of all, from the searches for each kind
+
+module _ (hours capacity : ℕ) (heights boxes : List ℕ) (fits : List Fit) where
+  abbrev First : Kind → Option Step
+  First = firstOfKind (length heights) hours (admittedBy hours capacity heights boxes fits)
+
+  -- each search finds the first of its kind
+  calendar-first : firstCalendar boxes fits (length heights) ≡ First kindC
+  unfolding firstCalendar firstOfKind
+  calendar-first = first-eq _ _ (length heights) (λ i l. sym (calendar-is hours capacity heights boxes fits i l))
+
+  module _ (loads : List ℕ) (loaded : Loaded loads fits heights) (all : hours ≡ length loads) where
+    overload-first : firstOverload loads capacity ≡ First kindO
+    unfolding firstOverload firstOfKind
+    overload-first =
+        rw all
+        (first-eq _ _ (length loads) (λ t l. rw (loaded t l) (sym (overload-is (length loads) capacity heights boxes fits t l))))
+
+    pub by-load : {r : Option Step}
+        → r
+        ≡ (firstOverload loads capacity
+        orElse firstExcess (length loads) capacity heights boxes fits true
+        orElse firstExcess (length loads) capacity heights boxes fits false)
+        → r ≡ (First kindO orElse First kindL orElse First kindU)
+    unfolding firstExcess firstOfKind letterOf if_then_else_
+    by-load e = e ∙ rw (← all) (ap (λ (o : Option Step). o orElse First kindL orElse First kindU) overload-first)
+
+  next-is : firstBy (length heights) hours (admittedBy hours capacity heights boxes fits) filterOrder
+      ≡ (First kindC orElse First kindO orElse First kindL orElse First kindU)
+  unfolding firstBy filterOrder
+  next-is =
+      ap (λ (o : Option Step). First kindC orElse First kindO orElse First kindL orElse o) (else-last (First kindU))
+
+  module _ {r : Option Step} (e : r ≡ firstCalendar boxes fits (length heights)) where
+    pub next-calendar : {x : Step} → r ≡ some x → r ≡ firstBy (length heights) hours (admittedBy hours capacity heights boxes fits) filterOrder
+    next-calendar q = outer-ends _ _ (e ∙ calendar-first) q ∙ sym next-is
+
+    pub next-by-load : {s : Option Step} → r ≡ none → s ≡ (First kindO orElse First kindL orElse First kindU)
+        → s ≡ firstBy (length heights) hours (admittedBy hours capacity heights boxes fits) filterOrder
+    next-by-load q k = outer-goes-on _ _ (e ∙ calendar-first) q k ∙ sym next-is
