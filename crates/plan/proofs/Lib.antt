@@ -1,3 +1,4 @@
+pub mod HourKinds
 pub mod Refusing
 pub mod Cells
 pub mod Passed

@@ -13,7 +13,8 @@ use Rattle.units.proofs.Choices.{and-left, neither, first-none}
 use Rattle.units.proofs.Ranges.{Boxed, boxed, from-least, to-most}
 use Rattle.plan.specs.Plan.{Plan, taskCount, calendarCount, firstSymbol, calendarAt, calendarOf, workTimeOf, heightOf}
 use Rattle.plan.specs.Boxes.{boundsAt}
-use Rattle.plan.specs.Faults.{oneForEachTask, isCalendars, isSymbol, taskFault, planFault}
+use Rattle.plan.specs.HourKinds.{isSymbol}
+use Rattle.plan.specs.Faults.{oneForEachTask, isCalendars, symbolFault, taskFault, planFault}
 use Rattle.plan.proofs.Refusing.{unless-none, sized}
 
 -- what it has of task i
@@ -28,7 +29,7 @@ pub record PassedTask (P : Plan) (boxes : List ℕ) (i : ℕ) : Type 0 where
 pub record Passed (P : Plan) (bs : List ℕ) : Type 0 where
   pub some-hours : 1 ≤ P .shifts .hours
   pub hours : P .shifts .hours ≤ mostHours
-  pub symbols : (k : ℕ) → k < length (P .shifts .calendars) → isSymbol (getD (P .shifts .calendars) k 0) ≡ true
+  pub symbols : (k : ℕ) → k < length (P .shifts .calendars) → isSymbol (P .shifts .calendars) k ≡ true
   pub tasks : taskCount P ≤ mostTasks
   pub capacity : P .capacity ≤ mostCapacity
   pub work-times : length (P .shifts .workTimes) ≡ taskCount P
@@ -63,7 +64,7 @@ module _ (P : Plan) (boxes : List ℕ) where
       }
 
   pub passed : oneForEachTask (P .shifts .taskCalendars) (P .shifts .workTimes) (P .heights) boxes ≡ true → planFault P boxes ≡ none → Passed P boxes
-  unfolding planFault taskCount isPlanLength isTaskCount isCapacity
+  unfolding planFault symbolFault taskCount isPlanLength isTaskCount isCapacity
   passed one e =
       let size = sized _ _ _ _ one in
       let after-2 = neither _ _ e in

@@ -37,27 +37,6 @@ module _ (test : Bool) (number place : ℕ) where
   pub refuse : (rest : Option Fault) → test ≡ false → (unless test number place orElse rest) ≡ some (fault number place)
   refuse rest e = else-some _ rest _ (unless-false e)
 
--- the first test holds, so the second decides
-pub and-rest : (a b : Bool) → a ≡ true → a and b ≡ b
-unfolding _and_
-and-rest a b e = rw e
-
--- nothing is found among as many as there are: what a loop that was not left needs
-pub first-end : {A : Type 0} (f : ℕ → Option A) (n m : ℕ) → n ≤ m → m ≤ n → firstOf f n ≡ none → firstOf f m ≡ none
-first-end f n m l k e = let q : m ≡ n = omega arith in rw q e
-
--- a length that is six for each task, by its sixth
-module _ (n k : ℕ) where
-  pub sixth : n % 6 ≡ 0 → eqb (n / 6) k ≡ eqb n (6 * k)
-  sixth e = go (eqb (n / 6) k) refl
-    where
-      go : (b : Bool) → eqb (n / 6) k ≡ b → eqb (n / 6) k ≡ eqb n (6 * k)
-      go true q = let l = eqb-true (n / 6) k q in q ∙ sym (eq-eqb n (6 * k) (omega arith))
-      go false q = let l = eqb-false (n / 6) k q in q ∙ sym (ne-eqb n (6 * k) (λ m. l (omega arith)))
-
-  pub no-sixth : (n % 6 ≡ 0 → ⊥) → eqb n (6 * k) ≡ false
-  no-sixth e = ne-eqb n (6 * k) (λ m. e (omega arith))
-
 -- what one for each task says of the lengths of the tasks' calendars, work times and heights, and of the boxes
 pub record Sized (cs ws hs bs : List ℕ) : Type 0 where
   pub work-times : length ws ≡ length cs

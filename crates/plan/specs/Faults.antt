@@ -7,25 +7,26 @@ use Prim.Native.Nat.{ℕ, _*_, _%_}
 use lib.Dec.{eqb}
 use lib.ListN.{length, getD}
 use Rattle.units.specs.Choice.{_and_, if_then_else_, _orElse_, firstOf}
-use Rattle.units.specs.Limits.{isPlanLength, isWorkTime, isHeight, isCapacity, isCalendarCount, isCalendarNumber, isTaskCount, isBox}
-use Rattle.plan.specs.Plan.{Shifts, Plan, regular, closed, overtime, taskCount, calendarCount, workTimeOf, heightOf}
+use Rattle.units.specs.Limits.{boxNumbers, isPlanLength, isWorkTime, isHeight, isCapacity, isCalendarCount, isCalendarNumber, isTaskCount, isBox}
+use Rattle.plan.specs.Plan.{Shifts, Plan, taskCount, calendarCount, workTimeOf, heightOf}
+use Rattle.plan.specs.HourKinds.{isSymbol}
 use Rattle.plan.specs.Boxes.{boundsAt}
 use Rattle.plan.specs.Refusals.{Fault, unless}
 
--- one number a task in each field, and one box a task: six numbers
+-- one number a task in each field, and one box a task
 unfoldable pub oneForEachTask : List ℕ → List ℕ → List ℕ → List ℕ → Bool
 oneForEachTask taskCalendars workTimes heights boxes =
     eqb (length workTimes) (length taskCalendars)
     and eqb (length heights) (length taskCalendars)
-    and eqb (length boxes) (6 * length taskCalendars)
+    and eqb (length boxes) (boxNumbers * length taskCalendars)
 
 -- 1 to 16 calendars, each of H symbols
 unfoldable pub isCalendars : Shifts → Bool
 isCalendars S = eqb (length (S .calendars) % S .hours) 0 and isCalendarCount (calendarCount S)
 
--- r, c or o
-unfoldable pub isSymbol : ℕ → Bool
-isSymbol n = if eqb n regular then true else (if eqb n closed then true else eqb n overtime)
+-- 4, at an index of the symbols, calendars joined
+unfoldable pub symbolFault : List ℕ → ℕ → Option Fault
+symbolFault calendars k = unless (isSymbol calendars k) 4 k
 
 -- task by task 6, 7, 8, 9
 unfoldable pub taskFault : Plan → List ℕ → ℕ → Option Fault
@@ -40,7 +41,7 @@ unfoldable pub planFault : Plan → List ℕ → Option Fault
 planFault P boxes =
     unless (isPlanLength (P .shifts .hours)) 2 0
     orElse unless (isCalendars (P .shifts)) 3 0
-    orElse firstOf (λ k. unless (isSymbol (getD (P .shifts .calendars) k 0)) 4 k) (length (P .shifts .calendars))
+    orElse firstOf (symbolFault (P .shifts .calendars)) (length (P .shifts .calendars))
     orElse unless (isTaskCount (taskCount P)) 5 0
     orElse unless (isCapacity (P .capacity)) 10 0
     orElse firstOf (taskFault P boxes) (taskCount P)

@@ -1,4 +1,5 @@
 pub mod Plan
+pub mod HourKinds
 pub mod Boxes
 pub mod Refusals
 pub mod Faults

@@ -10,15 +10,16 @@ use units::MaybeDuration;
 use units::MaybeHeight;
 ghost use mathlib.Core.Bool.{true};
 ghost use mathlib.Core.Path.{_≡_};
-ghost use Prim.Native.Nat.{_+_, _*_, _/_, _%_, _≤_};
+ghost use Prim.Native.Nat.{_+_, _*_, _/_, _%_, _≤_, _<_};
 ghost use lib.Dec.{eqb};
-ghost use lib.ListN.{length, getD, take, drop};
+ghost use lib.ListN.{length, take, drop};
 ghost use Rattle.units.specs.Choice.{_and_, _orElse_, firstOf};
-ghost use Rattle.units.specs.Limits.{isCalendarCount, isCalendarNumber, isWorkTime, isHeight, isBox};
+ghost use Rattle.units.specs.Limits.{boxNumbers, isCalendarCount, isCalendarNumber, isWorkTime, isHeight, isBox};
 ghost use Rattle.plan.specs.Plan.{firstSymbol};
+ghost use Rattle.plan.specs.HourKinds.{isKind, isSymbol};
 ghost use Rattle.plan.specs.Boxes.{boundsAt, withBounds};
 ghost use Rattle.plan.specs.Refusals.{unless, faultOf, testedFault};
-ghost use Rattle.plan.specs.Faults.{oneForEachTask, isSymbol, taskFault, planFault, inputFault};
+ghost use Rattle.plan.specs.Faults.{oneForEachTask, symbolFault, taskFault, planFault, inputFault};
 ghost use Rattle.plan.specs.Lent.{old, left, oldPlan};
 
 // Why a call is refused, in document 01's order of numbers, with the place where 01 names one.
@@ -88,10 +89,10 @@ pub fn fault_of(r: Refusal) -> Fault
 
 // The box of task i.
 pub fn bounds_at(boxes: &[u16], i: usize) -> Bounds
-    requires { ⌜ 6 * i + 6 ≤ length (now boxes) ⌝ }
+    requires { ⌜ boxNumbers * i + boxNumbers ≤ length (now boxes) ⌝ }
     ensures { λ r. ⌜ r ≡ boundsAt (old boxes) i ⌝ }
 {
-    let first = 6 * i;
+    let first = Bounds::NUMBERS * i;
     Bounds {
         earliest: Hour(boxes[first]),
         latest: Hour(boxes[first + 1]),
@@ -104,16 +105,31 @@ pub fn bounds_at(boxes: &[u16], i: usize) -> Bounds
 
 // Another box for task i.
 pub fn put_bounds(boxes: &mut [u16], i: usize, b: Bounds)
-    requires { ⌜ 6 * i + 6 ≤ length (now boxes) ⌝ }
+    requires { ⌜ boxNumbers * i + boxNumbers ≤ length (now boxes) ⌝ }
     ensures { λ r. ⌜ left boxes ≡ withBounds (old boxes) i b ⌝ }
 {
-    let first = 6 * i;
+    let first = Bounds::NUMBERS * i;
     boxes[first] = b.earliest.0;
     boxes[first + 1] = b.latest.0;
     boxes[first + 2] = b.shortest.0;
     boxes[first + 3] = b.longest.0;
     boxes[first + 4] = b.fewest.0;
     boxes[first + 5] = b.most.0;
+}
+
+// The kinds of an hour, by their symbols.
+pub const REGULAR: u8 = b'r';
+
+pub const CLOSED: u8 = b'c';
+
+pub const OVERTIME: u8 = b'o';
+
+// Whether an hour of a calendar is of the kind. Nothing else reads a symbol.
+pub fn is_kind(calendar: &[u8], t: usize, kind: u8) -> bool
+    requires { ⌜ t < length (now calendar) ⌝ }
+    ensures { λ r. ⌜ r ≡ isKind kind (old calendar) t ⌝ }
+{
+    calendar[t] == kind
 }
 
 // Where a calendar begins among the symbols of all calendars, joined.
@@ -141,7 +157,7 @@ fn calendar_count(calendars: &[u8], hours: Duration) -> usize
     calendars.len() / hours.0 as usize
 }
 
-// Whether the fields and the boxes number one for each task. The boxes' length is divided, since six times a length may not fit.
+// Whether the fields and the boxes number one for each task.
 pub fn has_one_for_each_task(
     task_calendars: &[u16],
     work_times: &[u16],
@@ -157,10 +173,7 @@ pub fn has_one_for_each_task(
     if heights.len() != tasks {
         return false;
     }
-    if boxes.len() % 6 != 0 {
-        return false;
-    }
-    boxes.len() / 6 == tasks
+    units::is_for_each(boxes.len(), Bounds::NUMBERS, tasks)
 }
 
 // Whether the symbols make calendars of so many hours each, and as many as a plan may have.
@@ -174,25 +187,26 @@ fn has_calendars(calendars: &[u8], hours: Duration) -> bool
     CalendarNumber::is_count(calendar_count(calendars, hours))
 }
 
-// Whether it is r, c or o.
-fn is_symbol(symbol: u8) -> bool
-    ensures { λ r. ⌜ r ≡ isSymbol symbol ⌝ }
+// Whether the symbol at an index is r, c or o.
+fn is_symbol(calendars: &[u8], k: usize) -> bool
+    requires { ⌜ k < length (now calendars) ⌝ }
+    ensures { λ r. ⌜ r ≡ isSymbol (old calendars) k ⌝ }
 {
-    if symbol == b'r' {
+    if is_kind(calendars, k, REGULAR) {
         return true;
     }
-    if symbol == b'c' {
+    if is_kind(calendars, k, CLOSED) {
         return true;
     }
-    symbol == b'o'
+    is_kind(calendars, k, OVERTIME)
 }
 
 // 4, at the first symbol other than r, c, o.
 fn test_symbols(calendars: &[u8]) -> Tested
-    ensures { λ r. ⌜ testedFault r ≡ firstOf (λ k. unless (isSymbol (getD (old calendars) k 0)) 4 k) (length (old calendars)) ⌝ }
+    ensures { λ r. ⌜ testedFault r ≡ firstOf (symbolFault (old calendars)) (length (old calendars)) ⌝ }
 {
     for k in 0..calendars.len() {
-        if !is_symbol(calendars[k]) {
+        if !is_symbol(calendars, k) {
             return Tested::Refused(Refusal::Symbol(k));
         }
     }

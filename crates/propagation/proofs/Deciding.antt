@@ -13,10 +13,9 @@ use Rattle.units.specs.Choice.{_and_, if_then_else_}
 use Rattle.units.specs.Sums.{sumWhere}
 use Rattle.units.specs.Limits.{mostTasks, mostHeight, isHour}
 use Rattle.units.specs.declared.Bounds.{Bounds}
-use Rattle.units.proofs.Choices.{and-both, and-left, and-right, if-true, if-false, not-left, not-right}
+use Rattle.units.proofs.Choices.{and-both, and-left, and-right, if-true, if-false, not-left, not-right, and-rest}
 use Rattle.units.proofs.Summing.{where-more, where-skip, where-most}
 use Rattle.plan.specs.Boxes.{boundsAt}
-use Rattle.plan.proofs.Refusing.{and-rest}
 use Rattle.calendar.specs.declared.Window.{Window}
 use Rattle.calendar.specs.declared.Fit.{Fit}
 use Rattle.calendar.specs.declared.Fit.the-variants.{Never, Within}
@@ -73,7 +72,7 @@ module _ (fits : List Fit) (heights : List ℕ) (t : ℕ) where
   module _ (small : (i : ℕ) → getD heights i 0 ≤ mostHeight) where
     pub load-small : (sum i : ℕ) → sum ≡ loadTo i → sum ≤ i * mostHeight
     unfolding loadTo
-    load-small sum i e = rw e (where-most _ _ i mostHeight small)
+    load-small sum i e = where-most _ _ sum i mostHeight e (λ j l. small j)
 
     -- it fits a u16
     pub load-most : length heights ≤ mostTasks → loadOf fits heights t ≤ 64000

@@ -13,7 +13,7 @@ use Rattle.units.proofs.Choices.{and-left, none≢some, option-all, if-some, el
 use Rattle.plan.specs.Plan.{Plan, taskCount}
 use Rattle.plan.specs.Boxes.{boundsAt}
 use Rattle.plan.specs.Refusals.{Fault, fault, unless, refused, answered, answerUnless}
-use Rattle.plan.specs.Faults.{taskFault, planFault, inputFault}
+use Rattle.plan.specs.Faults.{symbolFault, taskFault, planFault, inputFault}
 use Rattle.plan.proofs.Refusing.{unless-none}
 use Rattle.steps.specs.declared.Step.{Step}
 use Rattle.calendar.specs.declared.Triple.{Triple}
@@ -53,7 +53,7 @@ module _ (P : Plan) (boxes : List ℕ) (f : Fault) where
       (by-either _ _ f (by-unless _ 8 i f (λ q. omega arith)) (by-unless _ 9 i f (λ q. omega arith))))
 
   plan-fault : planFault P boxes ≡ some f → not-13 f
-  unfolding planFault
+  unfolding planFault symbolFault
   plan-fault =
       by-either _ _ f (by-unless _ 2 0 f (λ q. omega arith))
       (by-either _ _ f (by-unless _ 3 0 f (λ q. omega arith))

@@ -36,6 +36,10 @@ mostTasks = 64
 abbrev pub mostHeight : ℕ
 mostHeight = 1000
 
+-- a box is six numbers in lent memory
+abbrev pub boxNumbers : ℕ
+boxNumbers = 6
+
 -- values of each kind, from their numbers
 abbrev pub hour : ℕ → Hour
 hour n = record { 0 = n }

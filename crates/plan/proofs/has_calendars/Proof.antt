@@ -1,8 +1,7 @@
 use mathlib.Core.Path.{sym, ap, _∙_}
 use borrow.Author.Tests.{eq-eqb, ne-eqb}
 use Rattle.units.specs.Limits.{isCalendarCount}
-use Rattle.units.proofs.Choices.{not-left}
-use Rattle.plan.proofs.Refusing.{and-rest}
+use Rattle.units.proofs.Choices.{not-left, and-rest}
 use borrow.Author.Needs.{needs}
 use Rattle.plan.proofs.has_calendars.Statement.{statement}
 use Rattle.plan.proofs.has_calendars.Tie as tie

@@ -5,11 +5,11 @@ use native.Mathlib.Omega.{arith}
 use lib.ListN.{length}
 use borrow.Author.Needs.{needs}
 use Rattle.units.specs.Choice.{firstOf}
-use Rattle.units.proofs.Choices.{first-next, first-hit}
+use Rattle.units.proofs.Choices.{first-next, first-hit, first-end}
 use Rattle.plan.specs.Plan.{plan}
 use Rattle.plan.specs.Refusals.{testedFault}
 use Rattle.plan.specs.Faults.{taskFault}
-use Rattle.plan.proofs.Refusing.{sized, task-is, first-end}
+use Rattle.plan.proofs.Refusing.{sized, task-is}
 use Rattle.plan.proofs.test_tasks.Statement.{statement}
 use Rattle.plan.proofs.test_tasks.Tie as tie
 

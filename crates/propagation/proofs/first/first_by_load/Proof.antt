@@ -1,8 +1,9 @@
 use mathlib.Core.Path.{ap, _∙_}
 use borrow.Author.Needs.{needs}
 use Rattle.propagation.specs.inner.Kept.{foundStep}
-use Rattle.propagation.proofs.Findings.{outer-ends, outer-goes-on, overload-plain}
+use Rattle.propagation.proofs.Findings.{overload-plain}
 use Rattle.propagation.proofs.first.first_by_load.Statement.{statement}
+use Rattle.units.proofs.Choices.{outer-ends, outer-goes-on}
 use Rattle.propagation.proofs.first.first_by_load.Tie as tie
 
 first-overload-requires : tie.Need-first-overload-requires

@@ -5,8 +5,7 @@ use native.Mathlib.Omega.{arith}
 use lib.ListN.{length}
 use borrow.Author.Needs.{needs}
 use Rattle.units.specs.Choice.{firstOf}
-use Rattle.units.proofs.Choices.{some-if, none-if, first-next, first-hit}
-use Rattle.plan.proofs.Refusing.{first-end}
+use Rattle.units.proofs.Choices.{some-if, none-if, first-next, first-hit, first-end}
 use Rattle.steps.specs.Steps.{step, letterC}
 use Rattle.propagation.specs.inner.Kept.{admittedBy}
 use Rattle.propagation.specs.inner.Finding.{firstCalendar}
