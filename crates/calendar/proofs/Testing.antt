@@ -14,7 +14,7 @@ use Rattle.units.proofs.Choices.{else-none, else-some, neither}
 use Rattle.plan.specs.Plan.{plan, taskCount}
 use Rattle.plan.specs.Boxes.{boundsAt}
 use Rattle.plan.specs.Refusals.{Fault, fault, refused, answered, answerUnless}
-use Rattle.plan.specs.Faults.{oneForEachTask, planFault, inputFault}
+use Rattle.plan.specs.Faults.{oneForEachTask, calendarsFault, planFault, inputFault}
 use Rattle.plan.proofs.Refusing.{unless-true, unless-false}
 use Rattle.plan.proofs.Passed.{passed}
 use Rattle.calendar.specs.Rule.{ruleOf}
@@ -47,8 +47,8 @@ module _ (cal : List ℕ) (p : ℕ) (b : Bounds) where
   pub no-length : isPlanLength (length cal) ≡ false → calendarRule cal p b ≡ refused (fault 2 0)
   no-length e =
       refused-by (fault 2 0)
-      (unfold inputFault planFault oneTask in
-      (else-none _ _ (unless-true _ 31 0 one-each) ∙ else-some _ _ _ (unless-false _ 2 0 e)))
+      (unfold inputFault planFault calendarsFault oneTask in
+      (else-none _ _ (unless-true _ 31 0 one-each) ∙ else-some _ _ _ (else-some _ _ _ (unless-false _ 2 0 e))))
 
   -- what the core asks
   pub ready : inputFault (oneTask cal p) (oneBox b) ≡ none → RuleReady cal b

@@ -3,4 +3,6 @@ pub mod HourKinds
 pub mod Boxes
 pub mod Refusals
 pub mod Faults
+pub mod Passed
 pub mod Lent
+pub mod inner

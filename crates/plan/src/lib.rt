@@ -10,17 +10,17 @@ use units::MaybeDuration;
 use units::MaybeHeight;
 ghost use mathlib.Core.Bool.{true};
 ghost use mathlib.Core.Path.{_≡_};
-ghost use Prim.Native.Nat.{_+_, _*_, _/_, _%_, _≤_, _<_};
-ghost use lib.Dec.{eqb};
+ghost use Prim.Native.Nat.{_+_, _*_, _/_, _≤_, _<_};
 ghost use lib.ListN.{length, take, drop};
-ghost use Rattle.units.specs.Choice.{_and_, _orElse_, firstOf};
-ghost use Rattle.units.specs.Limits.{boxNumbers, isCalendarCount, isCalendarNumber, isWorkTime, isHeight, isBox};
+ghost use Rattle.units.specs.Choice.{firstOf};
+ghost use Rattle.units.specs.Limits.{boxNumbers};
 ghost use Rattle.plan.specs.Plan.{firstSymbol};
 ghost use Rattle.plan.specs.HourKinds.{isKind, isSymbol};
 ghost use Rattle.plan.specs.Boxes.{boundsAt, withBounds};
-ghost use Rattle.plan.specs.Refusals.{unless, faultOf, testedFault};
-ghost use Rattle.plan.specs.Faults.{oneForEachTask, symbolFault, taskFault, planFault, inputFault};
-ghost use Rattle.plan.specs.Lent.{old, left, oldPlan};
+ghost use Rattle.plan.specs.Refusals.{faultOf, testedFault};
+ghost use Rattle.plan.specs.Faults.{oneForEachTask, isCalendars, symbolFault, calendarsFault, countsFault, oneTaskFault, tasksFault, planFault, inputFault};
+ghost use Rattle.plan.specs.Lent.{old, left, shiftsOf, oldShifts, oldPlan};
+ghost use Rattle.plan.specs.inner.Ready.{TasksReady};
 
 // Why a call is refused, in document 01's order of numbers, with the place where 01 names one.
 pub enum Refusal {
@@ -179,7 +179,7 @@ pub fn has_one_for_each_task(
 // Whether the symbols make calendars of so many hours each, and as many as a plan may have.
 fn has_calendars(calendars: &[u8], hours: Duration) -> bool
     requires { ⌜ 1 ≤ hours .0 ⌝ }
-    ensures { λ r. ⌜ r ≡ eqb (length (old calendars) % hours .0) 0 and isCalendarCount (length (old calendars) / hours .0) ⌝ }
+    ensures { λ r. ⌜ r ≡ isCalendars (hours .0) (old calendars) ⌝ }
 {
     if calendars.len() % hours.0 as usize != 0 {
         return false;
@@ -213,7 +213,33 @@ fn test_symbols(calendars: &[u8]) -> Tested
     Tested::Passed
 }
 
-// 6, 7, 8, 9 of one task, in a plan of so many hours and calendars.
+// H and the calendars: 2, 3, 4.
+fn test_calendars(hours: u16, calendars: &[u8]) -> Tested
+    ensures { λ r. ⌜ testedFault r ≡ calendarsFault hours (old calendars) ⌝ }
+{
+    let MaybeDuration::Within(plan_length) = Duration::of_plan(hours as usize) else {
+        return Tested::Refused(Refusal::Hours);
+    };
+    if !has_calendars(calendars, plan_length) {
+        return Tested::Refused(Refusal::Calendars);
+    }
+    test_symbols(calendars)
+}
+
+// Counts and the capacity: 5, 10.
+fn test_counts(tasks: usize, capacity: u16) -> Tested
+    ensures { λ r. ⌜ testedFault r ≡ countsFault tasks capacity ⌝ }
+{
+    if !Bounds::is_count(tasks) {
+        return Tested::Refused(Refusal::Tasks);
+    }
+    let MaybeHeight::Within(_) = Height::of_plan(capacity) else {
+        return Tested::Refused(Refusal::Capacity);
+    };
+    Tested::Passed
+}
+
+// One task, in a plan of so many hours and calendars: 6, 7, 8, 9.
 fn test_task(
     task: usize,
     hours: Duration,
@@ -223,10 +249,7 @@ fn test_task(
     height: u16,
     bounds: Bounds,
 ) -> Tested
-    ensures { λ r. ⌜ testedFault r ≡ (unless (isCalendarNumber calendars calendar) 6 task
-        orElse unless (isWorkTime (hours .0) «work_time») 7 task
-        orElse unless (isHeight height) 8 task
-        orElse unless (isBox (hours .0) «work_time» bounds) 9 task) ⌝ }
+    ensures { λ r. ⌜ testedFault r ≡ oneTaskFault (hours .0) calendars task calendar «work_time» height bounds ⌝ }
 {
     let MaybeCalendarNumber::Within(_) = CalendarNumber::of_plan(calendar, calendars) else {
         return Tested::Refused(Refusal::NoCalendar(task));
@@ -243,7 +266,7 @@ fn test_task(
     Tested::Passed
 }
 
-// Task by task. No test of a task asks for the capacity, so the contract puts 0 there.
+// Task by task.
 fn test_tasks(
     hours: Duration,
     calendars: &[u8],
@@ -252,10 +275,9 @@ fn test_tasks(
     heights: &[u16],
     boxes: &[u16],
 ) -> Tested
-    requires { ⌜ (1 ≤ hours .0) × (oneForEachTask (now «task_calendars») (now «work_times») (now heights) (now boxes) ≡ true) ⌝ }
-    ensures { λ r. ⌜ testedFault r ≡ firstOf
-        (taskFault (oldPlan (hours .0) 0 calendars «task_calendars» «work_times» heights) (old boxes))
-        (length (old «task_calendars»)) ⌝ }
+    requires { ⌜ TasksReady (shiftsOf (hours .0) calendars «task_calendars» «work_times») (now heights) (now boxes) ⌝ }
+    ensures { λ r. let S = oldShifts (hours .0) calendars «task_calendars» «work_times» in
+        ⌜ testedFault r ≡ tasksFault S (old heights) (old boxes) ⌝ }
 {
     let count = calendar_count(calendars, hours);
     for i in 0..task_calendars.len() {
@@ -275,7 +297,7 @@ fn test_tasks(
     Tested::Passed
 }
 
-// The plan's tests on memory of the right size: 2, 3, 4, 5, 10, then task by task.
+// The plan's tests on memory of the right size: H and the calendars, the counts, then task by task.
 pub fn test_plan(
     hours: u16,
     capacity: u16,
@@ -286,28 +308,19 @@ pub fn test_plan(
     boxes: &[u16],
 ) -> Tested
     requires { ⌜ oneForEachTask (now «task_calendars») (now «work_times») (now heights) (now boxes) ≡ true ⌝ }
-    ensures { λ r. ⌜ testedFault r ≡ planFault
-        (oldPlan hours capacity calendars «task_calendars» «work_times» heights)
-        (old boxes) ⌝ }
+    ensures { λ r. let P = oldPlan hours capacity calendars «task_calendars» «work_times» heights in
+        ⌜ testedFault r ≡ planFault P (old boxes) ⌝ }
 {
-    let MaybeDuration::Within(plan_length) = Duration::of_plan(hours as usize) else {
-        return Tested::Refused(Refusal::Hours);
+    let by_calendars = test_calendars(hours, calendars);
+    let Tested::Passed = by_calendars else {
+        return by_calendars;
     };
-    if !has_calendars(calendars, plan_length) {
-        return Tested::Refused(Refusal::Calendars);
-    }
-    let symbols = test_symbols(calendars);
-    let Tested::Passed = symbols else {
-        return symbols;
-    };
-    if !Bounds::is_count(task_calendars.len()) {
-        return Tested::Refused(Refusal::Tasks);
-    }
-    let MaybeHeight::Within(_) = Height::of_plan(capacity) else {
-        return Tested::Refused(Refusal::Capacity);
+    let by_counts = test_counts(task_calendars.len(), capacity);
+    let Tested::Passed = by_counts else {
+        return by_counts;
     };
     test_tasks(
-        plan_length,
+        Duration(hours),
         calendars,
         task_calendars,
         work_times,
@@ -326,9 +339,8 @@ pub fn test_input(
     heights: &[u16],
     boxes: &[u16],
 ) -> Tested
-    ensures { λ r. ⌜ testedFault r ≡ inputFault
-        (oldPlan hours capacity calendars «task_calendars» «work_times» heights)
-        (old boxes) ⌝ }
+    ensures { λ r. let P = oldPlan hours capacity calendars «task_calendars» «work_times» heights in
+        ⌜ testedFault r ≡ inputFault P (old boxes) ⌝ }
 {
     if !has_one_for_each_task(task_calendars, work_times, heights, boxes) {
         return Tested::Refused(Refusal::MemorySize);

@@ -13,7 +13,7 @@ use Rattle.units.proofs.Choices.{option-case, none≢some}
 use Rattle.plan.specs.Plan.{Plan}
 use Rattle.plan.specs.Boxes.{withBounds}
 use Rattle.plan.specs.Refusals.{fault}
-use Rattle.plan.proofs.Passed.{Passed}
+use Rattle.plan.specs.Passed.{Passed}
 use Rattle.calendar.specs.declared.Fit.{Fit}
 use Rattle.steps.specs.declared.Step.{Step}
 use Rattle.steps.specs.declared.Found.{Found}

@@ -12,7 +12,7 @@ use Rattle.plan.specs.Plan.{Shifts, Plan, taskCount, firstSymbol, calendarAt, c
 use Rattle.plan.specs.HourKinds.{isSymbol}
 use Rattle.plan.proofs.HourKinds.{symbol-part}
 use Rattle.plan.specs.Boxes.{boundsAt}
-use Rattle.plan.proofs.Passed.{Passed}
+use Rattle.plan.specs.Passed.{Passed}
 use Rattle.calendar.specs.declared.Fit.{Fit}
 use Rattle.calendar.specs.Rule.{ruleOf}
 use Rattle.calendar.specs.inner.Stretches.{RuleReady}

@@ -9,14 +9,13 @@ use lib.Dec.{leb, ltb}
 use lib.ListN.{length, getD, List·getD-eq-default}
 use borrow.Author.Tests.{ltb-true, ltb-false}
 use Rattle.units.specs.Choice.{_and_, if_then_else_, onOption, _orElse_, firstOf}
-use Rattle.units.specs.Limits.{mostHeight}
+use Rattle.units.specs.Limits.{mostHeight, Boxed}
 use Rattle.units.specs.declared.Bounds.{Bounds}
 use Rattle.units.proofs.Choices.{and-left, if-true, if-false, if-all, if-ap, else-on, first-on}
-use Rattle.units.proofs.Ranges.{Boxed}
+use Rattle.plan.specs.Passed.{Passed}
 use Rattle.units.proofs.Summing.{where-eq, where-split}
 use Rattle.plan.specs.Plan.{Plan, taskCount, workTimeOf, heightOf, heightsWhere}
 use Rattle.plan.specs.Boxes.{boundsAt, withBounds}
-use Rattle.plan.proofs.Passed.{Passed}
 use Rattle.calendar.specs.declared.Window.{Window}
 use Rattle.calendar.specs.declared.Fit.{Fit}
 use Rattle.calendar.specs.declared.Fit.the-variants.{Never, Within}

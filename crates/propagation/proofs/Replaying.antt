@@ -10,8 +10,8 @@ use Rattle.units.specs.declared.Bounds.{Bounds}
 use Rattle.plan.specs.Plan.{Plan, plan, taskCount}
 use Rattle.plan.specs.Boxes.{withBounds}
 use Rattle.plan.specs.Refusals.{fault, Answer, refused, answered}
-use Rattle.plan.proofs.Passed.{Passed}
-use Rattle.plan.proofs.Cells.{length-with}
+use Rattle.plan.specs.Passed.{Passed}
+use Rattle.plan.proofs.Boxes.{length-with}
 use Rattle.calendar.specs.declared.Fit.{Fit}
 use Rattle.steps.specs.declared.Step.{Step}
 use Rattle.steps.specs.declared.Judged.{Judged}

@@ -17,7 +17,7 @@ use Rattle.units.specs.declared.Bounds.{Bounds}
 use Rattle.plan.specs.Plan.{Plan}
 use Rattle.plan.specs.Boxes.{withBounds}
 use Rattle.plan.specs.Refusals.{Fault, fault, refused, answered, answerUnless}
-use Rattle.plan.proofs.Cells.{bounds-other}
+use Rattle.plan.proofs.Boxes.{bounds-other}
 use Rattle.calendar.specs.declared.Fit.{Fit}
 use Rattle.calendar.specs.declared.Fit.the-variants.{Never}
 use Rattle.steps.specs.declared.Step.{Step}

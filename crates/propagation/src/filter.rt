@@ -14,7 +14,7 @@ ghost use mathlib.Core.Bool.{true};
 ghost use mathlib.Core.Path.{_≡_};
 ghost use lib.ListN.{length};
 ghost use Rattle.plan.specs.Lent.{old, left, planOf, oldPlan};
-ghost use Rattle.plan.proofs.Passed.{Passed};
+ghost use Rattle.plan.specs.Passed.{Passed};
 ghost use Rattle.steps.specs.Filter.{run};
 ghost use Rattle.steps.specs.Entry.{stepsFrom, oneForEachStep, logged, filterPlan, filterAnswer, Leaves};
 ghost use Rattle.steps.specs.Claim.{FilterHolds};

@@ -7,7 +7,7 @@ use Rattle.units.specs.Limits.{within, isPlanLength, isHour, isWorkTime, isHeig
 use Rattle.plan.specs.Plan.{taskCount, calendarCount, firstSymbol, calendarAt, calendarOf, workTimeOf, heightOf, heightsWhere}
 use Rattle.plan.specs.Boxes.{boundsAt, withBounds}
 use Rattle.plan.specs.Refusals.{unless, answerUnless}
-use Rattle.plan.specs.Faults.{oneForEachTask, isCalendars, symbolFault, taskFault, planFault, inputFault}
+use Rattle.plan.specs.Faults.{oneForEachTask, isCalendars, symbolFault, calendarsFault, countsFault, oneTaskFault, taskFault, tasksFault, planFault, inputFault}
 use Rattle.calendar.specs.Valid.{hoursOf, overtimeEnds, valid}
 use Rattle.calendar.specs.Triples.{each, over, lasting, starting, validTriples}
 use Rattle.calendar.specs.Rule.{spread, fitOf, ruleOf}
@@ -20,5 +20,5 @@ use Rattle.plan.specs.HourKinds.{isSymbol, isKind}
 use Rattle.steps.specs.Weeks.{weeks, outcomeOf, hoursHeld}
 
 pub weeks-come-out : map (λ w. outcomeOf (w .week)) weeks ≡ map (λ w. w .outcome) weeks
-unfolding _and_ if_then_else_ someIf onOption _orElse_ firstOf sumTo sumWhere countWhere within isPlanLength isHour isWorkTime isHeight isCapacity isCalendarCount isCalendarNumber isTaskCount isOvertime isRange isBox taskCount calendarCount firstSymbol calendarAt calendarOf workTimeOf heightOf heightsWhere boundsAt withBounds unless answerUnless oneForEachTask isCalendars isSymbol symbolFault taskFault planFault inputFault isKind hoursOf overtimeEnds valid each over lasting starting validTriples least greatest spread fitOf ruleOf oneTask oneBox calendarRule fitAt mustRun load othersLoad excess kindOf isStep onJudgement onFit sameBounds withEarliest withLatest judgeC judgeO judgeL judgeU judgeKind judge onAdmitted ifAdmitted firstByTask firstByHour firstByTaskHour next after run weeks outcomeOf hoursHeld
+unfolding _and_ if_then_else_ someIf onOption _orElse_ firstOf sumTo sumWhere countWhere within isPlanLength isHour isWorkTime isHeight isCapacity isCalendarCount isCalendarNumber isTaskCount isOvertime isRange isBox taskCount calendarCount firstSymbol calendarAt calendarOf workTimeOf heightOf heightsWhere boundsAt withBounds unless answerUnless oneForEachTask isCalendars isSymbol symbolFault calendarsFault countsFault oneTaskFault taskFault tasksFault planFault inputFault isKind hoursOf overtimeEnds valid each over lasting starting validTriples least greatest spread fitOf ruleOf oneTask oneBox calendarRule fitAt mustRun load othersLoad excess kindOf isStep onJudgement onFit sameBounds withEarliest withLatest judgeC judgeO judgeL judgeU judgeKind judge onAdmitted ifAdmitted firstByTask firstByHour firstByTaskHour next after run weeks outcomeOf hoursHeld
 weeks-come-out = refl

@@ -3,10 +3,11 @@ use mathlib.Core.Path.{_≡_, refl, ap₂, _∙_}
 use mathlib.Core.Bool.{Bool, true, false}
 use mathlib.Core.Option.{Option, none, some}
 use Prim.Native.Nat.{ℕ, _≤_, _<_}
+use native.Mathlib.Omega.{arith}
 use lib.Dec.{leb}
-use borrow.Author.Tests.{le-leb, lt-leb, leb-true, ltb-true}
+use borrow.Author.Tests.{le-leb, lt-leb, lt-ltb, leb-true, ltb-true}
 use Rattle.units.specs.Choice.{_and_, someIf, onOption}
-use Rattle.units.specs.Limits.{within, isHour, isWorkTime, isOvertime, isRange, isBox}
+use Rattle.units.specs.Limits.{within, isHour, isWorkTime, isOvertime, isRange, isBox, Boxed}
 use Rattle.units.specs.inner.Order.{inOrder}
 use Rattle.units.specs.declared.Bounds.{Bounds}
 use Rattle.units.proofs.Choices.{and-both, and-left, and-right, not-left, not-right}
@@ -120,17 +121,7 @@ module _ (h p : ℕ) (b : Bounds) where
   unfolding isBox
   not-overtimes e = not-right _ _ (not-right _ _ e)
 
-  -- what a box says of its bounds
-  pub record Boxed : Type 0 where
-    pub starts : b .earliest .0 ≤ b .latest .0
-    pub latest : b .latest .0 < h
-    pub shortest : 1 ≤ b .shortest .0
-    pub lengths : b .shortest .0 ≤ b .longest .0
-    pub longest : b .longest .0 ≤ h
-    pub overtimes : b .fewest .0 ≤ b .most .0
-    pub most : b .most .0 ≤ p
-
-  pub boxed : isBox h p b ≡ true → Boxed
+  pub boxed : isBox h p b ≡ true → Boxed h p b
   unfolding isBox isHour isWorkTime isOvertime
   boxed e =
       let s = and-left _ _ e in
@@ -145,3 +136,14 @@ module _ (h p : ℕ) (b : Bounds) where
         overtimes = in-order (isOvertime p) _ _ o;
         most = leb-true _ _ (upper-in (isOvertime p) _ _ o);
       }
+
+  pub is-boxed : Boxed h p b → isBox h p b ≡ true
+  unfolding isHour isWorkTime isOvertime
+  is-boxed x =
+      is-box
+      (is-range (isHour h) _ _ (lt-ltb _ h (omega (arith, x .starts, x .latest))) (lt-ltb _ _ (x .latest)) (x .starts))
+      (is-range (isWorkTime h) _ _
+      (is-within 1 h _ (x .shortest) (omega (arith, x .lengths, x .longest)))
+      (is-within 1 h _ (omega (arith, x .shortest, x .lengths)) (x .longest))
+      (x .lengths))
+      (is-range (isOvertime p) _ _ (le-leb _ p (omega (arith, x .overtimes, x .most))) (le-leb _ _ (x .most)) (x .overtimes))
