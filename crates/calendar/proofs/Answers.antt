@@ -5,28 +5,29 @@ use Prim.Native.Nat.{ℕ, suc, _+_, _-_, _≤_, _<_}
 use native.Mathlib.Omega.{arith}
 use Rattle.units.specs.Limits.{hour, duration}
 use Rattle.calendar.specs.Triples.{startOf, elapsedOf, overtimeOf, endOf, each, over}
-use Rattle.calendar.specs.Rule.{least, greatest, alone, spread, fitOf}
-use Rattle.calendar.specs.Scan.{join, joined, after}
+use Rattle.calendar.specs.Rule.{alone, spread, fitOf}
+use Rattle.calendar.specs.inner.Windows.{wider, withWindow, withTriples}
 use Rattle.calendar.specs.declared.Triple.{Triple}
 use Rattle.calendar.specs.declared.Window.{Window}
 use Rattle.calendar.specs.declared.Fit.{Fit}
 use Rattle.calendar.specs.declared.Fit.the-variants.{Never, Within}
-use Rattle.calendar.proofs.Extremes.{least-append, greatest-append, least-join, greatest-join}
+use Rattle.units.proofs.Extremes.{least-append, greatest-append, least-join, greatest-join}
+use Rattle.units.specs.Extremes.{least, greatest}
 
 spread-append : (w : Window) (ts us : List Triple) → spread w (ts ++ us) ≡ spread (spread w ts) us
 unfolding spread
 spread-append w ts us = simp (least-append, greatest-append)
 
-pub after-append : (fit : Fit) (ts us : List Triple) → after fit (ts ++ us) ≡ after (after fit ts) us
-unfolding after fitOf
-after-append Never [] us = refl
-after-append Never (t ∷ ts) us = ap Within (spread-append (alone t) ts us)
-after-append (Within w) ts us = ap Within (spread-append w ts us)
+pub with-both : (fit : Fit) (ts us : List Triple) → withTriples fit (ts ++ us) ≡ withTriples (withTriples fit ts) us
+unfolding withTriples fitOf
+with-both Never [] us = refl
+with-both Never (t ∷ ts) us = ap Within (spread-append (alone t) ts us)
+with-both (Within w) ts us = ap Within (spread-append w ts us)
 
-pub after-none : (fit : Fit) → after fit [] ≡ fit
-unfolding after fitOf spread least greatest
-after-none Never = refl
-after-none (Within w) = refl
+pub with-none : (fit : Fit) → withTriples fit [] ≡ fit
+unfolding withTriples fitOf spread least greatest
+with-none Never = refl
+with-none (Within w) = refl
 
 -- ---- over a range
 
@@ -44,18 +45,18 @@ module _ (lower upper : ℕ) (f : ℕ → List Triple) where
       rw e
 
 -- the answer with the first part of a range, and then with the rest
-pub after-step : (fit : Fit) (lower upper : ℕ) (f : ℕ → List Triple) → lower ≤ upper
-    → after fit (over lower upper f) ≡ after (after fit (f lower)) (over (lower + 1) upper f)
-after-step fit lower upper f h = rw (over-step lower upper f h) (after-append fit (f lower) (over (lower + 1) upper f))
+pub with-step : (fit : Fit) (lower upper : ℕ) (f : ℕ → List Triple) → lower ≤ upper
+    → withTriples fit (over lower upper f) ≡ withTriples (withTriples fit (f lower)) (over (lower + 1) upper f)
+with-step fit lower upper f h = rw (over-step lower upper f h) (with-both fit (f lower) (over (lower + 1) upper f))
 
-pub unmoved : (fit : Fit) {ts : List Triple} → ts ≡ [] → fit ≡ after fit ts
-unmoved fit h = rw h (sym (after-none fit))
+pub unmoved : (fit : Fit) {ts : List Triple} → ts ≡ [] → fit ≡ withTriples fit ts
+unmoved fit h = rw h (sym (with-none fit))
 
 -- ---- with the triples of a list whose window is known
 
-spread-join : (w : Window) (t : Triple) (ts : List Triple) → spread w (t ∷ ts) ≡ join w (spread (alone t) ts)
+spread-wider : (w : Window) (t : Triple) (ts : List Triple) → spread w (t ∷ ts) ≡ wider w (spread (alone t) ts)
 unfolding spread least greatest
-spread-join w t ts =
+spread-wider w t ts =
     λ i. record {
       bounds =
           record {
@@ -70,8 +71,8 @@ spread-join w t ts =
       lct = hour (greatest-join endOf (w .lct .0) (endOf t) ts i);
     }
 
-pub after-joined : (fit : Fit) (ts : List Triple) (v : Window) → fitOf ts ≡ Within v → after fit ts ≡ joined fit v
-unfolding after fitOf
-after-joined Never ts v e = e
-after-joined (Within w) [] v e = absurd (let z : _≡_ {A = ℕ} 0 1 = cc in omega arith)
-after-joined (Within w) (t ∷ ts) v e = let q : spread (alone t) ts ≡ v = cc in ap Within (spread-join w t ts ∙ ap (join w) q)
+pub with-window-of : (fit : Fit) (ts : List Triple) (v : Window) → fitOf ts ≡ Within v → withTriples fit ts ≡ withWindow fit v
+unfolding withTriples fitOf
+with-window-of Never ts v e = e
+with-window-of (Within w) [] v e = absurd (let z : _≡_ {A = ℕ} 0 1 = cc in omega arith)
+with-window-of (Within w) (t ∷ ts) v e = let q : spread (alone t) ts ≡ v = cc in ap Within (spread-wider w t ts ∙ ap (wider w) q)

@@ -7,23 +7,14 @@ use native.Mathlib.Nat.{add-zero}
 use native.Mathlib.Numerals.{add-one}
 use native.Mathlib.Decide.{le-ind}
 use native.Mathlib.Omega.{arith}
-use lib.ListN.{getD}
-use mir.Syntax.{w16}
-use mir.Val.{Fits}
 use Rattle.units.specs.Limits.{mostHours}
 use Rattle.units.specs.Sums.{sumTo, oneIf, countWhere}
+use Rattle.units.proofs.Summing.{one-le}
 use Rattle.plan.specs.Plan.{regular, overtime}
-use Rattle.calendar.specs.Valid.{isKind, hoursOf}
-use Rattle.calendar.specs.Scan.{countsOf, counted}
+use Rattle.plan.specs.HourKinds.{isKind}
+use Rattle.calendar.specs.Valid.{hoursOf}
+use Rattle.calendar.specs.inner.Stretches.{countsOf, withHour}
 use Rattle.calendar.specs.declared.Counts.{Counts}
-
-pub one-le : (b : Bool) → oneIf b ≤ 1
-one-le true = omega arith
-one-le false = omega arith
-
--- a count of at most one hour and another fit together
-pub ones-fit : (x y : ℕ) (a b : Bool) → x ≡ oneIf a → y ≡ oneIf b → Fits w16 (x + y)
-ones-fit x y a b p q = omega (arith, one-le a, one-le b)
 
 module _ (kind : ℕ) (cal : List ℕ) (s : ℕ) where
   pub hours-more : (n : ℕ) → hoursOf kind cal s (n + 1) ≡ hoursOf kind cal s n + oneIf (isKind kind cal (s + n))
@@ -55,16 +46,18 @@ hours-first kind cal s (suc n) =
     rw m (omega (arith, hours-more kind cal s (n + 1), hours-more kind cal (s + 1) n, hours-first kind cal s n, last))
 
 -- counts that are those of [s, s + k)
-module _ (cal : List ℕ) (s k : ℕ) (n : Counts) (is : n ≡ countsOf cal s k) where
+module _ (cal : List ℕ) (s k : ℕ) (n : Counts) (are : n ≡ countsOf cal s k) where
   pub regulars : n .regular ≡ hoursOf regular cal s k
-  regulars = ap (λ (m : Counts). m .regular) is
+  regulars = ap (λ (m : Counts). m .regular) are
 
   pub overtimes : n .overtime ≡ hoursOf overtime cal s k
-  overtimes = ap (λ (m : Counts). m .overtime) is
+  overtimes = ap (λ (m : Counts). m .overtime) are
 
-  pub counts-small : k < mostHours → (n .regular < mostHours) × (n .overtime < mostHours)
-  counts-small h = omega (arith, regulars, overtimes, hours-le regular cal s k, hours-le overtime cal s k)
+  pub regulars-le : n .regular ≤ k
+  regulars-le = omega (arith, regulars, hours-le regular cal s k)
 
-  pub counts-more : counted n (getD cal (s + k) 0) ≡ countsOf cal s (k + 1)
-  unfolding isKind
-  counts-more = simp (is, hours-more)
+  pub overtimes-le : n .overtime ≤ k
+  overtimes-le = omega (arith, overtimes, hours-le overtime cal s k)
+
+  pub counts-more : withHour n cal (s + k) ≡ countsOf cal s (k + 1)
+  counts-more = simp (are, hours-more)

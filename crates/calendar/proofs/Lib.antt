@@ -1,7 +1,6 @@
 pub mod Counting
 pub mod Stretches
 pub mod Validity
-pub mod Extremes
 pub mod Answers
 pub mod Members
 pub mod Starts

@@ -16,7 +16,7 @@ use Rattle.calendar.specs.declared.Fit.the-variants.{Never, Within}
 use Rattle.calendar.specs.Valid.{valid}
 use Rattle.calendar.specs.Triples.{triple, startOf, elapsedOf, overtimeOf, endOf, validTriple, inBounds, each, over, keepIf, lasting, starting, validTriples}
 use Rattle.calendar.specs.Rule.{alone, spread, fitOf, ruleOf, ect, lct}
-use Rattle.calendar.proofs.Extremes.{Attained, least-bounds, greatest-bounds, least-attained, greatest-attained, above-least, below-greatest, least-is, greatest-is, least-to-greatest}
+use Rattle.units.proofs.Extremes.{Attained, least-bounds, greatest-bounds, least-attained, greatest-attained, above-least, below-greatest, least-is, greatest-is, least-to-greatest}
 
 -- ---- a triple lies in a box
 

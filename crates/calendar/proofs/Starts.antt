@@ -12,36 +12,28 @@ use Rattle.units.specs.Choice.{if_then_else_}
 use Rattle.units.specs.Limits.{mostHours}
 use Rattle.units.specs.Sums.{oneIf}
 use Rattle.units.specs.declared.Bounds.{Bounds}
-use Rattle.units.proofs.Choices.{if-true, if-false}
+use Rattle.units.proofs.Choices.{if-true, if-false, true≢false, untrue}
 use Rattle.plan.specs.Plan.{regular, closed, overtime}
-use Rattle.plan.specs.Faults.{isSymbol}
+use Rattle.plan.specs.HourKinds.{isKind}
+use Rattle.plan.proofs.HourKinds.{open-works}
 use Rattle.calendar.specs.declared.Stretch.{Stretch}
 use Rattle.calendar.specs.declared.Triple.{Triple}
 use Rattle.calendar.specs.declared.Fit.the-variants.{Within}
-use Rattle.calendar.specs.Valid.{isKind, hoursOf, overtimeEnds}
+use Rattle.calendar.specs.Valid.{hoursOf, overtimeEnds}
 use Rattle.calendar.specs.Triples.{triple, elapsedOf, overtimeOf, starting}
 use Rattle.calendar.specs.Rule.{fitOf}
-use Rattle.calendar.specs.Scan.{empty, stopsAt, lengthened, AllSymbols, openLength, stretchOf, mayEnd, mayLast, Reaches, windowFrom}
+use Rattle.calendar.specs.inner.Stretches.{IsStretch, AllSymbols, RuleReady, Reaches, noHours, openLength, stretchOf, mayEnd, mayLast, stopsAt, lengthened}
+use Rattle.calendar.specs.inner.Windows.{WindowReady, windowFrom}
 use Rattle.calendar.proofs.Counting.{hours-more, hours-none, hours-first, hours-mono, regulars}
 use Rattle.calendar.proofs.Validity.{Valid, valid-facts, facts-valid}
-use Rattle.calendar.proofs.Stretches.{true≢false, untrue, regular-le, overtime-le, open-le, open-regular, open-last, open-past, open-itself, last-is, counts-are, MayEnd, may-end, ends-may, MayLast, may-last, lasts-may, last-shorter, no-stretch, own-hours, own-stretch, long-inside, long-none, long-holds, end-next, last-next}
+use Rattle.calendar.proofs.Stretches.{open-le, open-regular, open-last, open-past, open-itself, last-is, counts-are, MayEnd, may-end, ends-may, MayLast, may-last, lasts-may, last-shorter, no-stretch, own-hours, own-stretch, long-inside, long-none, long-holds, end-next, last-next}
 use Rattle.calendar.proofs.Members.{Held, fit-is, Starting, has-starting, only-starting, no-members}
 
 -- ---- the hours at both ends
 
--- an open hour is regular or overtime
-open-works : (n : ℕ) → isSymbol n ≡ true → eqb n closed ≡ false → oneIf (eqb n regular) + oneIf (eqb n overtime) ≡ 1
-unfolding isSymbol
-open-works n h c = go (eqb n regular) refl
-  where
-    go : (r : Bool) → eqb n regular ≡ r → oneIf (eqb n regular) + oneIf (eqb n overtime) ≡ 1
-    go true q = let m : n ≡ regular = eqb-true n regular q in rw m
-    go false q = let o : eqb n overtime ≡ true = sym (if-false _ _ _ c) ∙ sym (if-false _ _ _ q) ∙ h in rw (q, o)
-
 module _ (cal : List ℕ) (s : ℕ) (symbols : AllSymbols cal) where
   hour-works : (t : ℕ) → t < length cal → isKind closed cal t ≡ false → oneIf (isKind regular cal t) + oneIf (isKind overtime cal t) ≡ 1
-  unfolding isKind
-  hour-works t l h = open-works (getD cal t 0) (symbols t l) h
+  hour-works t l h = open-works cal t (symbols t l) h
 
   -- the regular hours and the overtime hours at the ends are the regular hours between the ends, and the ends
   worked-ends : (e : ℕ) → 1 ≤ e → s + e ≤ length cal → isKind closed cal s ≡ false → isKind closed cal (s + e - 1) ≡ false
@@ -129,145 +121,146 @@ module _ (cal : List ℕ) (p : ℕ) (b : Bounds) (s : ℕ) where
   pub none-closed : isKind closed cal s ≡ true → starting cal p b s ≡ []
   none-closed c = no-members _ (λ t m. true≢false c (valid-start t (only-starting cal p b s t m) .first-open))
 
-  module _ (some : 1 ≤ b .shortest .0) (symbols : AllSymbols cal) (shortest longest : Stretch) (R : Reaches cal p b s shortest longest) where
-    -- each lasts from the one to the other
-    from-shortest : (t : Triple) → Starting cal p b s t → shortest .hours .0 ≤ elapsedOf t
-    from-shortest t h = go (decLe (shortest .hours .0) (elapsedOf t))
+module _ {cal : List ℕ} {p : ℕ} {b : Bounds} {s : ℕ} {shortest longest : Stretch} (R : Reaches cal p b s shortest longest) where
+  symbols : AllSymbols cal
+  symbols = R .ready .symbols
+
+  -- each lasts from the one to the other
+  from-shortest : (t : Triple) → Starting cal p b s t → shortest .hours .0 ≤ elapsedOf t
+  from-shortest t h = go (decLe (shortest .hours .0) (elapsedOf t))
+    where
+      go : Dec (shortest .hours .0 ≤ elapsedOf t) → shortest .hours .0 ≤ elapsedOf t
+      go (yes l) = l
+      go (no l) =
+          true≢false (ends-may _ _ _ (valid-ends cal p b s symbols t h (valid-start cal p b s t h))) (R .none-before (elapsedOf t) (omega arith))
+
+  to-longest : (t : Triple) → Starting cal p b s t → elapsedOf t ≤ longest .last .0
+  to-longest t h =
+      let v = valid-start cal p b s t h in
+      let inside = go v (decLe (elapsedOf t) (longest .hours .0)) in
+      omega (arith, last-is (R .is-longest), open-past cal s (elapsedOf t) (longest .hours .0) (v .lasts) inside (v .last-open))
+    where
+      go : Valid cal p s (elapsedOf t) (overtimeOf t) → Dec (elapsedOf t ≤ longest .hours .0) → elapsedOf t ≤ longest .hours .0
+      go v (yes l) = l
+      go v (no l) =
+          true≢false (lasts-may cal p b s (elapsedOf t) (valid-lasts cal p b s symbols t h v)) (R .none-after (elapsedOf t) (omega arith) (v .ends))
+
+  pub none-between : longest .last .0 < shortest .hours .0 → starting cal p b s ≡ []
+  none-between l = no-members _ (λ t m. let h = only-starting cal p b s t m in omega (arith, from-shortest t h, to-longest t h))
+
+  -- where the shortest is no end, the calendar ends with it, so that none lasts longer
+  pub none-ends : mayEnd p b shortest ≡ false → starting cal p b s ≡ []
+  none-ends n = no-members _ (λ t m. go t (only-starting cal p b s t m))
+    where
+      go : (t : Triple) → Starting cal p b s t → ⊥
+      go t h =
+          let v = valid-start cal p b s t h in
+          let q : elapsedOf t ≡ shortest .hours .0 = omega (arith, from-shortest t h, v .ends, R .at-the-end n) in
+          let ends = ends-may p b (stretchOf cal s (elapsedOf t)) (valid-ends cal p b s symbols t h v) in
+          true≢false (ap (mayEnd p b) (R .is-shortest .is ∙ ap (stretchOf cal s) (sym q)) ∙ ends) n
+
+  -- else both are valid, and the window is theirs
+  module _ (open-start : isKind closed cal s ≡ false) (ends : mayEnd p b shortest ≡ true) (between : shortest .hours .0 ≤ longest .last .0) where
+    is-last : longest .last .0 ≡ openLength cal s (longest .hours .0)
+    is-last = last-is (R .is-longest)
+
+    longest-in : longest .last .0 ≤ longest .hours .0
+    longest-in = omega (arith, is-last, open-le cal s (longest .hours .0))
+
+    shortest-ends : MayEnd p b (stretchOf cal s (shortest .hours .0))
+    shortest-ends = may-end p b _ (ap (mayEnd p b) (sym (R .is-shortest .is)) ∙ ends)
+
+    some-hours : 1 ≤ shortest .hours .0
+    some-hours = omega (arith, shortest-ends .shortest, R .ready .shortest)
+
+    -- a kind's hours up to the shortest end are no more than those up to the longest
+    more-of : (kind : ℕ) → hoursOf kind cal s (shortest .hours .0) ≤ hoursOf kind cal s (longest .last .0)
+    more-of kind = hours-mono kind cal s (shortest .hours .0) (longest .last .0) between
+
+    longest-ends : MayEnd p b (stretchOf cal s (longest .last .0))
+    longest-ends =
+        record {
+          shortest = omega (arith, shortest-ends .shortest);
+          works = omega (arith, shortest-ends .works, more-of regular, more-of overtime);
+          goes = open-itself cal s (longest .last .0) (omega (arith, some-hours)) last-open;
+          most = omega (arith, shortest-ends .most, more-of regular);
+        }
       where
-        go : Dec (shortest .hours .0 ≤ elapsedOf t) → shortest .hours .0 ≤ elapsedOf t
-        go (yes l) = l
-        go (no l) =
-            true≢false (ends-may _ _ _ (valid-ends cal p b s symbols t h (valid-start t h))) (R .none-before (elapsedOf t) (omega arith))
+        last-open : isKind closed cal (s + longest .last .0 - 1) ≡ false
+        last-open = rw is-last (open-last cal s (longest .hours .0) (omega (arith, is-last, some-hours)))
 
-    to-longest : (t : Triple) → Starting cal p b s t → elapsedOf t ≤ longest .last .0
-    to-longest t h =
-        let v = valid-start t h in
-        omega (arith, last-is cal s longest (R .is-longest), open-past cal s (elapsedOf t) (longest .hours .0) (v .lasts) (go v (decLe (elapsedOf t) (longest .hours .0))) (v .last-open))
-      where
-        go : Valid cal p s (elapsedOf t) (overtimeOf t) → Dec (elapsedOf t ≤ longest .hours .0) → elapsedOf t ≤ longest .hours .0
-        go v (yes l) = l
-        go v (no l) =
-            true≢false (lasts-may cal p b s (elapsedOf t) (valid-lasts cal p b s symbols t h v)) (R .none-after (elapsedOf t) (omega arith) (v .ends))
+    lasting-start : (e : ℕ) → 1 ≤ e → e ≤ longest .hours .0 → MayEnd p b (stretchOf cal s e)
+        → Starting cal p b s (triple s e (p - hoursOf regular cal s e))
+    lasting-start e l u m =
+        let n = may-last cal p b s e (R .lasts e l u) in
+        record {
+          start = refl;
+          shortest = m .shortest;
+          longest = n .longest;
+          fewest = omega (arith, n .fewest);
+          most = omega (arith, m .most);
+          is-valid = facts-valid cal p s e _ (tests-valid cal p b s symbols e l (omega (arith, R .is-longest .hours .inside)) open-start m n);
+        }
 
-    pub none-between : longest .last .0 < shortest .hours .0 → starting cal p b s ≡ []
-    none-between l = no-members _ (λ t m. let h = only-starting cal p b s t m in omega (arith, from-shortest t h, to-longest t h))
+    shortest-start : Starting cal p b s (triple s (shortest .hours .0) (p - hoursOf regular cal s (shortest .hours .0)))
+    shortest-start = lasting-start (shortest .hours .0) some-hours (omega (arith, longest-in)) shortest-ends
 
-    -- where the shortest is no end, the calendar ends with it, so that none lasts longer
-    pub none-ends : mayEnd p b shortest ≡ false → starting cal p b s ≡ []
-    none-ends n = no-members _ (λ t m. go t (only-starting cal p b s t m))
-      where
-        go : (t : Triple) → Starting cal p b s t → ⊥
-        go t h =
-            let v = valid-start t h in
-            let q : elapsedOf t ≡ shortest .hours .0 = omega (arith, from-shortest t h, v .ends, R .at-the-end n) in
-            let ends = ends-may p b (stretchOf cal s (elapsedOf t)) (valid-ends cal p b s symbols t h v) in
-            true≢false (ap (mayEnd p b) (R .is-shortest ∙ ap (stretchOf cal s) (sym q)) ∙ ends) n
+    longest-start : Starting cal p b s (triple s (longest .last .0) (p - hoursOf regular cal s (longest .last .0)))
+    longest-start = lasting-start (longest .last .0) (omega (arith, some-hours)) longest-in longest-ends
 
-    -- what the test of the shortest asks
-    pub end-asks : length cal ≤ mostHours → (shortest .counts .regular ≤ mostHours) × (shortest .counts .overtime ≤ mostHours)
-    end-asks l = (
-      omega (arith, regular-le cal s shortest (R .is-shortest), R .shortest-inside),
-      omega (arith, overtime-le cal s shortest (R .is-shortest), R .shortest-inside),
-    )
+    shortest-regular : shortest .counts .regular ≡ hoursOf regular cal s (shortest .hours .0)
+    shortest-regular = regulars cal s _ _ (counts-are (R .is-shortest))
 
-    -- else both are valid, and the window is theirs
-    module _ (open-start : isKind closed cal s ≡ false) (ends : mayEnd p b shortest ≡ true) (between : shortest .hours .0 ≤ longest .last .0) where
-      longest-in : longest .last .0 ≤ longest .hours .0
-      longest-in = omega (arith, last-is cal s longest (R .is-longest), open-le cal s (longest .hours .0))
+    longest-regular : longest .counts .regular ≡ hoursOf regular cal s (longest .last .0)
+    longest-regular =
+        regulars cal s _ _ (counts-are (R .is-longest)) ∙ sym (open-regular cal s (longest .hours .0)) ∙ ap (hoursOf regular cal s) (sym is-last)
 
-      shortest-ends : MayEnd p b (stretchOf cal s (shortest .hours .0))
-      shortest-ends = may-end p b _ (ap (mayEnd p b) (sym (R .is-shortest)) ∙ ends)
+    pub window-ready : WindowReady p s shortest longest
+    window-ready =
+        let short = may-last cal p b s (shortest .hours .0) (R .lasts _ some-hours (omega (arith, longest-in))) in
+        let long = may-last cal p b s (longest .last .0) (R .lasts _ (omega (arith, some-hours)) longest-in) in
+        let end = R .is-longest .hours in
+        record {
+          ect = omega (arith, end .inside, end .short, longest-in);
+          lct = omega (arith, end .inside, end .short, longest-in);
+          most = omega (arith, shortest-regular, short .fewest);
+          fewest = omega (arith, longest-regular, long .fewest);
+        }
 
-      some-hours : 1 ≤ shortest .hours .0
-      some-hours = omega (arith, shortest-ends .shortest)
+    held : (t : Triple) → Starting cal p b s t → Held (windowFrom p s shortest longest) t
+    held t h =
+        let v = valid-start cal p b s t h in
+        let low = from-shortest t h in
+        let high = to-longest t h in
+        record {
+          inside =
+              record {
+                earliest = omega (arith, h .start);
+                latest = omega (arith, h .start);
+                shortest = low;
+                longest = high;
+                fewest = omega (arith, v .works, longest-regular, hours-mono regular cal s (elapsedOf t) (longest .last .0) high);
+                most = omega (arith, v .works, shortest-regular, hours-mono regular cal s (shortest .hours .0) (elapsedOf t) low);
+              };
+          ect = omega (arith, h .start);
+          lct = omega (arith, h .start);
+        }
 
-      longest-ends : MayEnd p b (stretchOf cal s (longest .last .0))
-      longest-ends =
-          record {
-            shortest = omega (arith, shortest-ends .shortest);
-            works =
-                omega (
-                  arith,
-                  shortest-ends .works,
-                  hours-mono regular cal s (shortest .hours .0) (longest .last .0) between,
-                  hours-mono overtime cal s (shortest .hours .0) (longest .last .0) between,
-                );
-            goes = open-itself cal s (longest .last .0) (omega (arith, some-hours)) (rw is-last (open-last cal s (longest .hours .0) (omega (arith, is-last, some-hours))));
-            most = omega (arith, shortest-ends .most, hours-mono regular cal s (shortest .hours .0) (longest .last .0) between);
-          }
-        where
-          is-last : longest .last .0 ≡ openLength cal s (longest .hours .0)
-          is-last = last-is cal s longest (R .is-longest)
-
-      lasting-start : (e : ℕ) → 1 ≤ e → e ≤ longest .hours .0 → MayEnd p b (stretchOf cal s e) → Starting cal p b s (triple s e (p - hoursOf regular cal s e))
-      lasting-start e l u m =
-          let n = may-last cal p b s e (R .lasts e l u) in
-          record {
-            start = refl;
-            shortest = m .shortest;
-            longest = n .longest;
-            fewest = omega (arith, n .fewest);
-            most = omega (arith, m .most);
-            is-valid = facts-valid cal p s e _ (tests-valid cal p b s symbols e l (omega (arith, R .longest-inside)) open-start m n);
-          }
-
-      shortest-start : Starting cal p b s (triple s (shortest .hours .0) (p - hoursOf regular cal s (shortest .hours .0)))
-      shortest-start = lasting-start (shortest .hours .0) some-hours (omega (arith, longest-in)) shortest-ends
-
-      longest-start : Starting cal p b s (triple s (longest .last .0) (p - hoursOf regular cal s (longest .last .0)))
-      longest-start = lasting-start (longest .last .0) (omega (arith, some-hours)) longest-in longest-ends
-
-      shortest-regular : shortest .counts .regular ≡ hoursOf regular cal s (shortest .hours .0)
-      shortest-regular = regulars cal s _ _ (counts-are cal s shortest (R .is-shortest))
-
-      longest-regular : longest .counts .regular ≡ hoursOf regular cal s (longest .last .0)
-      longest-regular =
-          regulars cal s _ _ (counts-are cal s longest (R .is-longest))
-          ∙ sym (open-regular cal s (longest .hours .0))
-          ∙ ap (hoursOf regular cal s) (sym (last-is cal s longest (R .is-longest)))
-
-      -- what the window's code asks
-      pub window-asks : length cal ≤ mostHours
-          → (s + shortest .hours .0 ≤ mostHours) × (s + longest .last .0 ≤ mostHours) × (shortest .counts .regular ≤ p) × (longest .counts .regular ≤ p)
-      window-asks l =
-          let short = may-last cal p b s (shortest .hours .0) (R .lasts _ some-hours (omega (arith, longest-in))) in
-          let long = may-last cal p b s (longest .last .0) (R .lasts _ (omega (arith, some-hours)) longest-in) in
-          (omega (arith, R .longest-inside, longest-in), omega (arith, R .longest-inside, longest-in), omega (arith, shortest-regular, short .fewest), omega (arith, longest-regular, long .fewest))
-
-      held : (t : Triple) → Starting cal p b s t → Held (windowFrom p s shortest longest) t
-      held t h =
-          let v = valid-start t h in
-          let low = from-shortest t h in
-          let high = to-longest t h in
-          record {
-            inside =
-                record {
-                  earliest = omega (arith, h .start);
-                  latest = omega (arith, h .start);
-                  shortest = low;
-                  longest = high;
-                  fewest = omega (arith, v .works, longest-regular, hours-mono regular cal s (elapsedOf t) (longest .last .0) high);
-                  most = omega (arith, v .works, shortest-regular, hours-mono regular cal s (shortest .hours .0) (elapsedOf t) low);
-                };
-            ect = omega (arith, h .start);
-            lct = omega (arith, h .start);
-          }
-
-      pub window-is : fitOf (starting cal p b s) ≡ Within (windowFrom p s shortest longest)
-      window-is =
-          let low = has-starting cal p b s _ shortest-start in
-          let high = has-starting cal p b s _ longest-start in
-          fit-is _ _ (λ t m. held t (only-starting cal p b s t m))
-          (record {
-            earliest = record { witness = _; member = low; value = refl };
-            latest = record { witness = _; member = low; value = refl };
-            shortest = record { witness = _; member = low; value = refl };
-            longest = record { witness = _; member = high; value = refl };
-            fewest = record { witness = _; member = high; value = ap (_-_ p) (sym longest-regular) };
-            most = record { witness = _; member = low; value = ap (_-_ p) (sym shortest-regular) };
-            ect = record { witness = _; member = low; value = refl };
-            lct = record { witness = _; member = high; value = refl };
-          })
+    pub window-is : fitOf (starting cal p b s) ≡ Within (windowFrom p s shortest longest)
+    window-is =
+        let low = has-starting cal p b s _ shortest-start in
+        let high = has-starting cal p b s _ longest-start in
+        fit-is _ _ (λ t m. held t (only-starting cal p b s t m))
+        (record {
+          earliest = record { witness = _; member = low; value = refl };
+          latest = record { witness = _; member = low; value = refl };
+          shortest = record { witness = _; member = low; value = refl };
+          longest = record { witness = _; member = high; value = refl };
+          fewest = record { witness = _; member = high; value = ap (_-_ p) (sym longest-regular) };
+          most = record { witness = _; member = low; value = ap (_-_ p) (sym shortest-regular) };
+          ect = record { witness = _; member = low; value = refl };
+          lct = record { witness = _; member = high; value = refl };
+        })
 
 -- ---- from one start to the next
 
@@ -281,7 +274,7 @@ module _ (cal : List ℕ) (p : ℕ) (b : Bounds) (s e : ℕ) where
   at-stop-longest true h = not-true _ h
   at-stop-longest false h = not-false _ h
 
--- what two stretches from s on hold before they are lengthened
+-- what two stretches from s on hold before they are lengthened; s may lie past the calendar's end
 pub record Carried (cal : List ℕ) (p : ℕ) (b : Bounds) (s : ℕ) (shortest longest : Stretch) : Type 0 where
   pub is-shortest : shortest ≡ stretchOf cal s (shortest .hours .0)
   pub is-longest : longest ≡ stretchOf cal s (longest .hours .0)
@@ -290,75 +283,107 @@ pub record Carried (cal : List ℕ) (p : ℕ) (b : Bounds) (s : ℕ) (shortest l
   pub none-before : (e : ℕ) → e < shortest .hours .0 → mayEnd p b (stretchOf cal s e) ≡ false
   pub lasts : (e : ℕ) → 1 ≤ e → e ≤ longest .hours .0 → mayLast cal p b s e ≡ true
 
-module _ (cal : List ℕ) (p : ℕ) (b : Bounds) (s : ℕ) where
-  pub carried-first : (shortest longest : Stretch) → shortest ≡ empty → longest ≡ empty → Carried cal p b s shortest longest
-  carried-first shortest longest short long =
-      rw (short, long)
-      (record {
-        is-shortest = no-stretch cal s;
-        is-longest = no-stretch cal s;
-        shortest-inside = omega arith;
-        longest-inside = omega arith;
-        none-before = λ e l. absurd (omega arith);
-        lasts = λ e l u. absurd (omega arith);
-      })
+pub carried-first : {cal : List ℕ} {p : ℕ} {b : Bounds} {s : ℕ} (shortest longest : Stretch) → shortest ≡ noHours → longest ≡ noHours
+    → Carried cal p b s shortest longest
+carried-first {cal} {s = s} shortest longest short long =
+    rw (short, long)
+    (record {
+      is-shortest = no-stretch cal s;
+      is-longest = no-stretch cal s;
+      shortest-inside = omega arith;
+      longest-inside = omega arith;
+      none-before = λ e l. absurd (omega arith);
+      lasts = λ e l u. absurd (omega arith);
+    })
+
+-- the rule's loop at a start within the box
+module _ {cal : List ℕ} {p : ℕ} {b : Bounds} {s : ℕ} {shortest longest : Stretch} (ready : RuleReady cal b) (start : s ≤ b .latest .0)
+    (c : Carried cal p b s shortest longest) where
+  inside : s < length cal
+  inside = omega (arith, ready .latest)
+
+  pub shortest-stretch : IsStretch cal s shortest
+  shortest-stretch = record { hours = record { inside = omega (arith, c .shortest-inside, inside); short = ready .short }; is = c .is-shortest }
+
+  pub longest-stretch : IsStretch cal s longest
+  longest-stretch = record { hours = record { inside = omega (arith, c .longest-inside, inside); short = ready .short }; is = c .is-longest }
 
   -- lengthened, the one is the shortest end and the other the longest time
-  pub carried-on : s ≤ length cal → (shortest longest short long : Stretch) → Carried cal p b s shortest longest
-      → short ≡ stretchOf cal s (lengthened cal s (stopsAt cal p b s true) (shortest .hours .0))
-      → long ≡ stretchOf cal s (lengthened cal s (stopsAt cal p b s false) (longest .hours .0))
-      → Reaches cal p b s short long
-  carried-on start shortest longest short long c is-short is-long =
-      record {
-        is-shortest = own-stretch cal s _ short is-short;
-        is-longest = own-stretch cal s _ long is-long;
-        shortest-inside = omega (arith, short-hours, long-inside cal s (stopsAt cal p b s true) (shortest .hours .0) (omega (arith, c .shortest-inside)));
-        longest-inside = omega (arith, long-hours, long-inside cal s (stopsAt cal p b s false) (longest .hours .0) (omega (arith, c .longest-inside)));
-        none-before = λ e l. before e l (decLe (shortest .hours .0) e);
-        at-the-end = λ n. at-end n (decLe (length cal) (s + short .hours .0));
-        lasts = λ e l u. up-to e l u (decLe e (longest .hours .0));
-        none-after = past;
-      }
-    where
-      short-hours : short .hours .0 ≡ lengthened cal s (stopsAt cal p b s true) (shortest .hours .0)
-      short-hours = own-hours cal s _ short is-short
+  module _ (short long : Stretch)
+      (is-short : short ≡ stretchOf cal s (lengthened cal s (stopsAt cal p b s true) (shortest .hours .0)))
+      (is-long : long ≡ stretchOf cal s (lengthened cal s (stopsAt cal p b s false) (longest .hours .0))) where
+    short-hours : short .hours .0 ≡ lengthened cal s (stopsAt cal p b s true) (shortest .hours .0)
+    short-hours = own-hours cal s _ short is-short
 
-      long-hours : long .hours .0 ≡ lengthened cal s (stopsAt cal p b s false) (longest .hours .0)
-      long-hours = own-hours cal s _ long is-long
+    long-hours : long .hours .0 ≡ lengthened cal s (stopsAt cal p b s false) (longest .hours .0)
+    long-hours = own-hours cal s _ long is-long
 
-      before : (e : ℕ) → e < short .hours .0 → Dec (shortest .hours .0 ≤ e) → mayEnd p b (stretchOf cal s e) ≡ false
-      before e l (yes h) = at-stop-shortest cal p b s e (long-none cal s (stopsAt cal p b s true) (shortest .hours .0) e h (omega (arith, short-hours)))
-      before e l (no h) = c .none-before e (omega arith)
+    before : (e : ℕ) → e < short .hours .0 → Dec (shortest .hours .0 ≤ e) → mayEnd p b (stretchOf cal s e) ≡ false
+    before e l (yes h) =
+        at-stop-shortest cal p b s e (long-none cal s (stopsAt cal p b s true) (shortest .hours .0) e h (omega (arith, short-hours)))
+    before e l (no h) = c .none-before e (omega arith)
 
-      at-end : mayEnd p b short ≡ false → Dec (length cal ≤ s + short .hours .0) → length cal ≤ s + short .hours .0
-      at-end n (yes h) = h
-      at-end n (no h) =
-          let stop = long-holds cal s (stopsAt cal p b s true) (shortest .hours .0) (omega (arith, short-hours)) in
-          true≢false (ap (mayEnd p b) is-short ∙ at-stop-shortest cal p b s _ stop) n
+    at-end : mayEnd p b short ≡ false → Dec (length cal ≤ s + short .hours .0) → length cal ≤ s + short .hours .0
+    at-end n (yes h) = h
+    at-end n (no h) =
+        let stop = long-holds cal s (stopsAt cal p b s true) (shortest .hours .0) (omega (arith, short-hours)) in
+        true≢false (ap (mayEnd p b) is-short ∙ at-stop-shortest cal p b s _ stop) n
 
-      up-to : (e : ℕ) → 1 ≤ e → e ≤ long .hours .0 → Dec (e ≤ longest .hours .0) → mayLast cal p b s e ≡ true
-      up-to e l u (yes h) = c .lasts e l h
-      up-to e l u (no h) =
-          let q : e - 1 + 1 ≡ e = omega arith in
-          let none = long-none cal s (stopsAt cal p b s false) (longest .hours .0) (e - 1) (omega arith) (omega (arith, long-hours)) in
-          rw q at (at-stop-longest cal p b s (e - 1) false none)
+    up-to : (e : ℕ) → 1 ≤ e → e ≤ long .hours .0 → Dec (e ≤ longest .hours .0) → mayLast cal p b s e ≡ true
+    up-to e l u (yes h) = c .lasts e l h
+    up-to e l u (no h) =
+        let q : e - 1 + 1 ≡ e = omega arith in
+        let none = long-none cal s (stopsAt cal p b s false) (longest .hours .0) (e - 1) (omega arith) (omega (arith, long-hours)) in
+        rw q at (at-stop-longest cal p b s (e - 1) false none)
 
-      past : (e : ℕ) → long .hours .0 < e → s + e ≤ length cal → mayLast cal p b s e ≡ false
-      past e l u =
-          let stop = long-holds cal s (stopsAt cal p b s false) (longest .hours .0) (omega (arith, long-hours)) in
-          let next : mayLast cal p b s (long .hours .0 + 1) ≡ false = rw (← long-hours) at (at-stop-longest cal p b s _ true stop) in
-          untrue _ _ (λ h. lasts-may cal p b s (long .hours .0 + 1) (last-shorter cal p b s e (long .hours .0 + 1) (omega arith) (may-last cal p b s e h))) next
+    past : (e : ℕ) → long .hours .0 < e → s + e ≤ length cal → mayLast cal p b s e ≡ false
+    past e l u =
+        let stop = long-holds cal s (stopsAt cal p b s false) (longest .hours .0) (omega (arith, long-hours)) in
+        let next : mayLast cal p b s (long .hours .0 + 1) ≡ false = rw (← long-hours) at (at-stop-longest cal p b s _ true stop) in
+        let shorter = last-shorter cal p b s e (long .hours .0 + 1) (omega arith) in
+        untrue _ _ (λ h. lasts-may cal p b s (long .hours .0 + 1) (shorter (may-last cal p b s e h))) next
 
-  -- and without their first hour they hold the same of the next start
-  pub carried-next : 1 ≤ b .shortest .0 → (shortest longest short long : Stretch) → Reaches cal p b s shortest longest
-      → short ≡ stretchOf cal (s + 1) (shortest .hours .0 - 1) → long ≡ stretchOf cal (s + 1) (longest .hours .0 - 1)
-      → Carried cal p b (s + 1) short long
-  carried-next some shortest longest short long R is-short is-long =
-      record {
-        is-shortest = own-stretch cal (s + 1) _ short is-short;
-        is-longest = own-stretch cal (s + 1) _ long is-long;
-        shortest-inside = omega (arith, own-hours cal (s + 1) _ short is-short, R .shortest-inside);
-        longest-inside = omega (arith, own-hours cal (s + 1) _ long is-long, R .longest-inside);
-        none-before = λ e l. end-next cal p b s e some (R .none-before (e + 1) (omega (arith, own-hours cal (s + 1) _ short is-short)));
-        lasts = λ e l u. last-next cal p b s e (R .lasts (e + 1) (omega arith) (omega (arith, own-hours cal (s + 1) _ long is-long)));
-      }
+    pub carried-on : Reaches cal p b s short long
+    carried-on =
+        record {
+          ready = ready;
+          start = inside;
+          is-shortest =
+              record {
+                hours =
+                    record {
+                      inside = omega (arith, short-hours, long-inside cal s (stopsAt cal p b s true) (shortest .hours .0) (shortest-stretch .hours .inside));
+                      short = ready .short;
+                    };
+                is = own-stretch cal s _ short is-short;
+              };
+          is-longest =
+              record {
+                hours =
+                    record {
+                      inside = omega (arith, long-hours, long-inside cal s (stopsAt cal p b s false) (longest .hours .0) (longest-stretch .hours .inside));
+                      short = ready .short;
+                    };
+                is = own-stretch cal s _ long is-long;
+              };
+          none-before = λ e l. before e l (decLe (shortest .hours .0) e);
+          at-the-end = λ n. at-end n (decLe (length cal) (s + short .hours .0));
+          lasts = λ e l u. up-to e l u (decLe e (longest .hours .0));
+          none-after = past;
+        }
+
+-- and without their first hour they hold the same of the next start
+pub carried-next : {cal : List ℕ} {p : ℕ} {b : Bounds} {s : ℕ} {shortest longest : Stretch} → Reaches cal p b s shortest longest
+    → (short long : Stretch) → short ≡ stretchOf cal (s + 1) (shortest .hours .0 - 1) → long ≡ stretchOf cal (s + 1) (longest .hours .0 - 1)
+    → Carried cal p b (s + 1) short long
+carried-next {cal} {p} {b} {s} R short long is-short is-long =
+    let short-hours = own-hours cal (s + 1) _ short is-short in
+    let long-hours = own-hours cal (s + 1) _ long is-long in
+    record {
+      is-shortest = own-stretch cal (s + 1) _ short is-short;
+      is-longest = own-stretch cal (s + 1) _ long is-long;
+      shortest-inside = omega (arith, short-hours, R .is-shortest .hours .inside);
+      longest-inside = omega (arith, long-hours, R .is-longest .hours .inside);
+      none-before = λ e l. end-next cal p b s e (R .ready .shortest) (R .none-before (e + 1) (omega (arith, short-hours)));
+      lasts = λ e l u. last-next cal p b s e (R .lasts (e + 1) (omega arith) (omega (arith, long-hours)));
+    }

@@ -6,32 +6,27 @@ use Prim.Native.Nat.{ℕ, zero, suc, _+_, _-_, _≤_, _<_, min}
 use native.Mathlib.Decide.{decLe}
 use native.Mathlib.Numerals.{add-one}
 use native.Mathlib.Omega.{arith}
-use lib.ListN.{length, getD}
+use lib.ListN.{length}
 use lib.Dec.{leb, eqb}
 use borrow.Author.Tests.{le-leb, lt-leb, leb-true, eqb-true, eq-eqb}
 use Rattle.units.specs.Choice.{_and_, if_then_else_}
-use Rattle.units.specs.Limits.{duration}
+use Rattle.units.specs.Limits.{mostHours, duration}
 use Rattle.units.specs.Sums.{oneIf, countWhere, sumTo}
 use Rattle.units.specs.declared.Bounds.{Bounds}
 use Rattle.units.specs.declared.Duration.{Duration}
-use Rattle.units.proofs.Choices.{and-both, and-left, and-right, not-left, not-right, if-true, if-false, if-case, if-all}
+use Rattle.units.proofs.Choices.{true≢false, untrue, same-leb, and-both, and-left, and-right, not-left, not-right, if-true, if-false, if-case, if-all}
 use Rattle.plan.specs.Plan.{regular, closed, overtime}
 use Rattle.calendar.specs.declared.Counts.{Counts}
 use Rattle.calendar.specs.declared.Stretch.{Stretch}
-use Rattle.calendar.specs.Valid.{isKind, hoursOf}
-use Rattle.calendar.specs.Scan.{empty, countsOf, counted, uncounted, openLength, stretchOf, mayEnd, mayLast, stopsAt, firstFrom, lengthened}
-use Rattle.calendar.proofs.Counting.{hours-more, hours-none, hours-le, hours-mono, hours-first, regulars, overtimes, counts-more}
+use Rattle.plan.specs.HourKinds.{isKind}
+use Rattle.plan.proofs.HourKinds.{closed-rests}
+use Rattle.calendar.specs.Valid.{hoursOf}
+use Rattle.units.specs.inner.First.{firstFrom}
+use Rattle.units.proofs.FirstFrom.{from-hit, from-least, from-most, from-none, from-holds}
+use Rattle.calendar.specs.inner.Stretches.{HasHour, IsStretch, HasRoom, noHours, countsOf, withHour, withoutHour, openLength, stretchOf, mayEnd, mayLast, stopsAt, lengthened}
+use Rattle.calendar.proofs.Counting.{hours-more, hours-none, hours-le, hours-mono, hours-first, regulars, overtimes, regulars-le, overtimes-le, counts-more}
 
 -- ---- the last open hour
-
-pub true≢false : {C : Type 0} {x : Bool} → x ≡ true → x ≡ false → C
-true≢false {x = true} p q = absurd (let z : _≡_ {A = ℕ} 0 1 = cc in omega arith)
-true≢false {x = false} p q = absurd (let z : _≡_ {A = ℕ} 0 1 = cc in omega arith)
-
--- a closed hour is no regular hour
-closed-rests : (cal : List ℕ) (t : ℕ) → isKind closed cal t ≡ true → isKind regular cal t ≡ false
-unfolding isKind
-closed-rests cal t h = let q : getD cal t 0 ≡ closed = eqb-true _ _ h in rw q
 
 module _ (cal : List ℕ) (s : ℕ) where
   pub open-rests : (e : ℕ) → isKind closed cal (s + e) ≡ true → openLength cal s (e + 1) ≡ openLength cal s e
@@ -104,120 +99,96 @@ open-first cal s (suc e) = rw m (go (open-first cal s e) (isKind closed cal (s +
 
 -- ---- one hour more, one hour less
 
-pub no-stretch : (cal : List ℕ) (s : ℕ) → empty ≡ stretchOf cal s 0
+pub no-stretch : (cal : List ℕ) (s : ℕ) → noHours ≡ stretchOf cal s 0
 unfolding openLength hoursOf countWhere sumTo
 no-stretch cal s = refl
 
 -- a stretch of n hours, by its own hours
-pub own-hours : (cal : List ℕ) (s n : ℕ) (a : Stretch) → a ≡ stretchOf cal s n → a .hours .0 ≡ n
-own-hours cal s n a e = ap (λ (x : Stretch). x .hours .0) e
+module _ (cal : List ℕ) (s n : ℕ) (a : Stretch) (e : a ≡ stretchOf cal s n) where
+  pub own-hours : a .hours .0 ≡ n
+  own-hours = ap (λ (x : Stretch). x .hours .0) e
 
-pub own-stretch : (cal : List ℕ) (s n : ℕ) (a : Stretch) → a ≡ stretchOf cal s n → a ≡ stretchOf cal s (a .hours .0)
-own-stretch cal s n a e = e ∙ ap (stretchOf cal s) (sym (own-hours cal s n a e))
+  pub own-stretch : a ≡ stretchOf cal s (a .hours .0)
+  own-stretch = e ∙ ap (stretchOf cal s) (sym own-hours)
 
--- a stretch that is that of e hours from s on
-module _ (cal : List ℕ) (s : ℕ) (a : Stretch) (is : a ≡ stretchOf cal s (a .hours .0)) where
+module _ {cal : List ℕ} {s : ℕ} {a : Stretch} (st : IsStretch cal s a) where
   pub last-is : a .last .0 ≡ openLength cal s (a .hours .0)
-  last-is = ap (λ (x : Stretch). x .last .0) is
+  last-is = ap (λ (x : Stretch). x .last .0) (st .is)
 
   pub counts-are : a .counts ≡ countsOf cal s (a .hours .0)
-  counts-are = ap (λ (x : Stretch). x .counts) is
+  counts-are = ap (λ (x : Stretch). x .counts) (st .is)
 
-  pub regular-le : a .counts .regular ≤ a .hours .0
-  regular-le = omega (arith, regulars cal s _ _ counts-are, hours-le regular cal s (a .hours .0))
-
-  pub overtime-le : a .counts .overtime ≤ a .hours .0
-  overtime-le = omega (arith, overtimes cal s _ _ counts-are, hours-le overtime cal s (a .hours .0))
-
-  -- with one hour more
-  next-last : (last : Duration) → last ≡ (if eqb (getD cal (s + a .hours .0) 0) closed then a .last else duration (a .hours .0 + 1))
-      → last ≡ duration (openLength cal s (a .hours .0 + 1))
-  unfolding isKind
-  next-last last q =
-      if-case (eqb (getD cal (s + a .hours .0) 0) closed) (a .last) (duration (a .hours .0 + 1)) last (sym q)
-      (λ h e. sym e ∙ ap duration (last-is ∙ sym (open-rests cal s (a .hours .0) h)))
-      (λ h e. sym e ∙ ap duration (sym (open-goes cal s (a .hours .0) h)))
-
-  pub stretch-next : (last : Duration) → last ≡ (if eqb (getD cal (s + a .hours .0) 0) closed then a .last else duration (a .hours .0 + 1))
-      → (r : Counts) → r ≡ counted (a .counts) (getD cal (s + a .hours .0) 0)
-      → _≡_ {A = Stretch} (record { hours = duration (a .hours .0 + 1); last = last; counts = r }) (stretchOf cal s (a .hours .0 + 1))
-  stretch-next last is-last r is-r =
-      λ j. record { hours = duration (a .hours .0 + 1); last = next-last last is-last j; counts = (is-r ∙ counts-more cal s _ _ counts-are) j }
+  pub counts-small : (a .counts .regular ≤ mostHours) × (a .counts .overtime ≤ mostHours)
+  counts-small = omega (arith, regulars-le _ _ _ _ counts-are, overtimes-le _ _ _ _ counts-are, st .hours .inside, st .hours .short)
 
   -- no hours are no hours from the next on
   pub no-rest : a .hours .0 < 1 → a ≡ stretchOf cal (s + 1) (a .hours .0 - 1)
   no-rest l =
       let none : a .hours .0 ≡ 0 = omega arith in
       let rest : 0 ≡ a .hours .0 - 1 = omega arith in
-      is ∙ ap (stretchOf cal s) none ∙ sym (no-stretch cal s) ∙ no-stretch cal (s + 1) ∙ ap (stretchOf cal (s + 1)) rest
+      st .is ∙ ap (stretchOf cal s) none ∙ sym (no-stretch cal s) ∙ no-stretch cal (s + 1) ∙ ap (stretchOf cal (s + 1)) rest
 
   -- the counts of the first hour are among those of a stretch of some hours; the stretch without it
-  module _ (k : ℕ) (some : a .hours .0 ≡ k + 1) where
-    regular-is : a .counts .regular ≡ hoursOf regular cal s (k + 1)
-    regular-is = regulars cal s _ _ counts-are ∙ ap (hoursOf regular cal s) some
+  module _ (some : 1 ≤ a .hours .0) where
+    first : a .hours .0 ≡ a .hours .0 - 1 + 1
+    first = omega arith
 
-    overtime-is : a .counts .overtime ≡ hoursOf overtime cal s (k + 1)
-    overtime-is = overtimes cal s _ _ counts-are ∙ ap (hoursOf overtime cal s) some
+    first-regular : a .counts .regular ≡ oneIf (isKind regular cal s) + hoursOf regular cal (s + 1) (a .hours .0 - 1)
+    first-regular = regulars _ _ _ _ counts-are ∙ ap (hoursOf regular cal s) first ∙ hours-first regular cal s (a .hours .0 - 1)
 
-    pub first-counted : (oneIf (eqb (getD cal s 0) regular) ≤ a .counts .regular) × (oneIf (eqb (getD cal s 0) overtime) ≤ a .counts .overtime)
-    unfolding isKind
-    first-counted = (omega (arith, regular-is, hours-first regular cal s k), omega (arith, overtime-is, hours-first overtime cal s k))
+    first-overtime : a .counts .overtime ≡ oneIf (isKind overtime cal s) + hoursOf overtime cal (s + 1) (a .hours .0 - 1)
+    first-overtime = overtimes _ _ _ _ counts-are ∙ ap (hoursOf overtime cal s) first ∙ hours-first overtime cal s (a .hours .0 - 1)
 
-    rest-regular : a .counts .regular - oneIf (eqb (getD cal s 0) regular) ≡ hoursOf regular cal (s + 1) k
-    unfolding isKind
-    rest-regular = omega (arith, regular-is, hours-first regular cal s k)
+    pub has-first : HasHour (a .counts) cal s
+    has-first =
+        record {
+          inside = omega (arith, st .hours .inside);
+          regulars = omega (arith, first-regular);
+          overtimes = omega (arith, first-overtime);
+        }
 
-    rest-overtime : a .counts .overtime - oneIf (eqb (getD cal s 0) overtime) ≡ hoursOf overtime cal (s + 1) k
-    unfolding isKind
-    rest-overtime = omega (arith, overtime-is, hours-first overtime cal s k)
+    rest-regular : a .counts .regular - oneIf (isKind regular cal s) ≡ hoursOf regular cal (s + 1) (a .hours .0 - 1)
+    rest-regular = omega (arith, first-regular)
 
-    rest-last : a .last .0 - 1 ≡ openLength cal (s + 1) k
-    rest-last = ap (λ (x : ℕ). x - 1) (last-is ∙ ap (openLength cal s) some) ∙ sym (open-first cal s k)
+    rest-overtime : a .counts .overtime - oneIf (isKind overtime cal s) ≡ hoursOf overtime cal (s + 1) (a .hours .0 - 1)
+    rest-overtime = omega (arith, first-overtime)
 
-    pub stretch-rest : (hours last : Duration) (r : Counts) → hours ≡ duration (a .hours .0 - 1) → last ≡ duration (a .last .0 - 1)
-        → r ≡ uncounted (a .counts) (getD cal s 0) → _≡_ {A = Stretch} (record { hours = hours; last = last; counts = r }) (stretchOf cal (s + 1) k)
-    stretch-rest hours last r is-hours is-last is-r =
-        λ j. record { hours = (is-hours ∙ ap duration less) j; last = (is-last ∙ ap duration rest-last) j; counts = (is-r ∙ counts) j }
-      where
-        less : a .hours .0 - 1 ≡ k
-        less = omega arith
+    rest-last : a .last .0 - 1 ≡ openLength cal (s + 1) (a .hours .0 - 1)
+    rest-last = ap (λ (x : ℕ). x - 1) (last-is ∙ ap (openLength cal s) first) ∙ sym (open-first cal s (a .hours .0 - 1))
 
-        counts : uncounted (a .counts) (getD cal s 0) ≡ countsOf cal (s + 1) k
-        counts = λ j. record { regular = rest-regular j; overtime = rest-overtime j }
+    pub stretch-rest : {hours last : Duration} {r : Counts} → hours ≡ duration (a .hours .0 - 1) → last ≡ duration (a .last .0 - 1)
+        → r ≡ withoutHour (a .counts) cal s
+        → _≡_ {A = Stretch} (record { hours = hours; last = last; counts = r }) (stretchOf cal (s + 1) (a .hours .0 - 1))
+    stretch-rest is-hours is-last is-r =
+        λ j. record {
+          hours = is-hours j;
+          last = (is-last ∙ ap duration rest-last) j;
+          counts = (is-r ∙ (λ i. record { regular = rest-regular i; overtime = rest-overtime i })) j;
+        }
+
+-- with one hour more
+module _ {cal : List ℕ} {s : ℕ} {a : Stretch} (h : HasRoom cal s a) where
+  pub hours-small : a .hours .0 < mostHours
+  hours-small = omega (arith, h .room, h .stretch .hours .short)
+
+  pub counts-below : (a .counts .regular < mostHours) × (a .counts .overtime < mostHours)
+  counts-below = omega (arith, hours-small, regulars-le _ _ _ _ (counts-are (h .stretch)), overtimes-le _ _ _ _ (counts-are (h .stretch)))
+
+  next-last : {last : Duration} → last ≡ (if isKind closed cal (s + a .hours .0) then a .last else duration (a .hours .0 + 1))
+      → last ≡ duration (openLength cal s (a .hours .0 + 1))
+  next-last {last} q =
+      if-case (isKind closed cal (s + a .hours .0)) (a .last) (duration (a .hours .0 + 1)) last (sym q)
+      (λ c e. sym e ∙ ap duration (last-is (h .stretch) ∙ sym (open-rests cal s (a .hours .0) c)))
+      (λ c e. sym e ∙ ap duration (sym (open-goes cal s (a .hours .0) c)))
+
+  pub stretch-next : {last : Duration} {r : Counts}
+      → last ≡ (if isKind closed cal (s + a .hours .0) then a .last else duration (a .hours .0 + 1))
+      → r ≡ withHour (a .counts) cal (s + a .hours .0)
+      → _≡_ {A = Stretch} (record { hours = duration (a .hours .0 + 1); last = last; counts = r }) (stretchOf cal s (a .hours .0 + 1))
+  stretch-next is-last is-r =
+      λ j. record { hours = duration (a .hours .0 + 1); last = next-last is-last j; counts = (is-r ∙ counts-more _ _ _ _ (counts-are (h .stretch))) j }
 
 -- ---- the first length at which a test holds
-
-module _ (test : ℕ → Bool) where
-  first-hit : (e n : ℕ) → test e ≡ true → firstFrom test e n ≡ e
-  unfolding firstFrom
-  first-hit e zero h = refl
-  first-hit e (suc n) h = if-true _ _ _ h
-
-  first-least : (e n : ℕ) → e ≤ firstFrom test e n
-  unfolding firstFrom
-  first-least e zero = omega arith
-  first-least e (suc n) = if-all (λ (k : ℕ). e ≤ k) (test e) _ _ (λ h. omega arith) (λ h. omega (arith, first-least (e + 1) n))
-
-  first-most : (e n : ℕ) → firstFrom test e n ≤ e + n
-  unfolding firstFrom
-  first-most e zero = omega arith
-  first-most e (suc n) = if-all (λ (k : ℕ). k ≤ e + suc n) (test e) _ _ (λ h. omega arith) (λ h. omega (arith, first-most (e + 1) n))
-
-  first-none : (e n k : ℕ) → e ≤ k → k < firstFrom test e n → test k ≡ false
-  unfolding firstFrom
-  first-none e zero k l = λ u. absurd (omega arith)
-  first-none e (suc n) k l =
-      if-all (λ (m : ℕ). k < m → test k ≡ false) (test e) _ _ (λ h u. absurd (omega arith)) (λ h u. go h (λ v. first-none (e + 1) n k v u) (decLe (e + 1) k))
-    where
-      go : test e ≡ false → (e + 1 ≤ k → test k ≡ false) → Dec (e + 1 ≤ k) → test k ≡ false
-      go h above (yes v) = above v
-      go h above (no v) = let q : k ≡ e = omega arith in rw q h
-
-  first-holds : (e n : ℕ) → firstFrom test e n < e + n → test (firstFrom test e n) ≡ true
-  unfolding firstFrom
-  first-holds e zero = λ u. absurd (omega arith)
-  first-holds e (suc n) =
-      if-all (λ (m : ℕ). m < e + suc n → test m ≡ true) (test e) _ _ (λ h u. h) (λ h u. first-holds (e + 1) n (omega arith))
 
 module _ (cal : List ℕ) (s : ℕ) (test : ℕ → Bool) (e : ℕ) where
   pub long-end : length cal ≤ s + e → lengthened cal s test e ≡ e
@@ -226,7 +197,7 @@ module _ (cal : List ℕ) (s : ℕ) (test : ℕ → Bool) (e : ℕ) where
 
   pub long-hit : test e ≡ true → lengthened cal s test e ≡ e
   unfolding lengthened
-  long-hit h = first-hit test e _ h
+  long-hit h = from-hit test e _ h
 
   pub long-miss : s + e < length cal → test e ≡ false → lengthened cal s test e ≡ lengthened cal s test (e + 1)
   unfolding lengthened firstFrom
@@ -236,30 +207,17 @@ module _ (cal : List ℕ) (s : ℕ) (test : ℕ → Bool) (e : ℕ) where
 
   pub long-inside : s + e ≤ length cal → s + lengthened cal s test e ≤ length cal
   unfolding lengthened
-  long-inside l = omega (arith, first-most test e (length cal - (s + e)))
+  long-inside l = omega (arith, from-most test e (length cal - (s + e)))
 
   pub long-none : (k : ℕ) → e ≤ k → k < lengthened cal s test e → test k ≡ false
   unfolding lengthened
-  long-none k l u = first-none test e _ k l u
+  long-none k l u = from-none test e _ k l u
 
   pub long-holds : s + lengthened cal s test e < length cal → test (lengthened cal s test e) ≡ true
   unfolding lengthened
-  long-holds l = first-holds test e _ (omega (arith, first-least test e (length cal - (s + e))))
+  long-holds l = from-holds test e _ (omega (arith, from-least test e (length cal - (s + e))))
 
 -- ---- the tests of an end
-
--- contraposed
-pub untrue : (x y : Bool) → (x ≡ true → y ≡ true) → y ≡ false → x ≡ false
-untrue true y h e = true≢false (h refl) e
-untrue false y h e = refl
-
--- two tests that decide the same
-pub same-leb : (x y u v : ℕ) → (x ≤ y → u ≤ v) → (u ≤ v → x ≤ y) → leb x y ≡ leb u v
-same-leb x y u v f g = go (decLe x y)
-  where
-    go : Dec (x ≤ y) → leb x y ≡ leb u v
-    go (yes h) = le-leb x y h ∙ sym (le-leb u v (f h))
-    go (no h) = lt-leb x y (omega arith) ∙ sym (untrue (leb u v) (leb x y) (λ q. le-leb x y (g (leb-true u v q))) (lt-leb x y (omega arith)))
 
 pub record MayEnd (p : ℕ) (b : Bounds) (a : Stretch) : Type 0 where
   pub shortest : b .shortest .0 ≤ a .hours .0
@@ -326,49 +284,48 @@ module _ (cal : List ℕ) (p : ℕ) (b : Bounds) (s e : ℕ) where
       }
 
 -- from a stretch of e - 1 hours
-module _ (cal : List ℕ) (s : ℕ) (a : Stretch) (is : a ≡ stretchOf cal s (a .hours .0)) where
-  pub work-next : (w : ℕ) → w ≡ oneIf (eqb (getD cal (s + a .hours .0) 0) regular) → a .counts .regular + w ≡ hoursOf regular cal s (a .hours .0 + 1)
-  unfolding isKind
-  work-next w q = omega (arith, q, regulars cal s _ _ (counts-are cal s a is), hours-more regular cal s (a .hours .0))
+module _ {cal : List ℕ} {s : ℕ} {a : Stretch} (h : HasRoom cal s a) where
+  pub work-next : {w : ℕ} → w ≡ oneIf (isKind regular cal (s + a .hours .0)) → a .counts .regular + w ≡ hoursOf regular cal s (a .hours .0 + 1)
+  work-next q = omega (arith, q, regulars _ _ _ _ (counts-are (h .stretch)), hours-more regular cal s (a .hours .0))
 
-  pub work-le : (w : ℕ) → w ≡ oneIf (eqb (getD cal (s + a .hours .0) 0) regular) → a .counts .regular + w ≤ a .hours .0 + 1
-  work-le w q = omega (arith, work-next w q, hours-le regular cal s (a .hours .0 + 1))
+  pub work-le : {w : ℕ} → w ≡ oneIf (isKind regular cal (s + a .hours .0)) → a .counts .regular + w ≤ mostHours
+  work-le q = omega (arith, work-next q, hours-le regular cal s (a .hours .0 + 1), hours-small h)
 
-module _ (cal : List ℕ) (p : ℕ) (b : Bounds) (s : ℕ) (a : Stretch) (is : a ≡ stretchOf cal s (a .hours .0)) where
-  pub too-long : b .longest .0 ≤ a .hours .0 → mayLast cal p b s (a .hours .0 + 1) ≡ false
-  unfolding mayLast
-  too-long l = not-left _ _ (lt-leb (a .hours .0 + 1) (b .longest .0) (omega arith))
+  module _ (p : ℕ) (b : Bounds) where
+    pub too-long : b .longest .0 ≤ a .hours .0 → mayLast cal p b s (a .hours .0 + 1) ≡ false
+    unfolding mayLast
+    too-long l = not-left _ _ (lt-leb (a .hours .0 + 1) (b .longest .0) (omega arith))
 
-  pub too-worked : p < b .fewest .0 + hoursOf regular cal s (a .hours .0 + 1) → mayLast cal p b s (a .hours .0 + 1) ≡ false
-  unfolding mayLast
-  too-worked l = not-right _ _ (not-left _ _ (lt-leb _ _ l))
+    pub too-worked : p < b .fewest .0 + hoursOf regular cal s (a .hours .0 + 1) → mayLast cal p b s (a .hours .0 + 1) ≡ false
+    unfolding mayLast
+    too-worked l = not-right _ _ (not-left _ _ (lt-leb _ _ l))
 
-  module _ (long : a .hours .0 < b .longest .0) (few : b .fewest .0 + hoursOf regular cal s (a .hours .0 + 1) ≤ p) where
-    pub first-works : a .hours .0 < 1 → leb 1 p ≡ mayLast cal p b s (a .hours .0 + 1)
-    first-works l = lasts-by-work cal p b s (a .hours .0 + 1) 1 (one (omega arith)) (omega arith) few
-      where
-        one : a .hours .0 ≡ 0 → 1 ≡ hoursOf regular cal (s + 1) (a .hours .0 + 1 - 2) + min (a .hours .0 + 1) 2
-        one q =
-            let m : a .hours .0 + 1 - 2 ≡ 0 = omega arith in
-            let none = ap (hoursOf regular cal (s + 1)) m in
-            omega (arith, none, hours-none regular cal (s + 1))
+    module _ (long : a .hours .0 < b .longest .0) (few : b .fewest .0 + hoursOf regular cal s (a .hours .0 + 1) ≤ p) where
+      pub first-works : a .hours .0 < 1 → leb 1 p ≡ mayLast cal p b s (a .hours .0 + 1)
+      first-works l = lasts-by-work cal p b s (a .hours .0 + 1) 1 (one (omega arith)) (omega arith) few
+        where
+          one : a .hours .0 ≡ 0 → 1 ≡ hoursOf regular cal (s + 1) (a .hours .0 + 1 - 2) + min (a .hours .0 + 1) 2
+          one q =
+              let m : a .hours .0 + 1 - 2 ≡ 0 = omega arith in
+              let none = ap (hoursOf regular cal (s + 1)) m in
+              omega (arith, none, hours-none regular cal (s + 1))
 
-    pub ends-work : (k : ℕ) → a .hours .0 ≡ k + 1 → (w : ℕ) → w ≡ oneIf (eqb (getD cal s 0) regular)
-        → leb (a .counts .regular - w + 2) p ≡ mayLast cal p b s (a .hours .0 + 1)
-    ends-work k some w is-w = lasts-by-work cal p b s (a .hours .0 + 1) (a .counts .regular - w + 2) two (omega arith) few
-      where
-        two : a .counts .regular - w + 2 ≡ hoursOf regular cal (s + 1) (a .hours .0 + 1 - 2) + min (a .hours .0 + 1) 2
-        two =
-            let m : a .hours .0 + 1 - 2 ≡ k = omega arith in
-            let between = ap (hoursOf regular cal (s + 1)) m in
-            omega (arith, is-w, between, rest-regular cal s a is k some, first-counted cal s a is k some .0)
+      pub ends-work : 1 ≤ a .hours .0 → {w : ℕ} → w ≡ oneIf (isKind regular cal s)
+          → leb (a .counts .regular - w + 2) p ≡ mayLast cal p b s (a .hours .0 + 1)
+      ends-work some {w} is-w = lasts-by-work cal p b s (a .hours .0 + 1) (a .counts .regular - w + 2) two (omega arith) few
+        where
+          two : a .counts .regular - w + 2 ≡ hoursOf regular cal (s + 1) (a .hours .0 + 1 - 2) + min (a .hours .0 + 1) 2
+          two =
+              let m : a .hours .0 + 1 - 2 ≡ a .hours .0 - 1 = omega arith in
+              let between = ap (hoursOf regular cal (s + 1)) m in
+              omega (arith, is-w, between, first-regular (h .stretch) some)
 
 -- ---- where a stretch stops
 
 module _ (cal : List ℕ) (p : ℕ) (b : Bounds) (s : ℕ) (shortest : Bool) where
-  pub stops-at-end : (a : Stretch) → a ≡ stretchOf cal s (a .hours .0) → shortest ≡ true → mayEnd p b a ≡ stopsAt cal p b s shortest (a .hours .0)
+  pub stops-at-end : {a : Stretch} → IsStretch cal s a → shortest ≡ true → mayEnd p b a ≡ stopsAt cal p b s shortest (a .hours .0)
   unfolding stopsAt
-  stops-at-end a is short = rw short (ap (mayEnd p b) is)
+  stops-at-end st short = rw short (ap (mayEnd p b) (st .is))
 
   pub stops-longer : (e : ℕ) → shortest ≡ false → not (mayLast cal p b s (e + 1)) ≡ stopsAt cal p b s shortest e
   unfolding stopsAt

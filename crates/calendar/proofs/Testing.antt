@@ -3,22 +3,22 @@ use mathlib.Core.Path.{_≡_, refl, _∙_}
 use mathlib.Core.Bool.{true, false}
 use mathlib.Core.Option.{none, some}
 use mathlib.Core.List.{List, [], _∷_}
-use Prim.Native.Nat.{ℕ, _≤_, _<_}
+use Prim.Native.Nat.{ℕ}
 use native.Mathlib.Omega.{arith}
 use lib.ListN.{length}
 use Rattle.units.specs.Choice.{_and_}
-use Rattle.units.specs.Limits.{mostHours, duration, isPlanLength}
+use Rattle.units.specs.Limits.{duration, isPlanLength}
 use Rattle.units.specs.declared.Duration.{Duration}
 use Rattle.units.specs.declared.Bounds.{Bounds}
 use Rattle.units.proofs.Choices.{else-none, else-some, neither}
 use Rattle.plan.specs.Plan.{plan, taskCount}
 use Rattle.plan.specs.Boxes.{boundsAt}
 use Rattle.plan.specs.Refusals.{Fault, fault, refused, answered, answerUnless}
-use Rattle.plan.specs.Faults.{oneForEachTask, planFault, inputFault}
+use Rattle.plan.specs.Faults.{oneForEachTask, calendarsFault, planFault, inputFault}
 use Rattle.plan.proofs.Refusing.{unless-true, unless-false}
 use Rattle.plan.proofs.Passed.{passed}
 use Rattle.calendar.specs.Rule.{ruleOf}
-use Rattle.calendar.specs.Scan.{AllSymbols}
+use Rattle.calendar.specs.inner.Stretches.{RuleReady}
 use Rattle.calendar.specs.Entry.{oneTask, oneBox, calendarRule}
 
 module _ (cal : List ℕ) (p : ℕ) (b : Bounds) where
@@ -47,14 +47,14 @@ module _ (cal : List ℕ) (p : ℕ) (b : Bounds) where
   pub no-length : isPlanLength (length cal) ≡ false → calendarRule cal p b ≡ refused (fault 2 0)
   no-length e =
       refused-by (fault 2 0)
-      (unfold inputFault planFault oneTask in
-      (else-none _ _ (unless-true _ 31 0 one-each) ∙ else-some _ _ _ (unless-false _ 2 0 e)))
+      (unfold inputFault planFault calendarsFault oneTask in
+      (else-none _ _ (unless-true _ 31 0 one-each) ∙ else-some _ _ _ (else-some _ _ _ (unless-false _ 2 0 e))))
 
   -- what the core asks
-  pub ready : inputFault (oneTask cal p) (oneBox b) ≡ none → (1 ≤ b .shortest .0) × (b .latest .0 < length cal) × (length cal ≤ mostHours) × AllSymbols cal
+  pub ready : inputFault (oneTask cal p) (oneBox b) ≡ none → RuleReady cal b
   unfolding inputFault oneTask oneBox boundsAt
   ready e =
       let faults = neither _ _ e in
       let known = passed (oneTask cal p) (oneBox b) one-each (faults .1) in
       let box = known .task 0 (unfold taskCount in (omega arith)) .box in
-      (box .shortest, box .latest, known .hours, known .symbols)
+      record { shortest = box .shortest; latest = box .latest; short = known .hours; symbols = known .symbols }

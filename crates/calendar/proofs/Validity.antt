@@ -4,14 +4,14 @@ use mathlib.Core.Bool.{true, false, not}
 use mathlib.Core.Logic.{_≢_}
 use mathlib.Core.List.{List}
 use Prim.Native.Nat.{ℕ, _+_, _-_, _≤_, _<_}
-use lib.ListN.{length, getD}
+use lib.ListN.{length}
 use lib.Dec.{leb}
 use borrow.Author.Tests.{lt-leb, le-leb, ne-eqb, eq-eqb, leb-true, eqb-true, not-true}
 use Rattle.units.specs.Choice.{_and_}
 use Rattle.units.proofs.Choices.{and-both, and-left, and-right, not-left, not-right}
 use Rattle.plan.specs.Plan.{regular, closed, overtime}
-use Rattle.calendar.specs.Valid.{isKind, hoursOf, overtimeEnds, valid}
-use Rattle.calendar.specs.Scan.{endsOf}
+use Rattle.plan.specs.HourKinds.{isKind}
+use Rattle.calendar.specs.Valid.{hoursOf, overtimeEnds, valid}
 
 module _ (cal : List ℕ) (p s e o : ℕ) where
   pub no-length : e < 1 → valid cal p s e o ≡ false
@@ -22,13 +22,13 @@ module _ (cal : List ℕ) (p s e o : ℕ) where
   unfolding valid
   past-end h = not-right _ _ (not-left _ _ (lt-leb (s + e) (length cal) h))
 
-  pub closed-first : getD cal s 0 ≡ closed → valid cal p s e o ≡ false
-  unfolding valid isKind
-  closed-first h = not-right _ _ (not-right _ _ (not-left _ _ (ap not (eq-eqb _ _ h))))
+  pub closed-first : isKind closed cal s ≡ true → valid cal p s e o ≡ false
+  unfolding valid
+  closed-first h = not-right _ _ (not-right _ _ (not-left _ _ (ap not h)))
 
-  pub closed-last : getD cal (s + e - 1) 0 ≡ closed → valid cal p s e o ≡ false
-  unfolding valid isKind
-  closed-last h = not-right _ _ (not-right _ _ (not-right _ _ (not-left _ _ (ap not (eq-eqb _ _ h)))))
+  pub closed-last : isKind closed cal (s + e - 1) ≡ true → valid cal p s e o ≡ false
+  unfolding valid
+  closed-last h = not-right _ _ (not-right _ _ (not-right _ _ (not-left _ _ (ap not h))))
 
   pub other-overtime : o + hoursOf regular cal s e ≢ p → valid cal p s e o ≡ false
   unfolding valid
@@ -39,11 +39,10 @@ module _ (cal : List ℕ) (p s e o : ℕ) where
   few-overtime h = not-right _ _ (not-right _ _ (not-right _ _ (not-right _ _ (not-right _ _ (not-left _ _ (lt-leb _ _ h))))))
 
   -- a triple that passes the other tests is valid by the last
-  pub by-ends : 1 ≤ e → s + e ≤ length cal → getD cal s 0 ≢ closed → getD cal (s + e - 1) 0 ≢ closed → o + hoursOf regular cal s e ≡ p
-      → o ≤ hoursOf overtime cal s e → valid cal p s e o ≡ leb (endsOf (getD cal s 0) (getD cal (s + e - 1) 0) e) o
-  unfolding valid overtimeEnds isKind _and_
-  by-ends h₁ h₂ h₃ h₄ h₅ h₆ =
-      simp (le-leb _ _ h₁, le-leb _ _ h₂, ne-eqb _ _ h₃, ne-eqb _ _ h₄, eq-eqb _ _ h₅, le-leb _ _ h₆)
+  pub by-ends : 1 ≤ e → s + e ≤ length cal → isKind closed cal s ≡ false → isKind closed cal (s + e - 1) ≡ false
+      → o + hoursOf regular cal s e ≡ p → o ≤ hoursOf overtime cal s e → valid cal p s e o ≡ leb (overtimeEnds cal s e) o
+  unfolding valid _and_
+  by-ends h₁ h₂ h₃ h₄ h₅ h₆ = simp (le-leb _ _ h₁, le-leb _ _ h₂, h₃, h₄, eq-eqb _ _ h₅, le-leb _ _ h₆)
 
   -- what validity says of the numbers and the hours
   pub record Valid : Type 0 where

@@ -1,5 +1,5 @@
 pub mod Valid
 pub mod Triples
 pub mod Rule
-pub mod Scan
 pub mod Entry
+pub mod inner

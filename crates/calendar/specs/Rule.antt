@@ -1,7 +1,8 @@
 -- The calendar rule (01, "When a task fits its calendar"): the least and greatest s, e and o over the valid triples in the box, with ect and
 -- lct, or that there is no valid triple.
 use mathlib.Core.List.{List, [], _∷_}
-use Prim.Native.Nat.{ℕ, min, max}
+use Prim.Native.Nat.{ℕ}
+use Rattle.units.specs.Extremes.{least, greatest}
 use Rattle.units.specs.Limits.{hour, duration}
 use Rattle.units.specs.declared.Bounds.{Bounds}
 use Rattle.calendar.specs.declared.Triple.{Triple}
@@ -9,15 +10,6 @@ use Rattle.calendar.specs.declared.Window.{Window}
 use Rattle.calendar.specs.declared.Fit.{Fit}
 use Rattle.calendar.specs.declared.Fit.the-variants.{Never, Within}
 use Rattle.calendar.specs.Triples.{startOf, elapsedOf, overtimeOf, endOf, validTriples}
-
--- the least, and the greatest, of m and the values of a key over a list
-unfoldable pub least : {A : Type 0} → (A → ℕ) → ℕ → List A → ℕ
-least key m [] = m
-least key m (x ∷ xs) = least key (min m (key x)) xs
-
-unfoldable pub greatest : {A : Type 0} → (A → ℕ) → ℕ → List A → ℕ
-greatest key m [] = m
-greatest key m (x ∷ xs) = greatest key (max m (key x)) xs
 
 -- the window of one triple: each bound is its own
 abbrev pub alone : Triple → Window

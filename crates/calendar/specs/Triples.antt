@@ -8,6 +8,10 @@ use Rattle.units.specs.declared.Bounds.{Bounds}
 use Rattle.calendar.specs.declared.Triple.{Triple}
 use Rattle.calendar.specs.Valid.{valid}
 
+-- a triple is three numbers in lent memory
+abbrev pub tripleNumbers : ℕ
+tripleNumbers = 3
+
 abbrev pub triple : ℕ → ℕ → ℕ → Triple
 triple s e o = record { start = hour s; elapsed = duration e; overtime = duration o }
 

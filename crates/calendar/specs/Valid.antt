@@ -2,15 +2,12 @@
 use mathlib.Core.Bool.{Bool, not}
 use mathlib.Core.List.{List}
 use Prim.Native.Nat.{ℕ, _+_, _-_}
-use lib.ListN.{length, getD}
+use lib.ListN.{length}
 use lib.Dec.{leb, eqb}
 use Rattle.units.specs.Choice.{_and_, if_then_else_}
 use Rattle.units.specs.Sums.{oneIf, countWhere}
 use Rattle.plan.specs.Plan.{regular, closed, overtime}
-
--- hour t is of the kind
-unfoldable pub isKind : ℕ → List ℕ → ℕ → Bool
-isKind kind cal t = eqb (getD cal t 0) kind
+use Rattle.plan.specs.HourKinds.{isKind}
 
 -- how many hours of [s, s + e) are of the kind
 unfoldable pub hoursOf : ℕ → List ℕ → ℕ → ℕ → ℕ

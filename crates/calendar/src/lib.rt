@@ -2,8 +2,12 @@
 mod reach;
 mod widen;
 
+use plan::CLOSED;
+use plan::OVERTIME;
+use plan::REGULAR;
 use plan::Refusal;
 use plan::Tested;
+use plan::is_kind;
 use units::Bounds;
 use units::Duration;
 use units::Hour;
@@ -11,20 +15,27 @@ use units::MaybeDuration;
 ghost use mathlib.Core.Path.{_≡_};
 ghost use Prim.Native.Nat.{_+_, _≤_, _<_};
 ghost use lib.ListN.{length};
-ghost use lib.Dec.{eqb};
 ghost use Rattle.units.specs.Limits.{mostHours};
 ghost use Rattle.units.specs.Sums.{oneIf};
+ghost use Rattle.plan.specs.HourKinds.{isKind};
 ghost use Rattle.plan.specs.Lent.{old};
+ghost use Rattle.calendar.specs.Valid.{overtimeEnds};
 ghost use Rattle.calendar.specs.Triples.{endOf, validTriple, starting};
 ghost use Rattle.calendar.specs.Rule.{ruleOf};
 ghost use Rattle.calendar.specs.Entry.{calendarRule, ruleAnswer};
-ghost use Rattle.calendar.specs.Scan.{countsOf, counted, endsOf, AllSymbols, Reaches, after};
+ghost use Rattle.calendar.specs.inner.Stretches.{Inside, HasCounts, RuleReady, Reaches, countsOf, withHour};
+ghost use Rattle.calendar.specs.inner.Windows.{withTriples};
 
 // 01's (s, e, o): when a task starts, how long it lasts, and its overtime.
 pub struct Triple {
     pub start: Hour,
     pub elapsed: Duration,
     pub overtime: Duration,
+}
+
+impl Triple {
+    // How many numbers a triple has in lent memory: s, e and o.
+    pub const NUMBERS: usize = 3;
 }
 
 // The bounds of a task's valid triples, with the least and the greatest end.
@@ -61,26 +72,27 @@ struct Stretch {
 }
 
 // 1 for an hour of the kind.
-fn one_if(symbol: u8, kind: u8) -> u16
-    ensures { λ r. ⌜ r ≡ oneIf (eqb symbol kind) ⌝ }
+fn one_if(calendar: &[u8], t: usize, kind: u8) -> u16
+    requires { ⌜ t < length (now calendar) ⌝ }
+    ensures { λ r. ⌜ (r ≡ oneIf (isKind kind (old calendar) t)) × (r ≤ 1) ⌝ }
 {
-    if symbol == kind { 1 } else { 0 }
+    if is_kind(calendar, t, kind) { 1 } else { 0 }
 }
 
 // The counts with one hour more.
-fn with_hour(n: Counts, symbol: u8) -> Counts
-    requires { ⌜ (n .regular < mostHours) × (n .overtime < mostHours) ⌝ }
-    ensures { λ r. ⌜ r ≡ counted n symbol ⌝ }
+fn with_hour(n: Counts, calendar: &[u8], t: usize) -> Counts
+    requires { ⌜ (n .regular < mostHours) × (n .overtime < mostHours) × (t < length (now calendar)) ⌝ }
+    ensures { λ r. ⌜ r ≡ withHour n (old calendar) t ⌝ }
 {
     Counts {
-        regular: n.regular + one_if(symbol, b'r'),
-        overtime: n.overtime + one_if(symbol, b'o'),
+        regular: n.regular + one_if(calendar, t, REGULAR),
+        overtime: n.overtime + one_if(calendar, t, OVERTIME),
     }
 }
 
 // The counts of so many hours from the start on.
 fn count_hours(calendar: &[u8], start: Hour, hours: Duration) -> Counts
-    requires { ⌜ (start .0 + hours .0 ≤ length (now calendar)) × (length (now calendar) ≤ mostHours) ⌝ }
+    requires { ⌜ Inside (now calendar) (start .0) (hours .0) ⌝ }
     ensures { λ r. ⌜ r ≡ countsOf (old calendar) (start .0) (hours .0) ⌝ }
 {
     let first = start.0 as usize;
@@ -90,38 +102,35 @@ fn count_hours(calendar: &[u8], start: Hour, hours: Duration) -> Counts
         overtime: 0,
     };
     for i in 0..end {
-        n = with_hour(n, calendar[first + i]);
+        n = with_hour(n, calendar, first + i);
     }
     n
 }
 
-// How many of the first and the last hour are overtime hours; where they are one hour, it counts once.
-fn overtime_ends(first: u8, last: u8, elapsed: u16) -> u16
-    ensures { λ r. ⌜ r ≡ endsOf first last elapsed ⌝ }
+// How many of the first and the last of the e hours from s on are overtime hours; where they are one hour, it counts once.
+fn overtime_ends(calendar: &[u8], s: usize, e: u16) -> u16
+    requires { ⌜ (1 ≤ e) × (s + e ≤ length (now calendar)) ⌝ }
+    ensures { λ r. ⌜ r ≡ overtimeEnds (old calendar) s e ⌝ }
 {
-    if elapsed == 1 {
-        return one_if(first, b'o');
+    let first = one_if(calendar, s, OVERTIME);
+    if e == 1 {
+        return first;
     }
-    one_if(first, b'o') + one_if(last, b'o')
+    first + one_if(calendar, s + (e as usize) - 1, OVERTIME)
 }
 
 // Whether a triple within the calendar is valid, from the counts of its hours.
 fn is_valid_by(calendar: &[u8], work_time: Duration, t: Triple, n: Counts) -> bool
-    requires { ⌜ (1 ≤ t .elapsed .0)
-        × (endOf t ≤ length (now calendar))
-        × (n ≡ countsOf (now calendar) (t .start .0) (t .elapsed .0)) ⌝ }
+    requires { ⌜ HasCounts (now calendar) t n ⌝ }
     ensures { λ r. ⌜ r ≡ validTriple (old calendar) («work_time» .0) t ⌝ }
 {
     let s = t.start.0 as usize;
     let e = t.elapsed.0;
     let o = t.overtime.0;
-    let end = s + (e as usize);
-    let first = calendar[s];
-    let last = calendar[end - 1];
-    if first == b'c' {
+    if is_kind(calendar, s, CLOSED) {
         return false;
     }
-    if last == b'c' {
+    if is_kind(calendar, s + (e as usize) - 1, CLOSED) {
         return false;
     }
     if work_time.0 < o {
@@ -133,7 +142,7 @@ fn is_valid_by(calendar: &[u8], work_time: Duration, t: Triple, n: Counts) -> bo
     if n.overtime < o {
         return false;
     }
-    overtime_ends(first, last, e) <= o
+    overtime_ends(calendar, s, e) <= o
 }
 
 // Whether a triple is valid for a task with the calendar and the work time.
@@ -164,14 +173,10 @@ fn with_start(
     longest: Stretch,
     fit: Fit,
 ) -> Fit
-    requires { ⌜ (1 ≤ b .shortest .0)
-        × (s .0 < length (now calendar))
-        × (length (now calendar) ≤ mostHours)
-        × AllSymbols (now calendar)
-        × Reaches (now calendar) («work_time» .0) b (s .0) shortest longest ⌝ }
-    ensures { λ r. ⌜ r ≡ after fit (starting (old calendar) («work_time» .0) b (s .0)) ⌝ }
+    requires { ⌜ Reaches (now calendar) («work_time» .0) b (s .0) shortest longest ⌝ }
+    ensures { λ r. ⌜ r ≡ withTriples fit (starting (old calendar) («work_time» .0) b (s .0)) ⌝ }
 {
-    if calendar[s.0 as usize] == b'c' {
+    if is_kind(calendar, s.0 as usize, CLOSED) {
         return fit;
     }
     if longest.last.0 < shortest.hours.0 {
@@ -185,10 +190,7 @@ fn with_start(
 
 // The calendar rule for input that is tested. A later start ends no earlier, so both stretches only go forward.
 pub fn rule(calendar: &[u8], work_time: Duration, b: Bounds) -> Fit
-    requires { ⌜ (1 ≤ b .shortest .0)
-        × (b .latest .0 < length (now calendar))
-        × (length (now calendar) ≤ mostHours)
-        × AllSymbols (now calendar) ⌝ }
+    requires { ⌜ RuleReady (now calendar) b ⌝ }
     ensures { λ r. ⌜ r ≡ ruleOf (old calendar) («work_time» .0) b ⌝ }
 {
     let last = b.latest.0;

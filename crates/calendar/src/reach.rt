@@ -3,19 +3,22 @@ use crate::Counts;
 use crate::Stretch;
 use crate::one_if;
 use crate::with_hour;
+use plan::CLOSED;
+use plan::OVERTIME;
+use plan::REGULAR;
+use plan::is_kind;
 use units::Bounds;
 use units::Duration;
 use units::Hour;
 ghost use mathlib.Core.Path.{_≡_};
 ghost use Prim.Native.Nat.{_+_, _-_, _≤_, _<_};
 ghost use lib.ListN.{length};
-ghost use lib.Dec.{eqb};
 ghost use Rattle.units.specs.Choice.{if_then_else_};
 ghost use Rattle.units.specs.Limits.{mostHours, duration};
-ghost use Rattle.units.specs.Sums.{oneIf};
-ghost use Rattle.plan.specs.Plan.{regular, closed, overtime};
+ghost use Rattle.plan.specs.Plan.{closed};
+ghost use Rattle.plan.specs.HourKinds.{isKind};
 ghost use Rattle.plan.specs.Lent.{old};
-ghost use Rattle.calendar.specs.Scan.{uncounted, empty, stretchOf, mayEnd, mayLast, stopsAt, lengthened};
+ghost use Rattle.calendar.specs.inner.Stretches.{HasHour, IsStretch, HasRoom, withoutHour, noHours, stretchOf, mayEnd, mayLast, stopsAt, lengthened};
 
 // One hour less, where there is one.
 fn one_less(n: Duration) -> Duration
@@ -25,19 +28,19 @@ fn one_less(n: Duration) -> Duration
 }
 
 // The counts with one hour less, which is among those counted.
-fn without_hour(n: Counts, symbol: u8) -> Counts
-    requires { ⌜ (oneIf (eqb symbol regular) ≤ n .regular) × (oneIf (eqb symbol overtime) ≤ n .overtime) ⌝ }
-    ensures { λ r. ⌜ r ≡ uncounted n symbol ⌝ }
+fn without_hour(n: Counts, calendar: &[u8], t: usize) -> Counts
+    requires { ⌜ HasHour n (now calendar) t ⌝ }
+    ensures { λ r. ⌜ r ≡ withoutHour n (old calendar) t ⌝ }
 {
     Counts {
-        regular: n.regular - one_if(symbol, b'r'),
-        overtime: n.overtime - one_if(symbol, b'o'),
+        regular: n.regular - one_if(calendar, t, REGULAR),
+        overtime: n.overtime - one_if(calendar, t, OVERTIME),
     }
 }
 
 // No hours.
 pub fn no_hours() -> Stretch
-    ensures { λ r. ⌜ r ≡ empty ⌝ }
+    ensures { λ r. ⌜ r ≡ noHours ⌝ }
 {
     Stretch {
         hours: Duration(0),
@@ -50,11 +53,11 @@ pub fn no_hours() -> Stretch
 }
 
 // The hours up to the last open one, with one hour more.
-fn last_open(a: Stretch, symbol: u8) -> Duration
-    requires { ⌜ a .hours .0 < mostHours ⌝ }
-    ensures { λ r. ⌜ r ≡ (if eqb symbol closed then a .last else duration (a .hours .0 + 1)) ⌝ }
+fn last_open(a: Stretch, calendar: &[u8], t: usize) -> Duration
+    requires { ⌜ (a .hours .0 < mostHours) × (t < length (now calendar)) ⌝ }
+    ensures { λ r. ⌜ r ≡ (if isKind closed (old calendar) t then a .last else duration (a .hours .0 + 1)) ⌝ }
 {
-    if symbol == b'c' {
+    if is_kind(calendar, t, CLOSED) {
         a.last
     } else {
         Duration(a.hours.0 + 1)
@@ -63,33 +66,29 @@ fn last_open(a: Stretch, symbol: u8) -> Duration
 
 // The stretch with one hour more at its end.
 fn longer(calendar: &[u8], s: Hour, a: Stretch) -> Stretch
-    requires { ⌜ (s .0 + a .hours .0 < length (now calendar))
-        × (length (now calendar) ≤ mostHours)
-        × (a ≡ stretchOf (now calendar) (s .0) (a .hours .0)) ⌝ }
+    requires { ⌜ HasRoom (now calendar) (s .0) a ⌝ }
     ensures { λ r. ⌜ r ≡ stretchOf (old calendar) (s .0) (a .hours .0 + 1) ⌝ }
 {
-    let symbol = calendar[(s.0 as usize) + (a.hours.0 as usize)];
+    let next = (s.0 as usize) + (a.hours.0 as usize);
     Stretch {
         hours: Duration(a.hours.0 + 1),
-        last: last_open(a, symbol),
-        counts: with_hour(a.counts, symbol),
+        last: last_open(a, calendar, next),
+        counts: with_hour(a.counts, calendar, next),
     }
 }
 
 // The stretch without its first hour: from the next hour on, to the same end.
 pub fn without_first(calendar: &[u8], s: Hour, a: Stretch) -> Stretch
-    requires { ⌜ (s .0 < length (now calendar))
-        × (a ≡ stretchOf (now calendar) (s .0) (a .hours .0)) ⌝ }
+    requires { ⌜ IsStretch (now calendar) (s .0) a ⌝ }
     ensures { λ r. ⌜ r ≡ stretchOf (old calendar) (s .0 + 1) (a .hours .0 - 1) ⌝ }
 {
     if a.hours.0 < 1 {
         return a;
     }
-    let symbol = calendar[s.0 as usize];
     Stretch {
         hours: one_less(a.hours),
         last: one_less(a.last),
-        counts: without_hour(a.counts, symbol),
+        counts: without_hour(a.counts, calendar, s.0 as usize),
     }
 }
 
@@ -117,9 +116,7 @@ pub fn may_end(work_time: Duration, b: Bounds, a: Stretch) -> bool
 
 // Whether a task may last one hour more than the stretch, by the tests that hold of a shorter stretch too.
 fn may_last(calendar: &[u8], work_time: Duration, b: Bounds, s: Hour, a: Stretch) -> bool
-    requires { ⌜ (s .0 + a .hours .0 < length (now calendar))
-        × (length (now calendar) ≤ mostHours)
-        × (a ≡ stretchOf (now calendar) (s .0) (a .hours .0)) ⌝ }
+    requires { ⌜ HasRoom (now calendar) (s .0) a ⌝ }
     ensures { λ r. ⌜ r ≡ mayLast (old calendar) («work_time» .0) b (s .0) (a .hours .0 + 1) ⌝ }
 {
     let p = work_time.0;
@@ -127,7 +124,7 @@ fn may_last(calendar: &[u8], work_time: Duration, b: Bounds, s: Hour, a: Stretch
     if b.longest.0 <= a.hours.0 {
         return false;
     }
-    let worked = a.counts.regular + one_if(calendar[first + (a.hours.0 as usize)], b'r');
+    let worked = a.counts.regular + one_if(calendar, first + (a.hours.0 as usize), REGULAR);
     if p < worked {
         return false;
     }
@@ -138,7 +135,7 @@ fn may_last(calendar: &[u8], work_time: Duration, b: Bounds, s: Hour, a: Stretch
     if a.hours.0 < 1 {
         return 1 <= p;
     }
-    a.counts.regular - one_if(calendar[first], b'r') + 2 <= p
+    a.counts.regular - one_if(calendar, first, REGULAR) + 2 <= p
 }
 
 // Whether to lengthen the stretch no more: for the shortest, since a task may end with it; for the longest, since no task may last longer.
@@ -150,9 +147,7 @@ fn stops(
     a: Stretch,
     shortest: bool,
 ) -> bool
-    requires { ⌜ (s .0 + a .hours .0 < length (now calendar))
-        × (length (now calendar) ≤ mostHours)
-        × (a ≡ stretchOf (now calendar) (s .0) (a .hours .0)) ⌝ }
+    requires { ⌜ HasRoom (now calendar) (s .0) a ⌝ }
     ensures { λ r. ⌜ r ≡ stopsAt (old calendar) («work_time» .0) b (s .0) shortest (a .hours .0) ⌝ }
 {
     if shortest {
@@ -170,9 +165,7 @@ pub fn lengthen(
     a: Stretch,
     shortest: bool,
 ) -> Stretch
-    requires { ⌜ (s .0 + a .hours .0 ≤ length (now calendar))
-        × (length (now calendar) ≤ mostHours)
-        × (a ≡ stretchOf (now calendar) (s .0) (a .hours .0)) ⌝ }
+    requires { ⌜ IsStretch (now calendar) (s .0) a ⌝ }
     ensures { λ r. ⌜ r ≡ stretchOf (old calendar) (s .0)
         (lengthened (old calendar) (s .0) (stopsAt (old calendar) («work_time» .0) b (s .0) shortest) (a .hours .0)) ⌝ }
 {

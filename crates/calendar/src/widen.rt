@@ -6,9 +6,8 @@ use units::Bounds;
 use units::Duration;
 use units::Hour;
 ghost use mathlib.Core.Path.{_≡_};
-ghost use Prim.Native.Nat.{_+_, _≤_, min, max};
-ghost use Rattle.units.specs.Limits.{mostHours};
-ghost use Rattle.calendar.specs.Scan.{windowFrom, join, joined};
+ghost use Prim.Native.Nat.{min, max};
+ghost use Rattle.calendar.specs.inner.Windows.{WindowReady, windowFrom, wider, withWindow};
 
 fn lesser(a: u16, b: u16) -> u16
     ensures { λ r. ⌜ r ≡ min a b ⌝ }
@@ -25,10 +24,7 @@ fn greater(a: u16, b: u16) -> u16
 // The window of the triples that start at s and last from the shorter stretch to the last open hour of the longer: the overtime falls with the
 // length.
 pub fn window_from(work_time: Duration, s: Hour, shortest: Stretch, longest: Stretch) -> Window
-    requires { ⌜ (s .0 + shortest .hours .0 ≤ mostHours)
-        × (s .0 + longest .last .0 ≤ mostHours)
-        × (shortest .counts .regular ≤ «work_time» .0)
-        × (longest .counts .regular ≤ «work_time» .0) ⌝ }
+    requires { ⌜ WindowReady («work_time» .0) (s .0) shortest longest ⌝ }
     ensures { λ r. ⌜ r ≡ windowFrom («work_time» .0) (s .0) shortest longest ⌝ }
 {
     let least = shortest.hours;
@@ -49,7 +45,7 @@ pub fn window_from(work_time: Duration, s: Hour, shortest: Stretch, longest: Str
 
 // The window of two windows' triples.
 fn wider(w: Window, v: Window) -> Window
-    ensures { λ r. ⌜ r ≡ join w v ⌝ }
+    ensures { λ r. ⌜ r ≡ wider w v ⌝ }
 {
     let a = w.bounds;
     let b = v.bounds;
@@ -69,7 +65,7 @@ fn wider(w: Window, v: Window) -> Window
 
 // The answer with one window's triples more.
 pub fn with_window(fit: Fit, v: Window) -> Fit
-    ensures { λ r. ⌜ r ≡ joined fit v ⌝ }
+    ensures { λ r. ⌜ r ≡ withWindow fit v ⌝ }
 {
     let Fit::Within(w) = fit else {
         return Fit::Within(v);

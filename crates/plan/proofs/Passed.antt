@@ -1,5 +1,5 @@
--- What a plan that passes the tests has. Assumes nothing.
-use mathlib.Core.Path.{_≡_}
+-- What each group of the plan's tests gives once it finds no fault, and so what a plan that passes has. Assumes nothing.
+use mathlib.Core.Path.{_≡_, _∙_}
 use mathlib.Core.Bool.{true}
 use mathlib.Core.Option.{none}
 use mathlib.Core.List.{List}
@@ -8,79 +8,138 @@ use native.Mathlib.Nat.{div-add-mod', mul-le-mul-right, add-mul}
 use native.Mathlib.Omega.{arith}
 use lib.ListN.{length, getD, length-take, length-drop}
 use borrow.Author.Tests.{eqb-true, leb-true, ltb-true}
-use Rattle.units.specs.Limits.{mostHours, mostTasks, mostCapacity, mostHeight, isPlanLength, isWorkTime, isHeight, isCapacity, isCalendarNumber, isTaskCount}
-use Rattle.units.proofs.Choices.{and-left, neither, first-none}
-use Rattle.units.proofs.Ranges.{Boxed, boxed, from-least, to-most}
-use Rattle.plan.specs.Plan.{Plan, taskCount, calendarCount, firstSymbol, calendarAt, calendarOf, workTimeOf, heightOf}
-use Rattle.plan.specs.Boxes.{boundsAt}
-use Rattle.plan.specs.Faults.{oneForEachTask, isCalendars, isSymbol, taskFault, planFault}
-use Rattle.plan.proofs.Refusing.{unless-none, sized}
+use Rattle.units.specs.Limits.{mostHours, mostTasks, mostCapacity, boxNumbers, isPlanLength, isWorkTime, isHeight, isCapacity, isCalendarNumber, isTaskCount}
+use Rattle.units.proofs.Choices.{and-left, and-right, else-none, neither, first-none, first-all-none}
+use Rattle.units.proofs.Ranges.{boxed, is-boxed, from-least, to-most}
+use Rattle.plan.specs.Plan.{Plan, taskCount, calendarCount, firstSymbol, calendarAt, calendarOf, heightOf}
+use Rattle.plan.specs.HourKinds.{isSymbol}
+use Rattle.plan.specs.Faults.{oneForEachTask, isCalendars, symbolFault, calendarsFault, countsFault, oneTaskFault, taskFault, tasksFault, planFault, inputFault}
+use Rattle.plan.specs.Passed.{PassedTask, Passed}
+use Rattle.plan.proofs.Refusing.{unless-true, unless-none}
 
--- what it has of task i
-pub record PassedTask (P : Plan) (boxes : List ℕ) (i : ℕ) : Type 0 where
-  pub calendar : firstSymbol (P .shifts .hours) (getD (P .shifts .taskCalendars) i 0) + P .shifts .hours ≤ length (P .shifts .calendars)
-  pub calendar-length : length (calendarOf (P .shifts) i) ≡ P .shifts .hours
-  pub some-work : 1 ≤ workTimeOf (P .shifts) i
-  pub work-time : workTimeOf (P .shifts) i ≤ P .shifts .hours
-  pub height : heightOf P i ≤ mostHeight
-  pub box : Boxed (P .shifts .hours) (workTimeOf (P .shifts) i) (boundsAt boxes i)
+-- ---- memory of the right size
 
-pub record Passed (P : Plan) (bs : List ℕ) : Type 0 where
-  pub some-hours : 1 ≤ P .shifts .hours
-  pub hours : P .shifts .hours ≤ mostHours
-  pub symbols : (k : ℕ) → k < length (P .shifts .calendars) → isSymbol (getD (P .shifts .calendars) k 0) ≡ true
-  pub tasks : taskCount P ≤ mostTasks
-  pub capacity : P .capacity ≤ mostCapacity
-  pub work-times : length (P .shifts .workTimes) ≡ taskCount P
-  pub heights : length (P .heights) ≡ taskCount P
-  pub boxes : length bs ≡ 6 * taskCount P
-  pub task : (i : ℕ) → i < taskCount P → PassedTask P bs i
+-- the lengths of the work times, the heights and the boxes, by that of the tasks' calendars
+pub record Sized (cs ws hs bs : List ℕ) : Type 0 where
+  pub work-times : length ws ≡ length cs
+  pub heights : length hs ≡ length cs
+  pub boxes : length bs ≡ boxNumbers * length cs
+
+pub sized : (cs ws hs bs : List ℕ) → oneForEachTask cs ws hs bs ≡ true → Sized cs ws hs bs
+unfolding oneForEachTask
+sized cs ws hs bs e =
+    record {
+      work-times = eqb-true _ _ (and-left _ _ e);
+      heights = eqb-true _ _ (and-left _ _ (and-right _ _ e));
+      boxes = eqb-true _ _ (and-right _ _ (and-right _ _ e));
+    }
+
+-- ---- H and the calendars
+
+pub record CalendarsPassed (hours : ℕ) (calendars : List ℕ) : Type 0 where
+  pub some-hours : 1 ≤ hours
+  pub short : hours ≤ mostHours
+  pub whole : isCalendars hours calendars ≡ true
+  pub symbols : (k : ℕ) → k < length calendars → isSymbol calendars k ≡ true
+
+pub calendars-passed : {hours : ℕ} {calendars : List ℕ} → calendarsFault hours calendars ≡ none → CalendarsPassed hours calendars
+unfolding calendarsFault symbolFault isPlanLength
+calendars-passed e =
+    let (two, rest) = neither _ _ e in
+    let (three, four) = neither _ _ rest in
+    let long = unless-none _ 2 0 two in
+    record {
+      some-hours = from-least 1 mostHours _ long;
+      short = to-most 1 mostHours _ long;
+      whole = unless-none _ 3 0 three;
+      symbols = λ k l. unless-none _ 4 k (first-none _ _ four k l);
+    }
+
+-- ---- counts and the capacity
+
+pub record CountsPassed (n c : ℕ) : Type 0 where
+  pub tasks : n ≤ mostTasks
+  pub capacity : c ≤ mostCapacity
+
+pub counts-passed : {tasks capacity : ℕ} → countsFault tasks capacity ≡ none → CountsPassed tasks capacity
+unfolding countsFault isTaskCount isCapacity
+counts-passed e =
+    let (five, ten) = neither _ _ e in
+    record { tasks = leb-true _ _ (unless-none _ 5 0 five); capacity = leb-true _ _ (unless-none _ 10 0 ten) }
+
+-- ---- a task
 
 -- a calendar among those there are ends within the symbols
 calendar-fits : (n h k : ℕ) → n % h ≡ 0 → k < n / h → k * h + h ≤ n
 calendar-fits n h k whole l = omega (arith, div-add-mod' n h, mul-le-mul-right {m = k + 1} {n = n / h} h (omega arith), add-mul k 1 h)
 
 module _ (P : Plan) (boxes : List ℕ) where
-  calendar-length : (number : ℕ) → firstSymbol (P .shifts .hours) number + P .shifts .hours ≤ length (P .shifts .calendars) → length (calendarAt (P .shifts) number) ≡ P .shifts .hours
+  calendar-length : (number : ℕ) → firstSymbol (P .shifts .hours) number + P .shifts .hours ≤ length (P .shifts .calendars)
+      → length (calendarAt (P .shifts) number) ≡ P .shifts .hours
   unfolding calendarAt
   calendar-length number l = simp (length-take, length-drop) (omega arith)
 
-  passed-task : (i : ℕ) → isCalendars (P .shifts) ≡ true → taskFault P boxes i ≡ none → PassedTask P boxes i
-  unfolding taskFault isCalendars calendarCount calendarOf firstSymbol isCalendarNumber isWorkTime isHeight
+  passed-task : (i : ℕ) → isCalendars (P .shifts .hours) (P .shifts .calendars) ≡ true → taskFault (P .shifts) (P .heights) boxes i ≡ none
+      → PassedTask P boxes i
+  unfolding taskFault oneTaskFault isCalendars calendarCount calendarOf firstSymbol heightOf isCalendarNumber isWorkTime isHeight
   passed-task i whole e =
-      let after-6 = neither _ _ e in
-      let after-7 = neither _ _ (after-6 .1) in
-      let after-8 = neither _ _ (after-7 .1) in
-      let fits = calendar-fits _ _ _ (eqb-true _ _ (and-left _ _ whole)) (ltb-true _ _ (unless-none _ 6 i (after-6 .0))) in
-      let work = unless-none _ 7 i (after-7 .0) in
+      let (six, rest) = neither _ _ e in
+      let (seven, rest) = neither _ _ rest in
+      let (eight, nine) = neither _ _ rest in
+      let fits = calendar-fits _ _ _ (eqb-true _ _ (and-left _ _ whole)) (ltb-true _ _ (unless-none _ 6 i six)) in
+      let work = unless-none _ 7 i seven in
       record {
         calendar = fits;
         calendar-length = calendar-length _ fits;
         some-work = from-least 1 (P .shifts .hours) _ work;
         work-time = to-most 1 (P .shifts .hours) _ work;
-        height = leb-true _ _ (unless-none _ 8 i (after-8 .0));
-        box = boxed _ _ _ (unless-none _ 9 i (after-8 .1));
+        height = leb-true _ _ (unless-none _ 8 i eight);
+        box = boxed _ _ _ (unless-none _ 9 i nine);
       }
 
+  -- ---- all
+
   pub passed : oneForEachTask (P .shifts .taskCalendars) (P .shifts .workTimes) (P .heights) boxes ≡ true → planFault P boxes ≡ none → Passed P boxes
-  unfolding planFault taskCount isPlanLength isTaskCount isCapacity
+  unfolding planFault tasksFault taskCount
   passed one e =
       let size = sized _ _ _ _ one in
-      let after-2 = neither _ _ e in
-      let after-3 = neither _ _ (after-2 .1) in
-      let after-4 = neither _ _ (after-3 .1) in
-      let after-5 = neither _ _ (after-4 .1) in
-      let after-10 = neither _ _ (after-5 .1) in
-      let long = unless-none _ 2 0 (after-2 .0) in
-      let whole = unless-none _ 3 0 (after-3 .0) in
+      let (calendars, rest) = neither _ _ e in
+      let (counts, tasks) = neither _ _ rest in
+      let c = calendars-passed calendars in
+      let n = counts-passed counts in
       record {
-        some-hours = from-least 1 mostHours _ long;
-        hours = to-most 1 mostHours _ long;
-        symbols = λ k l. unless-none _ 4 k (first-none _ _ (after-4 .0) k l);
-        tasks = leb-true _ _ (unless-none _ 5 0 (after-5 .0));
-        capacity = leb-true _ _ (unless-none _ 10 0 (after-10 .0));
+        some-hours = c .some-hours;
+        hours = c .short;
+        symbols = c .symbols;
+        tasks = n .tasks;
+        capacity = n .capacity;
         work-times = size .work-times;
         heights = size .heights;
         boxes = size .boxes;
-        task = λ i l. passed-task i whole (first-none (taskFault P boxes) _ (after-10 .1) i l);
+        task = λ i l. passed-task i (c .whole) (first-none _ _ tasks i l);
       }
+
+  -- ---- with other boxes
+
+  -- only 31 and 9 read the boxes, so that a plan passes with others of which it has all that it has when it passes
+  module _ (others : List ℕ) (again : Passed P others) (same : length others ≡ length boxes) where
+    task-again : (i : ℕ) → i < taskCount P → taskFault (P .shifts) (P .heights) boxes i ≡ none → taskFault (P .shifts) (P .heights) others i ≡ none
+    unfolding taskFault oneTaskFault
+    task-again i l e =
+        let (six, rest) = neither _ _ e in
+        let (seven, rest) = neither _ _ rest in
+        let (eight, nine) = neither _ _ rest in
+        else-none _ _ six ∙ else-none _ _ seven ∙ else-none _ _ eight ∙ unless-true _ 9 i (is-boxed _ _ _ (again .task i l .box))
+
+    plan-again : planFault P boxes ≡ none → planFault P others ≡ none
+    unfolding planFault tasksFault taskCount
+    plan-again e =
+        let (calendars, rest) = neither _ _ e in
+        let (counts, tasks) = neither _ _ rest in
+        else-none _ _ calendars
+        ∙ else-none _ _ counts
+        ∙ first-all-none _ _ (λ i l. task-again i l (first-none _ _ tasks i l))
+
+    pub input-again : inputFault P boxes ≡ none → inputFault P others ≡ none
+    unfolding inputFault oneForEachTask
+    input-again e = let (one, rest) = neither _ _ e in else-none _ _ (rw same one) ∙ plan-again rest

@@ -1,21 +1,12 @@
--- Laws of the plan's tests: what a test and those after it come to, and what is known once none refuses. Assumes nothing.
-use mathlib.Core.Path.{_≡_, refl, sym, ap, _∙_}
+-- Laws of a test that refuses: what it and those after it come to, and what is known once it does not refuse. Assumes nothing.
+use mathlib.Core.Path.{_≡_, ap}
 use mathlib.Core.Bool.{Bool, true, false, not}
 use mathlib.Core.Option.{Option, none, some}
-use mathlib.Core.List.{List}
-use Prim.Native.Nat.{ℕ, _*_, _/_, _%_, _≤_}
-use native.Mathlib.Omega.{arith}
-use lib.Dec.{eqb}
-use lib.ListN.{length, getD}
-use borrow.Author.Tests.{eqb-true, eqb-false, eq-eqb, ne-eqb, not-false}
-use Rattle.units.specs.Choice.{_and_, _orElse_, firstOf}
-use Rattle.units.proofs.Choices.{and-left, and-right, some-if, none-if, if-none, else-none, else-some}
-use Rattle.units.specs.Limits.{isCalendarCount, isCalendarNumber, isWorkTime, isHeight, isBox}
-use Rattle.units.specs.declared.Bounds.{Bounds}
-use Rattle.plan.specs.Plan.{Shifts, Plan, plan, taskCount, calendarCount, workTimeOf, heightOf}
-use Rattle.plan.specs.Boxes.{boundsAt}
+use Prim.Native.Nat.{ℕ}
+use borrow.Author.Tests.{not-false}
+use Rattle.units.specs.Choice.{_orElse_}
+use Rattle.units.proofs.Choices.{some-if, none-if, if-none, else-none, else-some}
 use Rattle.plan.specs.Refusals.{Fault, fault, unless}
-use Rattle.plan.specs.Faults.{oneForEachTask, isCalendars, taskFault}
 
 module _ (test : Bool) (number place : ℕ) where
   pub unless-true : test ≡ true → unless test number place ≡ none
@@ -36,62 +27,3 @@ module _ (test : Bool) (number place : ℕ) where
 
   pub refuse : (rest : Option Fault) → test ≡ false → (unless test number place orElse rest) ≡ some (fault number place)
   refuse rest e = else-some _ rest _ (unless-false e)
-
--- the first test holds, so the second decides
-pub and-rest : (a b : Bool) → a ≡ true → a and b ≡ b
-unfolding _and_
-and-rest a b e = rw e
-
--- nothing is found among as many as there are: what a loop that was not left needs
-pub first-end : {A : Type 0} (f : ℕ → Option A) (n m : ℕ) → n ≤ m → m ≤ n → firstOf f n ≡ none → firstOf f m ≡ none
-first-end f n m l k e = let q : m ≡ n = omega arith in rw q e
-
--- a length that is six for each task, by its sixth
-module _ (n k : ℕ) where
-  pub sixth : n % 6 ≡ 0 → eqb (n / 6) k ≡ eqb n (6 * k)
-  sixth e = go (eqb (n / 6) k) refl
-    where
-      go : (b : Bool) → eqb (n / 6) k ≡ b → eqb (n / 6) k ≡ eqb n (6 * k)
-      go true q = let l = eqb-true (n / 6) k q in q ∙ sym (eq-eqb n (6 * k) (omega arith))
-      go false q = let l = eqb-false (n / 6) k q in q ∙ sym (ne-eqb n (6 * k) (λ m. l (omega arith)))
-
-  pub no-sixth : (n % 6 ≡ 0 → ⊥) → eqb n (6 * k) ≡ false
-  no-sixth e = ne-eqb n (6 * k) (λ m. e (omega arith))
-
--- what one for each task says of the lengths of the tasks' calendars, work times and heights, and of the boxes
-pub record Sized (cs ws hs bs : List ℕ) : Type 0 where
-  pub work-times : length ws ≡ length cs
-  pub heights : length hs ≡ length cs
-  pub boxes : length bs ≡ 6 * length cs
-
-pub sized : (cs ws hs bs : List ℕ) → oneForEachTask cs ws hs bs ≡ true → Sized cs ws hs bs
-unfolding oneForEachTask
-sized cs ws hs bs e =
-    record {
-      work-times = eqb-true _ _ (and-left _ _ e);
-      heights = eqb-true _ _ (and-left _ _ (and-right _ _ e));
-      boxes = eqb-true _ _ (and-right _ _ (and-right _ _ e));
-    }
-
--- the tests of a plan, from the numbers that the code holds
-pub calendars-are : (S : Shifts) (hours : ℕ) (r : Bool) → hours ≡ S .hours
-    → r ≡ (eqb (length (S .calendars) % hours) 0 and isCalendarCount (length (S .calendars) / hours)) → r ≡ isCalendars S
-unfolding isCalendars calendarCount
-calendars-are S hours r e q = rw (← e) q
-
-module _ (P : Plan) (bs : List ℕ) where
-  pub task-is : (i count : ℕ) (b : Bounds) (r : Option Fault) → count ≡ length (P .shifts .calendars) / P .shifts .hours → b ≡ boundsAt bs i
-      → r
-      ≡ (unless (isCalendarNumber count (getD (P .shifts .taskCalendars) i 0)) 6 i
-      orElse unless (isWorkTime (P .shifts .hours) (getD (P .shifts .workTimes) i 0)) 7 i
-      orElse unless (isHeight (getD (P .heights) i 0)) 8 i
-      orElse unless (isBox (P .shifts .hours) (getD (P .shifts .workTimes) i 0) b) 9 i)
-      → r ≡ taskFault P bs i
-  unfolding taskFault calendarCount workTimeOf heightOf
-  task-is i count b r e f q = rw (← e, ← f) q
-
-  pub tasks-are : (hours : ℕ) (r : Option Fault) → hours ≡ P .shifts .hours
-      → r ≡ firstOf (taskFault (plan hours 0 (P .shifts .calendars) (P .shifts .taskCalendars) (P .shifts .workTimes) (P .heights)) bs) (length (P .shifts .taskCalendars))
-      → r ≡ firstOf (taskFault P bs) (taskCount P)
-  unfolding taskFault calendarCount workTimeOf heightOf taskCount
-  tasks-are hours r e q = rw (← e) q

@@ -1,49 +1,74 @@
--- The plan's tests: the first fault, in 01's order (01, "Refused because of the input", "Refused because of the state").
-use mathlib.Core.Bool.{Bool, true}
+-- The plan's tests, group by group: the first fault, in 01's order (01, "Refused because of the input", "Refused because of the state").
+use mathlib.Core.Bool.{Bool}
 use mathlib.Core.Option.{Option, none}
 use mathlib.Core.List.{List}
 use mathlib.Core.Path.{_≡_}
-use Prim.Native.Nat.{ℕ, _*_, _%_}
+use Prim.Native.Nat.{ℕ, _*_, _/_, _%_}
 use lib.Dec.{eqb}
 use lib.ListN.{length, getD}
-use Rattle.units.specs.Choice.{_and_, if_then_else_, _orElse_, firstOf}
-use Rattle.units.specs.Limits.{isPlanLength, isWorkTime, isHeight, isCapacity, isCalendarCount, isCalendarNumber, isTaskCount, isBox}
-use Rattle.plan.specs.Plan.{Shifts, Plan, regular, closed, overtime, taskCount, calendarCount, workTimeOf, heightOf}
+use Rattle.units.specs.Choice.{_and_, _orElse_, firstOf}
+use Rattle.units.specs.Limits.{boxNumbers, isPlanLength, isWorkTime, isHeight, isCapacity, isCalendarCount, isCalendarNumber, isTaskCount, isBox}
+use Rattle.units.specs.declared.Bounds.{Bounds}
+use Rattle.plan.specs.Plan.{Shifts, Plan, taskCount, calendarCount, workTimeOf}
+use Rattle.plan.specs.HourKinds.{isSymbol}
 use Rattle.plan.specs.Boxes.{boundsAt}
 use Rattle.plan.specs.Refusals.{Fault, unless}
 
--- one number a task in each field, and one box a task: six numbers
+-- ---- memory of the right size: 31
+
+-- one number a task in each field, and one box a task
 unfoldable pub oneForEachTask : List ℕ → List ℕ → List ℕ → List ℕ → Bool
 oneForEachTask taskCalendars workTimes heights boxes =
     eqb (length workTimes) (length taskCalendars)
     and eqb (length heights) (length taskCalendars)
-    and eqb (length boxes) (6 * length taskCalendars)
+    and eqb (length boxes) (boxNumbers * length taskCalendars)
+
+-- ---- H and the calendars: 2, 3, 4
 
 -- 1 to 16 calendars, each of H symbols
-unfoldable pub isCalendars : Shifts → Bool
-isCalendars S = eqb (length (S .calendars) % S .hours) 0 and isCalendarCount (calendarCount S)
+unfoldable pub isCalendars : ℕ → List ℕ → Bool
+isCalendars hours calendars = eqb (length calendars % hours) 0 and isCalendarCount (length calendars / hours)
 
--- r, c or o
-unfoldable pub isSymbol : ℕ → Bool
-isSymbol n = if eqb n regular then true else (if eqb n closed then true else eqb n overtime)
+-- 4, at an index of the symbols, calendars joined
+unfoldable pub symbolFault : List ℕ → ℕ → Option Fault
+symbolFault calendars k = unless (isSymbol calendars k) 4 k
 
--- task by task 6, 7, 8, 9
-unfoldable pub taskFault : Plan → List ℕ → ℕ → Option Fault
-taskFault P boxes i =
-    unless (isCalendarNumber (calendarCount (P .shifts)) (getD (P .shifts .taskCalendars) i 0)) 6 i
-    orElse unless (isWorkTime (P .shifts .hours) (workTimeOf (P .shifts) i)) 7 i
-    orElse unless (isHeight (heightOf P i)) 8 i
-    orElse unless (isBox (P .shifts .hours) (workTimeOf (P .shifts) i) (boundsAt boxes i)) 9 i
+unfoldable pub calendarsFault : ℕ → List ℕ → Option Fault
+calendarsFault hours calendars =
+    unless (isPlanLength hours) 2 0
+    orElse unless (isCalendars hours calendars) 3 0
+    orElse firstOf (symbolFault calendars) (length calendars)
+
+-- ---- counts and the capacity: 5, 10
+
+unfoldable pub countsFault : ℕ → ℕ → Option Fault
+countsFault tasks capacity = unless (isTaskCount tasks) 5 0 orElse unless (isCapacity capacity) 10 0
+
+-- ---- task by task: 6, 7, 8, 9
+
+-- of task i, in a plan of so many hours and calendars, by the number of its calendar, its work time p, its height and its box
+unfoldable pub oneTaskFault : ℕ → ℕ → ℕ → ℕ → ℕ → ℕ → Bounds → Option Fault
+oneTaskFault hours calendars i number p height b =
+    unless (isCalendarNumber calendars number) 6 i
+    orElse unless (isWorkTime hours p) 7 i
+    orElse unless (isHeight height) 8 i
+    orElse unless (isBox hours p b) 9 i
+
+unfoldable pub taskFault : Shifts → List ℕ → List ℕ → ℕ → Option Fault
+taskFault S heights boxes i =
+    oneTaskFault (S .hours) (calendarCount S) i (getD (S .taskCalendars) i 0) (workTimeOf S i) (getD heights i 0) (boundsAt boxes i)
+
+unfoldable pub tasksFault : Shifts → List ℕ → List ℕ → Option Fault
+tasksFault S heights boxes = firstOf (taskFault S heights boxes) (length (S .taskCalendars))
+
+-- ---- all
 
 -- 2, 3, 4, 5, 10, then task by task
 unfoldable pub planFault : Plan → List ℕ → Option Fault
 planFault P boxes =
-    unless (isPlanLength (P .shifts .hours)) 2 0
-    orElse unless (isCalendars (P .shifts)) 3 0
-    orElse firstOf (λ k. unless (isSymbol (getD (P .shifts .calendars) k 0)) 4 k) (length (P .shifts .calendars))
-    orElse unless (isTaskCount (taskCount P)) 5 0
-    orElse unless (isCapacity (P .capacity)) 10 0
-    orElse firstOf (taskFault P boxes) (taskCount P)
+    calendarsFault (P .shifts .hours) (P .shifts .calendars)
+    orElse countsFault (taskCount P) (P .capacity)
+    orElse tasksFault (P .shifts) (P .heights) boxes
 
 -- 31 before all others
 unfoldable pub inputFault : Plan → List ℕ → Option Fault

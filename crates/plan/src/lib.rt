@@ -10,16 +10,17 @@ use units::MaybeDuration;
 use units::MaybeHeight;
 ghost use mathlib.Core.Bool.{true};
 ghost use mathlib.Core.Path.{_≡_};
-ghost use Prim.Native.Nat.{_+_, _*_, _/_, _%_, _≤_};
-ghost use lib.Dec.{eqb};
-ghost use lib.ListN.{length, getD, take, drop};
-ghost use Rattle.units.specs.Choice.{_and_, _orElse_, firstOf};
-ghost use Rattle.units.specs.Limits.{isCalendarCount, isCalendarNumber, isWorkTime, isHeight, isBox};
+ghost use Prim.Native.Nat.{_+_, _*_, _/_, _≤_, _<_};
+ghost use lib.ListN.{length, take, drop};
+ghost use Rattle.units.specs.Choice.{firstOf};
+ghost use Rattle.units.specs.Limits.{boxNumbers};
 ghost use Rattle.plan.specs.Plan.{firstSymbol};
+ghost use Rattle.plan.specs.HourKinds.{isKind, isSymbol};
 ghost use Rattle.plan.specs.Boxes.{boundsAt, withBounds};
-ghost use Rattle.plan.specs.Refusals.{unless, faultOf, testedFault};
-ghost use Rattle.plan.specs.Faults.{oneForEachTask, isSymbol, taskFault, planFault, inputFault};
-ghost use Rattle.plan.specs.Lent.{old, left, oldPlan};
+ghost use Rattle.plan.specs.Refusals.{faultOf, testedFault};
+ghost use Rattle.plan.specs.Faults.{oneForEachTask, isCalendars, symbolFault, calendarsFault, countsFault, oneTaskFault, tasksFault, planFault, inputFault};
+ghost use Rattle.plan.specs.Lent.{old, left, shiftsOf, oldShifts, oldPlan};
+ghost use Rattle.plan.specs.inner.Ready.{TasksReady};
 
 // Why a call is refused, in document 01's order of numbers, with the place where 01 names one.
 pub enum Refusal {
@@ -88,10 +89,10 @@ pub fn fault_of(r: Refusal) -> Fault
 
 // The box of task i.
 pub fn bounds_at(boxes: &[u16], i: usize) -> Bounds
-    requires { ⌜ 6 * i + 6 ≤ length (now boxes) ⌝ }
+    requires { ⌜ boxNumbers * i + boxNumbers ≤ length (now boxes) ⌝ }
     ensures { λ r. ⌜ r ≡ boundsAt (old boxes) i ⌝ }
 {
-    let first = 6 * i;
+    let first = Bounds::NUMBERS * i;
     Bounds {
         earliest: Hour(boxes[first]),
         latest: Hour(boxes[first + 1]),
@@ -104,16 +105,31 @@ pub fn bounds_at(boxes: &[u16], i: usize) -> Bounds
 
 // Another box for task i.
 pub fn put_bounds(boxes: &mut [u16], i: usize, b: Bounds)
-    requires { ⌜ 6 * i + 6 ≤ length (now boxes) ⌝ }
+    requires { ⌜ boxNumbers * i + boxNumbers ≤ length (now boxes) ⌝ }
     ensures { λ r. ⌜ left boxes ≡ withBounds (old boxes) i b ⌝ }
 {
-    let first = 6 * i;
+    let first = Bounds::NUMBERS * i;
     boxes[first] = b.earliest.0;
     boxes[first + 1] = b.latest.0;
     boxes[first + 2] = b.shortest.0;
     boxes[first + 3] = b.longest.0;
     boxes[first + 4] = b.fewest.0;
     boxes[first + 5] = b.most.0;
+}
+
+// The kinds of an hour, by their symbols.
+pub const REGULAR: u8 = b'r';
+
+pub const CLOSED: u8 = b'c';
+
+pub const OVERTIME: u8 = b'o';
+
+// Whether an hour of a calendar is of the kind. Nothing else reads a symbol.
+pub fn is_kind(calendar: &[u8], t: usize, kind: u8) -> bool
+    requires { ⌜ t < length (now calendar) ⌝ }
+    ensures { λ r. ⌜ r ≡ isKind kind (old calendar) t ⌝ }
+{
+    calendar[t] == kind
 }
 
 // Where a calendar begins among the symbols of all calendars, joined.
@@ -141,7 +157,7 @@ fn calendar_count(calendars: &[u8], hours: Duration) -> usize
     calendars.len() / hours.0 as usize
 }
 
-// Whether the fields and the boxes number one for each task. The boxes' length is divided, since six times a length may not fit.
+// Whether the fields and the boxes number one for each task.
 pub fn has_one_for_each_task(
     task_calendars: &[u16],
     work_times: &[u16],
@@ -157,16 +173,13 @@ pub fn has_one_for_each_task(
     if heights.len() != tasks {
         return false;
     }
-    if boxes.len() % 6 != 0 {
-        return false;
-    }
-    boxes.len() / 6 == tasks
+    units::is_for_each(boxes.len(), Bounds::NUMBERS, tasks)
 }
 
 // Whether the symbols make calendars of so many hours each, and as many as a plan may have.
 fn has_calendars(calendars: &[u8], hours: Duration) -> bool
     requires { ⌜ 1 ≤ hours .0 ⌝ }
-    ensures { λ r. ⌜ r ≡ eqb (length (old calendars) % hours .0) 0 and isCalendarCount (length (old calendars) / hours .0) ⌝ }
+    ensures { λ r. ⌜ r ≡ isCalendars (hours .0) (old calendars) ⌝ }
 {
     if calendars.len() % hours.0 as usize != 0 {
         return false;
@@ -174,32 +187,59 @@ fn has_calendars(calendars: &[u8], hours: Duration) -> bool
     CalendarNumber::is_count(calendar_count(calendars, hours))
 }
 
-// Whether it is r, c or o.
-fn is_symbol(symbol: u8) -> bool
-    ensures { λ r. ⌜ r ≡ isSymbol symbol ⌝ }
+// Whether the symbol at an index is r, c or o.
+fn is_symbol(calendars: &[u8], k: usize) -> bool
+    requires { ⌜ k < length (now calendars) ⌝ }
+    ensures { λ r. ⌜ r ≡ isSymbol (old calendars) k ⌝ }
 {
-    if symbol == b'r' {
+    if is_kind(calendars, k, REGULAR) {
         return true;
     }
-    if symbol == b'c' {
+    if is_kind(calendars, k, CLOSED) {
         return true;
     }
-    symbol == b'o'
+    is_kind(calendars, k, OVERTIME)
 }
 
 // 4, at the first symbol other than r, c, o.
 fn test_symbols(calendars: &[u8]) -> Tested
-    ensures { λ r. ⌜ testedFault r ≡ firstOf (λ k. unless (isSymbol (getD (old calendars) k 0)) 4 k) (length (old calendars)) ⌝ }
+    ensures { λ r. ⌜ testedFault r ≡ firstOf (symbolFault (old calendars)) (length (old calendars)) ⌝ }
 {
     for k in 0..calendars.len() {
-        if !is_symbol(calendars[k]) {
+        if !is_symbol(calendars, k) {
             return Tested::Refused(Refusal::Symbol(k));
         }
     }
     Tested::Passed
 }
 
-// 6, 7, 8, 9 of one task, in a plan of so many hours and calendars.
+// H and the calendars: 2, 3, 4.
+fn test_calendars(hours: u16, calendars: &[u8]) -> Tested
+    ensures { λ r. ⌜ testedFault r ≡ calendarsFault hours (old calendars) ⌝ }
+{
+    let MaybeDuration::Within(plan_length) = Duration::of_plan(hours as usize) else {
+        return Tested::Refused(Refusal::Hours);
+    };
+    if !has_calendars(calendars, plan_length) {
+        return Tested::Refused(Refusal::Calendars);
+    }
+    test_symbols(calendars)
+}
+
+// Counts and the capacity: 5, 10.
+fn test_counts(tasks: usize, capacity: u16) -> Tested
+    ensures { λ r. ⌜ testedFault r ≡ countsFault tasks capacity ⌝ }
+{
+    if !Bounds::is_count(tasks) {
+        return Tested::Refused(Refusal::Tasks);
+    }
+    let MaybeHeight::Within(_) = Height::of_plan(capacity) else {
+        return Tested::Refused(Refusal::Capacity);
+    };
+    Tested::Passed
+}
+
+// One task, in a plan of so many hours and calendars: 6, 7, 8, 9.
 fn test_task(
     task: usize,
     hours: Duration,
@@ -209,10 +249,7 @@ fn test_task(
     height: u16,
     bounds: Bounds,
 ) -> Tested
-    ensures { λ r. ⌜ testedFault r ≡ (unless (isCalendarNumber calendars calendar) 6 task
-        orElse unless (isWorkTime (hours .0) «work_time») 7 task
-        orElse unless (isHeight height) 8 task
-        orElse unless (isBox (hours .0) «work_time» bounds) 9 task) ⌝ }
+    ensures { λ r. ⌜ testedFault r ≡ oneTaskFault (hours .0) calendars task calendar «work_time» height bounds ⌝ }
 {
     let MaybeCalendarNumber::Within(_) = CalendarNumber::of_plan(calendar, calendars) else {
         return Tested::Refused(Refusal::NoCalendar(task));
@@ -229,7 +266,7 @@ fn test_task(
     Tested::Passed
 }
 
-// Task by task. No test of a task asks for the capacity, so the contract puts 0 there.
+// Task by task.
 fn test_tasks(
     hours: Duration,
     calendars: &[u8],
@@ -238,10 +275,9 @@ fn test_tasks(
     heights: &[u16],
     boxes: &[u16],
 ) -> Tested
-    requires { ⌜ (1 ≤ hours .0) × (oneForEachTask (now «task_calendars») (now «work_times») (now heights) (now boxes) ≡ true) ⌝ }
-    ensures { λ r. ⌜ testedFault r ≡ firstOf
-        (taskFault (oldPlan (hours .0) 0 calendars «task_calendars» «work_times» heights) (old boxes))
-        (length (old «task_calendars»)) ⌝ }
+    requires { ⌜ TasksReady (shiftsOf (hours .0) calendars «task_calendars» «work_times») (now heights) (now boxes) ⌝ }
+    ensures { λ r. let S = oldShifts (hours .0) calendars «task_calendars» «work_times» in
+        ⌜ testedFault r ≡ tasksFault S (old heights) (old boxes) ⌝ }
 {
     let count = calendar_count(calendars, hours);
     for i in 0..task_calendars.len() {
@@ -261,7 +297,7 @@ fn test_tasks(
     Tested::Passed
 }
 
-// The plan's tests on memory of the right size: 2, 3, 4, 5, 10, then task by task.
+// The plan's tests on memory of the right size: H and the calendars, the counts, then task by task.
 pub fn test_plan(
     hours: u16,
     capacity: u16,
@@ -272,28 +308,19 @@ pub fn test_plan(
     boxes: &[u16],
 ) -> Tested
     requires { ⌜ oneForEachTask (now «task_calendars») (now «work_times») (now heights) (now boxes) ≡ true ⌝ }
-    ensures { λ r. ⌜ testedFault r ≡ planFault
-        (oldPlan hours capacity calendars «task_calendars» «work_times» heights)
-        (old boxes) ⌝ }
+    ensures { λ r. let P = oldPlan hours capacity calendars «task_calendars» «work_times» heights in
+        ⌜ testedFault r ≡ planFault P (old boxes) ⌝ }
 {
-    let MaybeDuration::Within(plan_length) = Duration::of_plan(hours as usize) else {
-        return Tested::Refused(Refusal::Hours);
+    let by_calendars = test_calendars(hours, calendars);
+    let Tested::Passed = by_calendars else {
+        return by_calendars;
     };
-    if !has_calendars(calendars, plan_length) {
-        return Tested::Refused(Refusal::Calendars);
-    }
-    let symbols = test_symbols(calendars);
-    let Tested::Passed = symbols else {
-        return symbols;
-    };
-    if !Bounds::is_count(task_calendars.len()) {
-        return Tested::Refused(Refusal::Tasks);
-    }
-    let MaybeHeight::Within(_) = Height::of_plan(capacity) else {
-        return Tested::Refused(Refusal::Capacity);
+    let by_counts = test_counts(task_calendars.len(), capacity);
+    let Tested::Passed = by_counts else {
+        return by_counts;
     };
     test_tasks(
-        plan_length,
+        Duration(hours),
         calendars,
         task_calendars,
         work_times,
@@ -312,9 +339,8 @@ pub fn test_input(
     heights: &[u16],
     boxes: &[u16],
 ) -> Tested
-    ensures { λ r. ⌜ testedFault r ≡ inputFault
-        (oldPlan hours capacity calendars «task_calendars» «work_times» heights)
-        (old boxes) ⌝ }
+    ensures { λ r. let P = oldPlan hours capacity calendars «task_calendars» «work_times» heights in
+        ⌜ testedFault r ≡ inputFault P (old boxes) ⌝ }
 {
     if !has_one_for_each_task(task_calendars, work_times, heights, boxes) {
         return Tested::Refused(Refusal::MemorySize);

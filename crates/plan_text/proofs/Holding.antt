@@ -2,21 +2,20 @@
 use mathlib.Core.Path.{_≡_, refl, sym, subst}
 use mathlib.Core.Bool.{Bool}
 use mathlib.Core.Option.{Option, none, some}
-use mathlib.Core.List.{List, map}
+use mathlib.Core.List.{List}
 use Prim.Native.Nat.{ℕ, _*_, _≤_}
 use native.Mathlib.Nat.{mul-le-mul}
 use native.Mathlib.Omega.{arith}
 use lib.ListN.{length, getD, length-map}
-use lib.Dec.{leb}
-use borrow.Author.Tests.{leb-true}
 use Rattle.units.specs.Choice.{onOption}
-use Rattle.units.specs.Limits.{mostHours, mostCalendars, mostTasks, isPlanLength, isCalendarCount, isTaskCount}
+use Rattle.units.specs.Limits.{mostHours, mostCalendars, mostTasks, isPlanLength, isCalendarCount}
 use Rattle.units.proofs.Choices.{and-left, neither}
 use Rattle.units.proofs.Ranges.{to-most}
 use Rattle.plan.specs.Plan.{taskCount}
 use Rattle.plan.specs.Refusals.{Fault, Answer, refused, answered, onAnswer}
 use Rattle.plan.specs.Faults.{planFault}
 use Rattle.plan.proofs.Refusing.{unless-none}
+use Rattle.plan.proofs.Passed.{counts-passed}
 use Rattle.plan_text.specs.Text.{Read, readText}
 use Rattle.plan_text.specs.Entry.{planIn, readFault, isEnough, PlanRead, ReadEnd, unread, stored, readPlan}
 
@@ -28,20 +27,15 @@ pub record Holds (a : PlanRead) : Type 0 where
 
 fault-free : (enough : Bool) (r : Read) → readFault enough r ≡ none
     → Holds (record { hours = r .hours; capacity = r .capacity; calendars = length (r .calendars); tasks = length (r .tasks) })
-unfolding readFault planFault planIn taskCount isPlanLength isCalendarCount isTaskCount
+unfolding readFault planFault planIn taskCount isPlanLength isCalendarCount
 fault-free enough r e =
     let after-31 = neither _ _ e in
     let after-2 = neither _ _ (after-31 .1) in
     let after-3 = neither _ _ (after-2 .1) in
-    let again-2 = neither _ _ (after-3 .1) in
-    let again-3 = neither _ _ (again-2 .1) in
-    let after-4 = neither _ _ (again-3 .1) in
-    let after-5 = neither _ _ (after-4 .1) in
+    let counts = counts-passed (neither _ _ (neither _ _ (after-3 .1) .1) .0) in
     let h : r .hours ≤ mostHours = to-most 1 mostHours _ (unless-none _ 2 0 (after-2 .0)) in
     let c : length (r .calendars) ≤ mostCalendars = to-most 1 mostCalendars _ (and-left _ _ (unless-none _ 3 0 (after-3 .0))) in
-    let n : ℕ = length (map (λ (t : List ℕ). getD t 0 0) (r .tasks)) in
-    let many : n ≤ mostTasks = leb-true n mostTasks (unless-none (leb n mostTasks) 5 0 (after-5 .0)) in
-    let few : length (r .tasks) ≤ mostTasks = omega (arith, length-map (r .tasks) (λ (t : List ℕ). getD t 0 0)) in
+    let few : length (r .tasks) ≤ mostTasks = omega (arith, counts .tasks, length-map (r .tasks) (λ (t : List ℕ). getD t 0 0)) in
     record {
       hours = h;
       calendars = c;

@@ -8,15 +8,16 @@ use native.Mathlib.Nat.{suc-mul, mul-le-mul}
 use native.Mathlib.Omega.{arith}
 use lib.ListN.{length, take, length-append}
 use lib.Seq.{length-take-le}
-use borrow.Author.Tests.{eqb-true, eq-eqb, leb-true, lt-leb}
+use borrow.Author.Tests.{eqb-true, eq-eqb, lt-leb}
 use Rattle.units.specs.Choice.{_orElse_, firstOf}
 use Rattle.units.specs.Limits.{mostHours, mostCalendars, mostTasks, isPlanLength, isCalendarCount, isTaskCount, isCapacity}
-use Rattle.units.proofs.Choices.{and-both, and-left, and-right, not-left, not-right, neither}
+use Rattle.units.proofs.Choices.{and-both, and-left, and-right, not-left, not-right, else-none, else-some, neither}
 use Rattle.units.proofs.Ranges.{to-most}
-use Rattle.plan.specs.Plan.{Plan, plan, taskCount, calendarCount}
+use Rattle.plan.specs.Plan.{Plan, plan, taskCount}
 use Rattle.plan.specs.Refusals.{Fault, fault}
-use Rattle.plan.specs.Faults.{oneForEachTask, isCalendars, planFault}
-use Rattle.plan.proofs.Refusing.{unless-none, go-on, refuse}
+use Rattle.plan.specs.Faults.{oneForEachTask, countsFault, tasksFault, planFault}
+use Rattle.plan.proofs.Refusing.{unless-true, unless-none, go-on, refuse}
+use Rattle.plan.proofs.Passed.{counts-passed}
 use Rattle.plan_text.specs.declared.Scan.{Scan}
 use Rattle.plan_text.specs.Text.{Read}
 use Rattle.plan_text.specs.Entry.{joined, planIn, boxesIn, allOf, readFault}
@@ -40,27 +41,25 @@ pub kept-take : (xs cells : List ℕ) (n : ℕ) → n ≡ length xs → n ≤ le
 unfolding Kept
 kept-take xs cells n e h k = rw e (k (omega arith))
 
--- three tests, and what is found where they find nothing
-module _ (a b c x y : Option Fault) where
-  ends-alike : x ≡ y → (a orElse (b orElse (c orElse x))) ≡ (a orElse (b orElse (c orElse y)))
+-- tests, and what is found where they find nothing
+module _ (a x y : Option Fault) where
+  ends-alike : x ≡ y → (a orElse x) ≡ (a orElse y)
   ends-alike e = rw e
 
-  ends-later : x ≡ none → ((a orElse (b orElse (c orElse x))) orElse y) ≡ (a orElse (b orElse (c orElse y)))
-  ends-later e = rw e (go a b c)
+  ends-later : x ≡ none → ((a orElse x) orElse y) ≡ (a orElse y)
+  ends-later e = rw e (go a)
     where
-      go : (a b c : Option Fault) → ((a orElse (b orElse (c orElse none))) orElse y) ≡ (a orElse (b orElse (c orElse y)))
-      go (some f) b c = unfold _orElse_ in refl
-      go none (some f) c = unfold _orElse_ in refl
-      go none none (some f) = unfold _orElse_ in refl
-      go none none none = unfold _orElse_ in refl
+      go : (a : Option Fault) → ((a orElse none) orElse y) ≡ (a orElse y)
+      go (some f) = unfold _orElse_ in refl
+      go none = unfold _orElse_ in refl
 
 -- a plan with more tasks than it may have is refused by 4 or else by 5: as one without tasks, or else by 5
 crowded : (P : Plan) (boxes : List ℕ) → mostTasks < taskCount P
     → planFault P boxes ≡ (planFault (plan (P .shifts .hours) 0 (P .shifts .calendars) [] [] []) [] orElse some (fault 5 0))
-unfolding planFault isCalendars calendarCount taskCount firstOf isTaskCount isCapacity
+unfolding planFault countsFault tasksFault taskCount firstOf isTaskCount isCapacity
 crowded P boxes h =
-    ends-alike _ _ _ _ _ (refuse _ 5 0 _ (lt-leb (taskCount P) mostTasks h))
-    ∙ sym (ends-later _ _ _ _ _ (go-on _ 5 0 _ refl ∙ go-on _ 10 0 _ refl))
+    ends-alike _ _ _ (else-some _ _ _ (refuse _ 5 0 _ (lt-leb (taskCount P) mostTasks h)))
+    ∙ sym (ends-later _ _ _ (else-none _ _ (go-on _ 5 0 _ refl ∙ unless-true _ 10 0 refl)))
 
 same-plan : {h h′ c c′ : ℕ} {a a′ b b′ d d′ e e′ : List ℕ} → h ≡ h′ → c ≡ c′ → a ≡ a′ → b ≡ b′ → d ≡ d′ → e ≡ e′
     → plan h c a b d e ≡ plan h′ c′ a′ b′ d′ e′
@@ -137,20 +136,17 @@ module _ {r : Read} {s : Scan} {n : ℕ} {sy tc wt hs bx : List ℕ} (held : Hol
 
   -- what a plan that passes has
   pub read-passed : none ≡ readFault true r → (s .symbols ≤ mostCalendars * mostHours) × (s .tasks ≤ mostTasks)
-  unfolding readFault planFault isTaskCount taskCount
+  unfolding readFault planFault taskCount
   read-passed e =
       let after-31 = neither _ _ (sym e) in
       let after-2 = neither _ _ (after-31 .1) in
       let after-3 = neither _ _ (after-2 .1) in
-      let of-plan-2 = neither _ _ (after-3 .1) in
-      let of-plan-3 = neither _ _ (of-plan-2 .1) in
-      let of-plan-4 = neither _ _ (of-plan-3 .1) in
-      let of-plan-5 = neither _ _ (of-plan-4 .1) in
+      let counts = counts-passed (neither _ _ (neither _ _ (after-3 .1) .1) .0) in
       let h : isPlanLength (s .hours) ≡ true = rw (held .hours) (unless-none _ 2 0 (after-2 .0)) in
       let three = unless-none _ 3 0 (after-3 .0) in
       let c : isCalendarCount (s .calendars) ≡ true = rw (held .calendars) (and-left _ _ three) in (
         symbols-fit h c (held .even ∙ and-right _ _ three),
-        omega (arith, count-calendars held, leb-true (length (planIn r .shifts .taskCalendars)) mostTasks (unless-none _ 5 0 (of-plan-5 .0))),
+        omega (arith, count-calendars held, counts .tasks),
       )
 
 -- parts for as many tasks

@@ -14,8 +14,8 @@ use Rattle.units.specs.declared.Bounds.{Bounds}
 use Rattle.plan.specs.Plan.{Plan, taskCount}
 use Rattle.plan.specs.Boxes.{withBounds}
 use Rattle.plan.specs.Refusals.{fault}
-use Rattle.plan.proofs.Passed.{Passed}
-use Rattle.plan.proofs.Cells.{length-with}
+use Rattle.plan.specs.Passed.{Passed}
+use Rattle.plan.proofs.Boxes.{length-with}
 use Rattle.calendar.specs.declared.Fit.{Fit}
 use Rattle.calendar.specs.declared.Fit.the-variants.{Never}
 use Rattle.steps.specs.declared.Step.{Step}

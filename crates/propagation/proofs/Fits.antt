@@ -7,51 +7,32 @@ use native.Mathlib.Decide.{ℕ-discrete}
 use native.Mathlib.Omega.{arith}
 use lib.ListN.{length, getD, take, drop, set, length-take, length-drop}
 use lib.Seq.{getD-set-same, getD-set-other}
-use Rattle.units.specs.Limits.{mostHours}
 use Rattle.units.specs.declared.Bounds.{Bounds}
 use Rattle.plan.specs.Plan.{Shifts, Plan, taskCount, firstSymbol, calendarAt, calendarOf, workTimeOf}
-use Rattle.plan.specs.Faults.{isSymbol}
+use Rattle.plan.specs.HourKinds.{isSymbol}
+use Rattle.plan.proofs.HourKinds.{symbol-part}
 use Rattle.plan.specs.Boxes.{boundsAt}
-use Rattle.plan.proofs.Passed.{Passed}
+use Rattle.plan.specs.Passed.{Passed}
 use Rattle.calendar.specs.declared.Fit.{Fit}
 use Rattle.calendar.specs.Rule.{ruleOf}
-use Rattle.calendar.specs.Scan.{AllSymbols}
+use Rattle.calendar.specs.inner.Stretches.{RuleReady}
 use Rattle.steps.specs.Load.{fitAt}
 use Rattle.propagation.specs.inner.Fitting.{Fitting}
-
--- a cell of a part
-in-drop : (n k : ℕ) (l : List ℕ) → getD (drop n l) k 0 ≡ getD l (n + k) 0
-in-drop zero k l = ap (λ (m : ℕ). getD l m 0) (omega arith)
-in-drop (suc n) k [] = refl
-in-drop (suc n) k (x ∷ xs) = in-drop n k xs ∙ ap (λ (m : ℕ). getD (x ∷ xs) m 0) next
-  where
-    next : suc (n + k) ≡ suc n + k
-    next = omega arith
-
-in-take : (n k : ℕ) (l : List ℕ) → k < n → getD (take n l) k 0 ≡ getD l k 0
-in-take zero k l h = absurd (omega arith)
-in-take (suc n) k [] h = refl
-in-take (suc n) zero (x ∷ xs) h = refl
-in-take (suc n) (suc k) (x ∷ xs) h = in-take n k xs (omega arith)
 
 module _ (S : Shifts) (boxes : List ℕ) (i : ℕ) (part : List ℕ) (b : Bounds)
     (is-part : part ≡ take (S .hours) (drop (firstSymbol (S .hours) (getD (S .taskCalendars) i 0)) (S .calendars))) (is-box : b ≡ boundsAt boxes i) where
   -- what the rule's core asks
-  pub core-asks : Fitting S boxes i → (1 ≤ b .shortest .0) × (b .latest .0 < length part) × (length part ≤ mostHours) × AllSymbols part
+  pub core-asks : Fitting S boxes i → RuleReady part b
   core-asks f =
       let long : length part ≡ S .hours = rw is-part (simp (length-take, length-drop) (omega (arith, f .calendar))) in
-      let low : 1 ≤ b .shortest .0 = rw is-box (f .shortest) in
       let high : b .latest .0 < S .hours = rw is-box (f .latest) in
-      (low, omega arith, omega (arith, f .short), λ t l. symbol t (omega arith) f)
+      record { shortest = rw is-box (f .shortest); latest = omega arith; short = omega (arith, f .short); symbols = λ t l. symbol t (omega arith) f }
     where
       first : ℕ
       first = firstSymbol (S .hours) (getD (S .taskCalendars) i 0)
 
-      symbol : (t : ℕ) → t < S .hours → Fitting S boxes i → isSymbol (getD part t 0) ≡ true
-      symbol t l f =
-          let here : getD part t 0 ≡ getD (S .calendars) (first + t) 0 =
-          rw is-part (in-take (S .hours) t (drop first (S .calendars)) l ∙ in-drop first t (S .calendars)) in
-          ap isSymbol here ∙ f .symbols (first + t) (omega (arith, f .calendar))
+      symbol : (t : ℕ) → t < S .hours → Fitting S boxes i → isSymbol part t ≡ true
+      symbol t l f = rw is-part (symbol-part (S .calendars) first (S .hours) t l ∙ f .symbols (first + t) (omega (arith, f .calendar)))
 
   pub core-answers : (r : Fit) → r ≡ ruleOf part (getD (S .workTimes) i 0) b → r ≡ fitAt S boxes i
   unfolding fitAt calendarOf calendarAt workTimeOf

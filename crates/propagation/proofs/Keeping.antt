@@ -16,12 +16,12 @@ use Rattle.units.specs.Choice.{_and_, if_then_else_, onOption}
 use Rattle.units.specs.Limits.{mostTasks, mostHeight}
 use Rattle.units.specs.declared.Bounds.{Bounds}
 use Rattle.units.proofs.Choices.{and-left, if-true, if-false, if-case, if-all, if-ap}
-use Rattle.units.proofs.Ranges.{Boxed}
+use Rattle.units.specs.Limits.{Boxed}
 use Rattle.units.proofs.Summing.{where-eq, where-split}
 use Rattle.plan.specs.Plan.{Plan, taskCount, workTimeOf, heightOf, heightsWhere}
 use Rattle.plan.specs.Boxes.{boundsAt, withBounds}
-use Rattle.plan.proofs.Passed.{Passed}
-use Rattle.plan.proofs.Cells.{bounds-other}
+use Rattle.plan.specs.Passed.{Passed}
+use Rattle.plan.proofs.Boxes.{bounds-other}
 use Rattle.calendar.specs.declared.Window.{Window}
 use Rattle.calendar.specs.declared.Fit.{Fit}
 use Rattle.calendar.specs.declared.Fit.the-variants.{Never, Within}

@@ -16,7 +16,7 @@ use Rattle.units.specs.Sums.{sumTo, sumWhere}
 use Rattle.units.specs.Limits.{mostHours, mostTasks, mostHeight}
 use Rattle.units.proofs.Choices.{and-both, not-left, not-right, if-true, if-false}
 use Rattle.units.proofs.Summing.{where-more, where-skip, where-most}
-use Rattle.plan.proofs.Refusing.{and-rest}
+use Rattle.units.proofs.Choices.{and-rest}
 use Rattle.calendar.specs.declared.Window.{Window}
 use Rattle.calendar.specs.declared.Fit.{Fit}
 use Rattle.calendar.specs.declared.Fit.the-variants.{Never, Within}
@@ -72,7 +72,7 @@ module _ (fits : List Fit) (heights : List ℕ) (t : ℕ) where
   module _ (small : (i : ℕ) → getD heights i 0 ≤ mostHeight) where
     pub load-small : (sum i : ℕ) → sum ≡ loadTo i → sum ≤ i * mostHeight
     unfolding loadTo
-    load-small sum i e = rw e (where-most _ _ i mostHeight small)
+    load-small sum i e = where-most _ _ sum i mostHeight e (λ j l. small j)
 
     -- with the height of a task, it fits a number of the code
     pub load-most : length heights ≤ mostTasks → (i load : ℕ) → load ≡ loadOf fits heights t → getD heights i 0 + load < 65536

@@ -14,7 +14,7 @@ use Rattle.units.specs.Limits.{isHour}
 use Rattle.units.specs.declared.Bounds.{Bounds}
 use Rattle.units.proofs.Choices.{and-both, not-left, not-right, if-true, if-all, none-if, else-none, else-some, first-none, first-all-none, first-next, first-hit}
 use Rattle.plan.specs.Boxes.{boundsAt}
-use Rattle.plan.proofs.Refusing.{and-rest}
+use Rattle.units.proofs.Choices.{and-rest, first-eq, first-rest, outer-ends, outer-goes-on}
 use Rattle.calendar.specs.declared.Window.{Window}
 use Rattle.calendar.specs.declared.Fit.{Fit}
 use Rattle.calendar.specs.declared.Fit.the-variants.{Never, Within}
@@ -29,27 +29,6 @@ use Rattle.propagation.specs.inner.Ready.{Ready}
 use Rattle.propagation.specs.inner.Finding.{admits, letterOf, firstHour, endHour, Loaded, firstCalendar, firstOverload, firstExcess}
 
 -- ---- the first of several
-
-pub first-eq : {A : Type 0} (f g : ℕ → Option A) (n : ℕ) → ((i : ℕ) → i < n → f i ≡ g i) → firstOf f n ≡ firstOf g n
-unfolding firstOf
-first-eq f g zero h = refl
-first-eq f g (suc n) h = ap₂ _orElse_ (first-eq f g n (λ i l. h i (omega arith))) (h n (omega arith))
-
--- nothing among the first n, nor at the others below m
-pub first-rest : {A : Type 0} (f : ℕ → Option A) (n m : ℕ) → firstOf f n ≡ none → ((i : ℕ) → n ≤ i → i < m → f i ≡ none) → firstOf f m ≡ none
-first-rest f n m e h = first-all-none f m (λ i l. go i l (ltb i n) refl)
-  where
-    go : (i : ℕ) → i < m → (b : Bool) → ltb i n ≡ b → f i ≡ none
-    go i l true q = first-none f n e i (ltb-true _ _ q)
-    go i l false q = h i (ltb-false _ _ q) l
-
--- one search after another: a hit of the first ends them, and where it finds nothing the rest decides
-module _ {A : Type 0} (x y : Option A) {r : Option A} (e : r ≡ x) where
-  pub outer-ends : {a : A} → r ≡ some a → r ≡ (x orElse y)
-  outer-ends {a} q = q ∙ sym (else-some x y a (sym e ∙ q))
-
-  pub outer-goes-on : {s : Option A} → r ≡ none → s ≡ y → s ≡ (x orElse y)
-  outer-goes-on q k = k ∙ sym (else-none x y (sym e ∙ q))
 
 else-last : {A : Type 0} (x : Option A) → (x orElse none) ≡ x
 unfolding _orElse_

@@ -1,5 +1,4 @@
 pub mod Feasibility
 pub mod Testing
-pub mod Adding
 pub mod Readiness
 pub mod Decision

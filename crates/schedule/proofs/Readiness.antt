@@ -10,16 +10,18 @@ use borrow.Author.Tests.{eqb-true, not-false}
 use Rattle.units.proofs.Choices.{and-both, and-left, and-right}
 use Rattle.plan.specs.Plan.{Plan, taskCount, heightOf}
 use Rattle.plan.specs.Faults.{oneForEachTask, Passes}
-use Rattle.plan.proofs.Passed.{Passed, passed}
+use Rattle.plan.proofs.Passed.{passed}
+use Rattle.calendar.specs.Triples.{tripleNumbers}
 use Rattle.calendar.proofs.Validity.{valid-facts}
 use Rattle.schedule.specs.Schedule.{tripleAt, Feasible}
 use Rattle.schedule.specs.Entry.{isSized}
 use Rattle.schedule.specs.Decision.{RightSize}
+use Rattle.plan.specs.Passed.{Passed}
 use Rattle.schedule.specs.Ready.{TriplesReady, HoursReady, EndsReady}
 
 -- memory of the right size, from what the two tests of it answered
 pub right-size : (P : Plan) (boxes schedule : List ℕ) (one triples : Bool) → one ≡ oneForEachTask (P .shifts .taskCalendars) (P .shifts .workTimes) (P .heights) boxes
-    → not one ≡ false → triples ≡ eqb (length schedule) (3 * length (P .shifts .taskCalendars)) → not triples ≡ false → RightSize P boxes schedule
+    → not one ≡ false → triples ≡ eqb (length schedule) (tripleNumbers * length (P .shifts .taskCalendars)) → not triples ≡ false → RightSize P boxes schedule
 unfolding isSized taskCount
 right-size P boxes schedule one triples e p f q = and-both _ _ (sym e ∙ not-false _ p) (sym f ∙ not-false _ q)
 

@@ -14,28 +14,15 @@ use Rattle.units.specs.Sums.{sumWhere}
 use Rattle.units.specs.declared.Bounds.{Bounds}
 use Rattle.units.specs.declared.Duration.{Duration}
 use Rattle.units.specs.declared.Hour.{Hour}
-use Rattle.units.proofs.Choices.{not-left}
+use Rattle.units.proofs.Choices.{not-left, and-rest}
 use Rattle.plan.specs.Plan.{Shifts, Plan, taskCount, firstSymbol, calendarAt, calendarOf, workTimeOf, heightOf, heightsWhere}
 use Rattle.plan.specs.Boxes.{boundsAt}
 use Rattle.plan.specs.Refusals.{Fault, unless}
-use Rattle.plan.proofs.Refusing.{and-rest}
 use Rattle.calendar.specs.declared.Triple.{Triple}
 use Rattle.calendar.specs.Triples.{startOf, elapsedOf, endOf, validTriple, inBounds}
 use Rattle.schedule.specs.Schedule.{tripleAt, runs, running}
 use Rattle.schedule.specs.Ready.{runningHeights}
 use Rattle.schedule.specs.Entry.{tripleFault, hourFault}
-
--- a length that is three for each task, by its third
-module _ (n k : ℕ) where
-  pub third : n % 3 ≡ 0 → eqb (n / 3) k ≡ eqb n (3 * k)
-  third e = go (eqb (n / 3) k) refl
-    where
-      go : (b : Bool) → eqb (n / 3) k ≡ b → eqb (n / 3) k ≡ eqb n (3 * k)
-      go true q = let l = eqb-true (n / 3) k q in q ∙ sym (eq-eqb n (3 * k) (omega arith))
-      go false q = let l = eqb-false (n / 3) k q in q ∙ sym (ne-eqb n (3 * k) (λ m. l (omega arith)))
-
-  pub no-third : (n % 3 ≡ 0 → ⊥) → eqb n (3 * k) ≡ false
-  no-third e = ne-eqb n (3 * k) (λ m. e (omega arith))
 
 -- an hour is before s + e if the time since s is less than e
 by-elapsed : (s e t d : ℕ) → s ≤ t → d ≡ t - s → ltb d e ≡ ltb t (s + e)

@@ -11,7 +11,7 @@ use Rattle.plan.specs.Boxes.{boundsAt}
 use Rattle.plan.specs.Refusals.{Fault, unless, Answer, refused, answered, faultOf, answerUnless}
 use Rattle.plan.specs.Faults.{oneForEachTask, planFault}
 use Rattle.calendar.specs.declared.Triple.{Triple}
-use Rattle.calendar.specs.Triples.{validTriple, inBounds}
+use Rattle.calendar.specs.Triples.{tripleNumbers, validTriple, inBounds}
 use Rattle.schedule.specs.declared.ScheduleChecked.{ScheduleChecked}
 use Rattle.schedule.specs.declared.ScheduleChecked.the-variants.{Refused, Feasible}
 use Rattle.schedule.specs.Schedule.{tripleAt, running, makespan}
@@ -30,9 +30,9 @@ hourFault P σ t = unless (leb (running P σ t) (P .capacity)) 16 t
 unfoldable pub scheduleFault : Plan → List ℕ → (ℕ → Triple) → Option Fault
 scheduleFault P boxes σ = firstOf (tripleFault (P .shifts) boxes σ) (taskCount P) orElse firstOf (hourFault P σ) (P .shifts .hours)
 
--- one triple for each task: three numbers
+-- one triple for each task
 unfoldable pub isSized : Plan → List ℕ → Bool
-isSized P schedule = eqb (length schedule) (3 * taskCount P)
+isSized P schedule = eqb (length schedule) (tripleNumbers * taskCount P)
 
 -- 31, the plan's tests, the schedule's; accepted with the makespan
 unfoldable pub checkSchedule : Plan → List ℕ → List ℕ → Answer ℕ

@@ -3,10 +3,10 @@ use mathlib.Core.Path.{_≡_}
 use mathlib.Core.List.{List}
 use Prim.Native.Nat.{ℕ, _+_, _*_, _≤_, _<_}
 use lib.ListN.{length, getD}
-use Rattle.units.specs.Limits.{mostHours, mostTasks, mostHeight}
+use Rattle.units.specs.Limits.{boxNumbers, mostHours, mostTasks, mostHeight}
 use Rattle.units.specs.Sums.{sumWhere}
 use Rattle.plan.specs.Plan.{firstSymbol}
-use Rattle.calendar.specs.Triples.{endOf}
+use Rattle.calendar.specs.Triples.{tripleNumbers, endOf}
 use Rattle.schedule.specs.Schedule.{tripleAt, runs}
 
 -- the tests of the triples: each task has a calendar, a work time, a box and a triple
@@ -14,18 +14,18 @@ pub record TriplesReady (h : ℕ) (calendars taskCalendars workTimes bs σ : Lis
   pub hours : h ≤ mostHours
   pub calendar : (i : ℕ) → i < length taskCalendars → firstSymbol h (getD taskCalendars i 0) + h ≤ length calendars
   pub work-times : length workTimes ≡ length taskCalendars
-  pub boxes : length bs ≡ 6 * length taskCalendars
-  pub schedule : length σ ≡ 3 * length taskCalendars
+  pub boxes : length bs ≡ boxNumbers * length taskCalendars
+  pub schedule : length σ ≡ tripleNumbers * length taskCalendars
 
 -- the tests of the hours: each height has a triple, and the heights are so small that their sum fits
 pub record HoursReady (hs σ : List ℕ) : Type 0 where
   pub tasks : length hs ≤ mostTasks
   pub heights : (i : ℕ) → i < length hs → getD hs i 0 ≤ mostHeight
-  pub schedule : length σ ≡ 3 * length hs
+  pub schedule : length σ ≡ tripleNumbers * length hs
 
 -- the makespan: each task has a triple, which ends within the longest plan
 pub record EndsReady (σ : List ℕ) (tasks : ℕ) : Type 0 where
-  pub schedule : length σ ≡ 3 * tasks
+  pub schedule : length σ ≡ tripleNumbers * tasks
   pub ends : (i : ℕ) → i < tasks → endOf (tripleAt σ i) ≤ mostHours
 
 -- the heights of the tasks that run in hour t, added, one task for each height

@@ -10,11 +10,11 @@ use Rattle.units.specs.Sums.{maxTo}
 use Rattle.plan.specs.Plan.{Plan, taskCount, calendarOf, workTimeOf, heightsWhere}
 use Rattle.plan.specs.Boxes.{boundsAt}
 use Rattle.calendar.specs.declared.Triple.{Triple}
-use Rattle.calendar.specs.Triples.{triple, startOf, endOf, validTriple, inBounds}
+use Rattle.calendar.specs.Triples.{tripleNumbers, triple, startOf, endOf, validTriple, inBounds}
 
 -- the schedule in lent memory: three numbers a task, s, e and o
 unfoldable pub tripleAt : List ℕ → ℕ → Triple
-tripleAt schedule i = triple (getD schedule (3 * i) 0) (getD schedule (3 * i + 1) 0) (getD schedule (3 * i + 2) 0)
+tripleAt schedule i = triple (getD schedule (tripleNumbers * i) 0) (getD schedule (tripleNumbers * i + 1) 0) (getD schedule (tripleNumbers * i + 2) 0)
 
 -- a task runs in the hours [s, s + e), resting hours too
 unfoldable pub runs : Triple → ℕ → Bool

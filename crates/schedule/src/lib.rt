@@ -8,14 +8,14 @@ use units::Height;
 use units::Hour;
 ghost use mathlib.Core.Path.{_≡_};
 ghost use Prim.Native.Nat.{_+_, _*_, _≤_, max};
-ghost use lib.Dec.{eqb, leb};
+ghost use lib.Dec.{leb};
 ghost use lib.ListN.{length};
 ghost use Rattle.units.specs.Choice.{_orElse_, firstOf};
 ghost use Rattle.units.specs.Limits.{mostHours, within};
 ghost use Rattle.units.specs.Sums.{maxTo};
 ghost use Rattle.plan.specs.Refusals.{unless, answerUnless, testedFault};
 ghost use Rattle.plan.specs.Lent.{old, oldShifts, oldPlan};
-ghost use Rattle.calendar.specs.Triples.{endOf, validTriple, inBounds};
+ghost use Rattle.calendar.specs.Triples.{tripleNumbers, endOf, validTriple, inBounds};
 ghost use Rattle.schedule.specs.Schedule.{tripleAt, runs, makespan};
 ghost use Rattle.schedule.specs.Ready.{TriplesReady, HoursReady, EndsReady, runningHeights};
 ghost use Rattle.schedule.specs.Entry.{tripleFault, checkSchedule, scheduleAnswer};
@@ -29,25 +29,15 @@ pub enum ScheduleChecked {
 
 // The triple of task i.
 fn triple_at(schedule: &[u16], i: usize) -> Triple
-    requires { ⌜ 3 * i + 3 ≤ length (now schedule) ⌝ }
+    requires { ⌜ tripleNumbers * i + tripleNumbers ≤ length (now schedule) ⌝ }
     ensures { λ r. ⌜ r ≡ tripleAt (old schedule) i ⌝ }
 {
-    let first = 3 * i;
+    let first = Triple::NUMBERS * i;
     Triple {
         start: Hour(schedule[first]),
         elapsed: Duration(schedule[first + 1]),
         overtime: Duration(schedule[first + 2]),
     }
-}
-
-// Whether there are three numbers for each task. The length is divided, since three times a length may not fit.
-fn has_triples(schedule: &[u16], tasks: usize) -> bool
-    ensures { λ r. ⌜ r ≡ eqb (length (old schedule)) (3 * tasks) ⌝ }
-{
-    if schedule.len() % 3 != 0 {
-        return false;
-    }
-    schedule.len() / 3 == tasks
 }
 
 fn is_within(least: u16, most: u16, number: u16) -> bool
@@ -183,7 +173,7 @@ fn test_schedule(
     if !plan::has_one_for_each_task(task_calendars, work_times, heights, boxes) {
         return Tested::Refused(Refusal::MemorySize);
     }
-    if !has_triples(schedule, task_calendars.len()) {
+    if !units::is_for_each(schedule.len(), Triple::NUMBERS, task_calendars.len()) {
         return Tested::Refused(Refusal::MemorySize);
     }
     let input = plan::test_plan(

@@ -11,12 +11,12 @@ use borrow.Author.Tests.{leb-true, leb-false, ltb-true, ltb-false, le-leb, lt-lt
 use Rattle.units.specs.declared.Hour.{Hour}
 use Rattle.units.specs.declared.Bounds.{Bounds}
 use Rattle.units.proofs.Choices.{and-both}
-use Rattle.units.proofs.Ranges.{Boxed}
+use Rattle.units.specs.Limits.{Boxed}
 use Rattle.units.proofs.Summing.{sum-gap}
 use Rattle.plan.specs.Plan.{Plan, taskCount, workTimeOf}
 use Rattle.plan.specs.Boxes.{boundsAt, withBounds}
-use Rattle.plan.proofs.Passed.{PassedTask, Passed}
-use Rattle.plan.proofs.Cells.{length-with, bounds-same, bounds-other}
+use Rattle.plan.specs.Passed.{PassedTask, Passed}
+use Rattle.plan.proofs.Boxes.{length-with, bounds-same, bounds-other}
 use Rattle.calendar.specs.declared.Triple.{Triple}
 use Rattle.calendar.specs.declared.Window.{Window}
 use Rattle.calendar.specs.Triples.{startOf, endOf, inBounds}

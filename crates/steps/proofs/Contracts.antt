@@ -13,8 +13,9 @@ use Rattle.units.proofs.Choices.{and-left, none≢some, option-all, if-some, el
 use Rattle.plan.specs.Plan.{Plan, taskCount}
 use Rattle.plan.specs.Boxes.{boundsAt}
 use Rattle.plan.specs.Refusals.{Fault, fault, unless, refused, answered, answerUnless}
-use Rattle.plan.specs.Faults.{taskFault, planFault, inputFault}
+use Rattle.plan.specs.Faults.{planFault, inputFault}
 use Rattle.plan.proofs.Refusing.{unless-none}
+use Rattle.plan.proofs.Numbers.{by-unless, by-either, plan-numbers, input-numbers}
 use Rattle.steps.specs.declared.Step.{Step}
 use Rattle.calendar.specs.declared.Triple.{Triple}
 use Rattle.calendar.specs.Triples.{inBounds}
@@ -35,40 +36,14 @@ use Rattle.steps.proofs.Claim.{boxes-sized}
 pub not-13 : Fault → Type 0
 not-13 f = f .number ≡ 13 → ⊥
 
-by-unless : (test : Bool) (n place : ℕ) (f : Fault) → (n ≡ 13 → ⊥) → unless test n place ≡ some f → not-13 f
-unfolding unless not-13
-by-unless test n place f other e q = other (ap (λ (g : Fault). g .number) (if-some _ _ _ e .1) ∙ q)
-
-by-either : (x y : Option Fault) (f : Fault) → (x ≡ some f → not-13 f) → (y ≡ some f → not-13 f) → (x orElse y) ≡ some f → not-13 f
-by-either x y f p q e = else-case _ _ _ e (λ a b. q b) (λ g a b. p (a ∙ b))
-
-by-first : (find : ℕ → Option Fault) (n : ℕ) (f : Fault) → ((i : ℕ) → find i ≡ some f → not-13 f) → firstOf find n ≡ some f → not-13 f
-by-first find n f h e = let (i, l, q) = first-at find n f e in h i q
-
 module _ (P : Plan) (boxes : List ℕ) (f : Fault) where
-  task-fault : (i : ℕ) → taskFault P boxes i ≡ some f → not-13 f
-  unfolding taskFault
-  task-fault i =
-      by-either _ _ f (by-unless _ 6 i f (λ q. omega arith))
-      (by-either _ _ f (by-unless _ 7 i f (λ q. omega arith))
-      (by-either _ _ f (by-unless _ 8 i f (λ q. omega arith)) (by-unless _ 9 i f (λ q. omega arith))))
-
-  plan-fault : planFault P boxes ≡ some f → not-13 f
-  unfolding planFault
-  plan-fault =
-      by-either _ _ f (by-unless _ 2 0 f (λ q. omega arith))
-      (by-either _ _ f (by-unless _ 3 0 f (λ q. omega arith))
-      (by-either _ _ f (by-first _ _ f (λ k. by-unless _ 4 k f (λ q. omega arith)))
-      (by-either _ _ f (by-unless _ 5 0 f (λ q. omega arith))
-      (by-either _ _ f (by-unless _ 10 0 f (λ q. omega arith)) (by-first _ _ f task-fault)))))
-
   pub first-fault : inputFault P boxes ≡ some f → not-13 f
-  unfolding inputFault
-  first-fault = by-either _ _ f (by-unless _ 31 0 f (λ q. omega arith)) plan-fault
+  unfolding not-13
+  first-fault e q = input-numbers P boxes .other e (omega arith)
 
   entry-fault : (kinds tasks hours : List ℕ) → entryFault P boxes kinds tasks hours ≡ some f → not-13 f
-  unfolding entryFault
-  entry-fault kinds tasks hours = by-either _ _ f (by-unless _ 31 0 f (λ q. omega arith)) plan-fault
+  unfolding entryFault not-13
+  entry-fault kinds tasks hours e q = by-either (by-unless _ 31 0 (λ s. omega arith)) (plan-numbers P boxes) .other e (omega arith)
 
 -- where they find none, the boxes number one for each task
 module _ (P : Plan) (boxes : List ℕ) where

@@ -13,12 +13,13 @@ use Rattle.plan.specs.Plan.{Plan}
 use Rattle.plan.specs.Refusals.{Fault, fault, Answer, refused, answerUnless}
 use Rattle.plan.specs.Faults.{oneForEachTask, planFault}
 use Rattle.plan.proofs.Refusing.{unless-none, go-on, refuse}
-use Rattle.plan.proofs.Passed.{Passed, passed}
+use Rattle.plan.proofs.Passed.{passed}
 use Rattle.steps.specs.Log.{replayFrom, replay}
 use Rattle.steps.specs.Filter.{count, run}
 use Rattle.steps.specs.Entry.{stepsFrom, stepsIn, oneForEachStep, entryFault, Accepted, checkLog, checkAnswer, refusedBy, FilterEnd, filterEnd, logged, filterPlan}
 use Rattle.steps.specs.inner.From.{checkFrom, loggedFrom, filterFrom}
 use Rattle.steps.specs.Claim.{CheckedHolds, FilterHolds}
+use Rattle.plan.specs.Passed.{Passed}
 use Rattle.steps.proofs.Contracts.{check-holds, filter-holds}
 
 pub one-each : (kinds tasks hours : List ℕ) → oneForEachStep kinds tasks hours ≡ true → (length tasks ≡ length kinds) × (length hours ≡ length kinds)

@@ -6,9 +6,29 @@ use mathlib.Core.Option.{Option, none, some}
 use Prim.Native.Nat.{ℕ, zero, suc, _+_, _≤_, _<_}
 use native.Mathlib.Numerals.{add-one}
 use native.Mathlib.Omega.{arith}
-use lib.Dec.{eqb}
-use borrow.Author.Tests.{eqb-true, eqb-false}
+use native.Mathlib.Decide.{decLe}
+use lib.Dec.{eqb, leb, ltb}
+use borrow.Author.Tests.{eqb-true, eqb-false, le-leb, lt-leb, leb-true, ltb-true, ltb-false}
 use Rattle.units.specs.Choice.{_and_, if_then_else_, someIf, onOption, _orElse_, firstOf}
+
+-- ---- what a test comes to
+
+pub true≢false : {C : Type 0} {x : Bool} → x ≡ true → x ≡ false → C
+true≢false {x = true} p q = absurd (false≢true (sym q))
+true≢false {x = false} p q = absurd (false≢true p)
+
+-- contraposed
+pub untrue : (x y : Bool) → (x ≡ true → y ≡ true) → y ≡ false → x ≡ false
+untrue true y h e = true≢false (h refl) e
+untrue false y h e = refl
+
+-- two comparisons that decide the same
+pub same-leb : (x y u v : ℕ) → (x ≤ y → u ≤ v) → (u ≤ v → x ≤ y) → leb x y ≡ leb u v
+same-leb x y u v f g = go (decLe x y)
+  where
+    go : Dec (x ≤ y) → leb x y ≡ leb u v
+    go (yes h) = le-leb x y h ∙ sym (le-leb u v (f h))
+    go (no h) = lt-leb x y (omega arith) ∙ sym (untrue (leb u v) (leb x y) (λ q. le-leb x y (g (leb-true u v q))) (lt-leb x y (omega arith)))
 
 -- ---- and
 
@@ -30,6 +50,11 @@ module _ (a b : Bool) where
       go : (t : Bool) → t and b ≡ true → b ≡ true
       go true q = unfold _and_ in q
       go false q = absurd (false≢true (unfold _and_ in q))
+
+  -- the first test holds, so the second decides
+  pub and-rest : a ≡ true → a and b ≡ b
+  unfolding _and_
+  and-rest e = rw e
 
   pub not-left : a ≡ false → a and b ≡ false
   unfolding _and_
@@ -130,6 +155,14 @@ unfolding _orElse_
 neither none y e = (refl, e)
 neither (some a) y e = none≢some (sym e)
 
+-- one search after another: a hit of the first ends them, and where it finds nothing the rest decides
+module _ {A : Type 0} (x y : Option A) {r : Option A} (e : r ≡ x) where
+  pub outer-ends : {a : A} → r ≡ some a → r ≡ (x orElse y)
+  outer-ends {a} q = q ∙ sym (else-some x y a (sym e ∙ q))
+
+  pub outer-goes-on : {s : Option A} → r ≡ none → s ≡ y → s ≡ (x orElse y)
+  outer-goes-on q k = k ∙ sym (else-none x y (sym e ∙ q))
+
 -- ---- the first of several
 
 module _ {A : Type 0} (f : ℕ → Option A) where
@@ -165,12 +198,29 @@ module _ {A : Type 0} (f : ℕ → Option A) where
   first-all-none zero h = refl
   first-all-none (suc n) h = else-none _ _ (first-all-none n (λ i l. h i (omega arith))) ∙ h n (omega arith)
 
+  -- nothing is found among as many as there are: what a loop that was not left needs
+  pub first-end : (n m : ℕ) → n ≤ m → m ≤ n → firstOf f n ≡ none → firstOf f m ≡ none
+  first-end n m l k e = let q : m ≡ n = omega arith in rw q e
+
+  -- nothing among the first n, nor at the others below m
+  pub first-rest : (n m : ℕ) → firstOf f n ≡ none → ((i : ℕ) → n ≤ i → i < m → f i ≡ none) → firstOf f m ≡ none
+  first-rest n m e h = first-all-none m (λ i l. go i l (ltb i n) refl)
+    where
+      go : (i : ℕ) → i < m → (b : Bool) → ltb i n ≡ b → f i ≡ none
+      go i l true q = first-none n e i (ltb-true _ _ q)
+      go i l false q = h i (ltb-false _ _ q) l
+
   -- what is found is found at some number
   pub first-at : (n : ℕ) (a : A) → firstOf f n ≡ some a → (i : ℕ) × (i < n) × (f i ≡ some a)
   unfolding firstOf
   first-at zero a e = none≢some e
   first-at (suc n) a e =
       else-case _ _ _ e (λ q k. (n, omega arith, k)) (λ b q k. let (i, l, m) = first-at n a (q ∙ k) in (i, omega arith, m))
+
+pub first-eq : {A : Type 0} (f g : ℕ → Option A) (n : ℕ) → ((i : ℕ) → i < n → f i ≡ g i) → firstOf f n ≡ firstOf g n
+unfolding firstOf
+first-eq f g zero h = refl
+first-eq f g (suc n) h = ap₂ _orElse_ (first-eq f g n (λ i l. h i (omega arith))) (h n (omega arith))
 
 -- ---- what f makes of the one that is found
 

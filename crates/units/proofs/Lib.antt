@@ -1,3 +1,7 @@
 pub mod Choices
-pub mod Ranges
+pub mod Searching
+pub mod FirstFrom
 pub mod Summing
+pub mod Extremes
+pub mod Multiples
+pub mod Ranges

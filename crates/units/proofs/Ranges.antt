@@ -1,11 +1,14 @@
 -- Laws of ranges and boxes. Assumes nothing.
-use mathlib.Core.Path.{_≡_}
+use mathlib.Core.Path.{_≡_, refl, ap₂, _∙_}
 use mathlib.Core.Bool.{Bool, true, false}
+use mathlib.Core.Option.{Option, none, some}
 use Prim.Native.Nat.{ℕ, _≤_, _<_}
+use native.Mathlib.Omega.{arith}
 use lib.Dec.{leb}
-use borrow.Author.Tests.{le-leb, lt-leb, leb-true, ltb-true}
-use Rattle.units.specs.Choice.{_and_}
-use Rattle.units.specs.Limits.{within, isHour, isWorkTime, isOvertime, isRange, isBox}
+use borrow.Author.Tests.{le-leb, lt-leb, lt-ltb, leb-true, ltb-true}
+use Rattle.units.specs.Choice.{_and_, someIf, onOption}
+use Rattle.units.specs.Limits.{within, isHour, isWorkTime, isOvertime, isRange, isBox, Boxed}
+use Rattle.units.specs.inner.Order.{inOrder}
 use Rattle.units.specs.declared.Bounds.{Bounds}
 use Rattle.units.proofs.Choices.{and-both, and-left, and-right, not-left, not-right}
 
@@ -64,14 +67,42 @@ module _ (kind : ℕ → Bool) (lower upper : ℕ) where
   unfolding isRange
   in-order e = leb-true _ _ (and-right _ _ (and-right _ _ e))
 
+-- ---- two bounds as their constructor made them
+
+module _ {A : Type 0} (number : A → ℕ) (lower upper : Option A) where
+  pub no-lower : lower ≡ none → inOrder number lower upper ≡ false
+  unfolding inOrder onOption
+  no-lower p = rw p
+
+  pub no-upper : (l : A) → lower ≡ some l → upper ≡ none → inOrder number lower upper ≡ false
+  unfolding inOrder onOption
+  no-upper l p q = rw (p, q)
+
+  pub by-numbers : (l u : A) → lower ≡ some l → upper ≡ some u → inOrder number lower upper ≡ leb (number l) (number u)
+  unfolding inOrder onOption
+  by-numbers l u p q = rw (p, q)
+
+-- they are in order exactly when they make a range of their kind
+pub made-range : {A : Type 0} (kind : ℕ → Bool) (number : A → ℕ) (make : ℕ → A) → ((n : ℕ) → number (make n) ≡ n) → (l u : ℕ)
+    → inOrder number (someIf (kind l) (make l)) (someIf (kind u) (make u)) ≡ isRange kind l u
+unfolding inOrder onOption someIf isRange _and_
+made-range kind number make own l u = go (kind l) (kind u)
+  where
+    go : (a b : Bool) → inOrder number (someIf a (make l)) (someIf b (make u)) ≡ (a and b and leb l u)
+    go true true = ap₂ leb (own l) (own u)
+    go true false = refl
+    go false b = refl
+
+-- ---- boxes
+
 module _ (h p : ℕ) (b : Bounds) where
-  abbrev starts : Bool
+  abbrev pub starts : Bool
   starts = isRange (isHour h) (b .earliest .0) (b .latest .0)
 
-  abbrev lengths : Bool
+  abbrev pub lengths : Bool
   lengths = isRange (isWorkTime h) (b .shortest .0) (b .longest .0)
 
-  abbrev overtimes : Bool
+  abbrev pub overtimes : Bool
   overtimes = isRange (isOvertime p) (b .fewest .0) (b .most .0)
 
   pub is-box : starts ≡ true → lengths ≡ true → overtimes ≡ true → isBox h p b ≡ true
@@ -90,17 +121,7 @@ module _ (h p : ℕ) (b : Bounds) where
   unfolding isBox
   not-overtimes e = not-right _ _ (not-right _ _ e)
 
-  -- what a box says of its bounds
-  pub record Boxed : Type 0 where
-    pub starts : b .earliest .0 ≤ b .latest .0
-    pub latest : b .latest .0 < h
-    pub shortest : 1 ≤ b .shortest .0
-    pub lengths : b .shortest .0 ≤ b .longest .0
-    pub longest : b .longest .0 ≤ h
-    pub overtimes : b .fewest .0 ≤ b .most .0
-    pub most : b .most .0 ≤ p
-
-  pub boxed : isBox h p b ≡ true → Boxed
+  pub boxed : isBox h p b ≡ true → Boxed h p b
   unfolding isBox isHour isWorkTime isOvertime
   boxed e =
       let s = and-left _ _ e in
@@ -115,3 +136,14 @@ module _ (h p : ℕ) (b : Bounds) where
         overtimes = in-order (isOvertime p) _ _ o;
         most = leb-true _ _ (upper-in (isOvertime p) _ _ o);
       }
+
+  pub is-boxed : Boxed h p b → isBox h p b ≡ true
+  unfolding isHour isWorkTime isOvertime
+  is-boxed x =
+      is-box
+      (is-range (isHour h) _ _ (lt-ltb _ h (omega (arith, x .starts, x .latest))) (lt-ltb _ _ (x .latest)) (x .starts))
+      (is-range (isWorkTime h) _ _
+      (is-within 1 h _ (x .shortest) (omega (arith, x .lengths, x .longest)))
+      (is-within 1 h _ (omega (arith, x .shortest, x .lengths)) (x .longest))
+      (x .lengths))
+      (is-range (isOvertime p) _ _ (le-leb _ p (omega (arith, x .overtimes, x .most))) (le-leb _ _ (x .most)) (x .overtimes))

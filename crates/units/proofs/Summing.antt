@@ -1,15 +1,15 @@
--- Laws of sums over the numbers 0, 1, .., n - 1. Assumes nothing.
+-- Laws of sums, counts and maxima over the numbers 0, 1, .., n - 1. Assumes nothing.
 use mathlib.Core.Path.{_≡_, refl, ap, ap₂}
 use mathlib.Core.Logic.{_≢_}
 use mathlib.Core.Bool.{Bool, true, false, not}
-use Prim.Native.Nat.{ℕ, zero, suc, _+_, _*_, _≤_, _<_}
+use Prim.Native.Nat.{ℕ, zero, suc, _+_, _*_, _≤_, _<_, max}
 use native.Mathlib.Nat.{suc-mul}
 use native.Mathlib.Numerals.{add-one}
 use native.Mathlib.Omega.{arith}
 use lib.Dec.{eqb}
 use borrow.Author.Tests.{eqb-true, eqb-false, eq-eqb, ne-eqb}
 use Rattle.units.specs.Choice.{_and_, if_then_else_}
-use Rattle.units.specs.Sums.{sumTo, sumWhere}
+use Rattle.units.specs.Sums.{sumTo, sumWhere, oneIf, maxTo}
 use Rattle.units.proofs.Choices.{if-true, if-false, if-all, not-left}
 
 module _ (f g : ℕ → ℕ) where
@@ -64,11 +64,20 @@ module _ (test : ℕ → Bool) (f : ℕ → ℕ) where
   pub where-skip : (s n : ℕ) → s ≡ sumWhere test f n → test n ≡ false → s ≡ sumWhere test f (n + 1)
   where-skip s n p q = omega (arith, where-step s n 0 p (if-false _ _ _ q))
 
-  pub where-most : (n m : ℕ) → ((j : ℕ) → f j ≤ m) → sumWhere test f n ≤ n * m
+  where-le : (n m : ℕ) → ((j : ℕ) → j < n → f j ≤ m) → sumWhere test f n ≤ n * m
   unfolding sumWhere sumTo
-  where-most zero m h = omega arith
-  where-most (suc n) m h =
-      omega (arith, where-most n m h, if-all (λ (k : ℕ). k ≤ m) (test n) (f n) 0 (λ e. h n) (λ e. omega arith), suc-mul n m)
+  where-le zero m h = omega arith
+  where-le (suc n) m h =
+      omega (
+        arith,
+        where-le n m (λ j l. h j (omega arith)),
+        if-all (λ (k : ℕ). k ≤ m) (test n) (f n) 0 (λ e. h n (omega arith)) (λ e. omega arith),
+        suc-mul n m,
+      )
+
+  -- no term is more than m
+  pub where-most : (s n m : ℕ) → s ≡ sumWhere test f n → ((j : ℕ) → j < n → f j ≤ m) → s ≤ n * m
+  where-most s n m p h = omega (arith, where-le n m h)
 
   -- another test that decides the same
   pub where-eq : (other : ℕ → Bool) (n : ℕ) → ((j : ℕ) → j < n → test j ≡ other j) → sumWhere test f n ≡ sumWhere other f n
@@ -86,3 +95,14 @@ module _ (test : ℕ → Bool) (f : ℕ → ℕ) where
 
       own : (if not (eqb i i) and test i then f i else 0) + (if test i then f i else 0) ≡ (if test i then f i else 0)
       own = omega (arith, if-false (not (eqb i i) and test i) (f i) 0 (not-left _ _ (rw (eq-eqb i i refl))))
+
+-- ---- one test's count, and the greatest
+
+pub one-le : (b : Bool) → oneIf b ≤ 1
+one-le true = omega arith
+one-le false = omega arith
+
+-- one number more
+pub max-with : (f : ℕ → ℕ) (m n x r : ℕ) → m ≡ maxTo f n → x ≡ f n → r ≡ max m x → r ≡ maxTo f (n + 1)
+unfolding maxTo
+max-with f m n x r p q e = rw (add-one, ← p, ← q) e

@@ -1,7 +1,7 @@
 -- The kinds of value that a plan is made of, and their limits (01, "A plan").
 use mathlib.Core.Bool.{Bool}
 use mathlib.Core.Option.{Option, none, some}
-use Prim.Native.Nat.{ℕ}
+use Prim.Native.Nat.{ℕ, _≤_, _<_}
 use lib.Dec.{leb, ltb}
 use Rattle.units.specs.Choice.{_and_}
 use Rattle.units.specs.declared.Hour.{Hour}
@@ -35,6 +35,10 @@ mostTasks = 64
 
 abbrev pub mostHeight : ℕ
 mostHeight = 1000
+
+-- a box is six numbers in lent memory
+abbrev pub boxNumbers : ℕ
+boxNumbers = 6
 
 -- values of each kind, from their numbers
 abbrev pub hour : ℕ → Hour
@@ -99,6 +103,16 @@ isBox h p b =
     isRange (isHour h) (b .earliest .0) (b .latest .0)
     and isRange (isWorkTime h) (b .shortest .0) (b .longest .0)
     and isRange (isOvertime p) (b .fewest .0) (b .most .0)
+
+-- the same of its numbers
+pub record Boxed (h p : ℕ) (b : Bounds) : Type 0 where
+  pub starts : b .earliest .0 ≤ b .latest .0
+  pub latest : b .latest .0 < h
+  pub shortest : 1 ≤ b .shortest .0
+  pub lengths : b .shortest .0 ≤ b .longest .0
+  pub longest : b .longest .0 ≤ h
+  pub overtimes : b .fewest .0 ≤ b .most .0
+  pub most : b .most .0 ≤ p
 
 -- what a constructor answers, for each kind of value
 abbrev pub hourMade : MaybeHour → Option Hour

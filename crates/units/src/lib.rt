@@ -1,8 +1,10 @@
 // The kinds of value that a plan is made of. Document 01's limits stand here, each once, at the kind of value that it limits.
 ghost use mathlib.Core.Path.{_≡_};
-ghost use Prim.Native.Nat.{_+_, _-_, _≤_, _<_};
+ghost use Prim.Native.Nat.{_+_, _-_, _*_, _≤_, _<_};
+ghost use lib.Dec.{eqb};
 ghost use Rattle.units.specs.Limits.{hour, duration, height, calendarNumber, isPlanLength, isHour, isWorkTime, isHeight, isCapacity, isCalendarCount, isCalendarNumber, isTaskCount, isOvertime, isBox, hourMade, durationMade, heightMade, calendarNumberMade, boundsMade};
 ghost use Rattle.units.specs.Choice.{someIf};
+ghost use Rattle.units.specs.inner.Order.{inOrder};
 
 // An hour of the clock: hour 0 is the plan's first.
 pub struct Hour(pub u16);
@@ -81,6 +83,19 @@ impl Hour {
     {
         Duration(self.0 - earlier.0)
     }
+
+    // Whether both are hours of the plan, the lower at most the upper.
+    fn are_in_order(lower: MaybeHour, upper: MaybeHour) -> bool
+        ensures { λ r. ⌜ r ≡ inOrder (λ h. h .0) (hourMade lower) (hourMade upper) ⌝ }
+    {
+        let MaybeHour::Within(least) = lower else {
+            return false;
+        };
+        let MaybeHour::Within(greatest) = upper else {
+            return false;
+        };
+        least.0 <= greatest.0
+    }
 }
 
 impl Duration {
@@ -121,6 +136,19 @@ impl Duration {
             return MaybeDuration::Outside;
         }
         MaybeDuration::Within(Duration(number))
+    }
+
+    // Whether both are within the limits of their kind, the lower at most the upper.
+    fn are_in_order(lower: MaybeDuration, upper: MaybeDuration) -> bool
+        ensures { λ r. ⌜ r ≡ inOrder (λ d. d .0) (durationMade lower) (durationMade upper) ⌝ }
+    {
+        let MaybeDuration::Within(least) = lower else {
+            return false;
+        };
+        let MaybeDuration::Within(greatest) = upper else {
+            return false;
+        };
+        least.0 <= greatest.0
     }
 }
 
@@ -181,6 +209,9 @@ impl Bounds {
     // The most boxes of a plan, one for each task.
     pub const MOST: usize = 64;
 
+    // How many numbers a box has in lent memory: the bounds of S, E and O, the lower first.
+    pub const NUMBERS: usize = 6;
+
     // Whether a plan may have so many tasks.
     pub fn is_count(tasks: usize) -> bool
         ensures { λ r. ⌜ r ≡ isTaskCount tasks ⌝ }
@@ -192,40 +223,32 @@ impl Bounds {
     pub fn of_task(b: Bounds, hours: Duration, work_time: Duration) -> MaybeBounds
         ensures { λ r. ⌜ boundsMade r ≡ someIf (isBox (hours .0) («work_time» .0) b) b ⌝ }
     {
-        let MaybeHour::Within(earliest) = Hour::of_plan(b.earliest.0, hours) else {
-            return MaybeBounds::Outside;
-        };
-        let MaybeHour::Within(latest) = Hour::of_plan(b.latest.0, hours) else {
-            return MaybeBounds::Outside;
-        };
-        if latest.0 < earliest.0 {
+        let earliest = Hour::of_plan(b.earliest.0, hours);
+        let latest = Hour::of_plan(b.latest.0, hours);
+        if !Hour::are_in_order(earliest, latest) {
             return MaybeBounds::Outside;
         }
-        let MaybeDuration::Within(shortest) = Duration::of_work(b.shortest.0, hours) else {
-            return MaybeBounds::Outside;
-        };
-        let MaybeDuration::Within(longest) = Duration::of_work(b.longest.0, hours) else {
-            return MaybeBounds::Outside;
-        };
-        if longest.0 < shortest.0 {
+        let shortest = Duration::of_work(b.shortest.0, hours);
+        let longest = Duration::of_work(b.longest.0, hours);
+        if !Duration::are_in_order(shortest, longest) {
             return MaybeBounds::Outside;
         }
-        let MaybeDuration::Within(fewest) = Duration::of_overtime(b.fewest.0, work_time) else {
-            return MaybeBounds::Outside;
-        };
-        let MaybeDuration::Within(most) = Duration::of_overtime(b.most.0, work_time) else {
-            return MaybeBounds::Outside;
-        };
-        if most.0 < fewest.0 {
+        let fewest = Duration::of_overtime(b.fewest.0, work_time);
+        let most = Duration::of_overtime(b.most.0, work_time);
+        if !Duration::are_in_order(fewest, most) {
             return MaybeBounds::Outside;
         }
-        MaybeBounds::Within(Bounds {
-            earliest,
-            latest,
-            shortest,
-            longest,
-            fewest,
-            most,
-        })
+        MaybeBounds::Within(b)
     }
+}
+
+// Whether a length is so many numbers for each of so many. It is divided, since the product may not fit.
+pub fn is_for_each(length: usize, numbers: usize, count: usize) -> bool
+    requires { ⌜ 1 ≤ numbers ⌝ }
+    ensures { λ r. ⌜ r ≡ eqb length (numbers * count) ⌝ }
+{
+    if length % numbers != 0 {
+        return false;
+    }
+    length / numbers == count
 }

@@ -1,54 +1,60 @@
-use mathlib.Core.Path.{sym, ap, _∙_}
-use native.Mathlib.Omega.{arith}
-use borrow.Author.Tests.{eq-eqb, ne-eqb, not-true, not-false}
-use Rattle.calendar.specs.Scan.{joined}
-use Rattle.calendar.specs.Valid.{isKind}
-use Rattle.calendar.proofs.Answers.{unmoved, after-joined}
-use Rattle.calendar.proofs.Starts.{end-asks, none-closed, none-between, none-ends, window-asks, window-is}
+use mathlib.Core.Path.{_≡_, sym, ap, _∙_}
+use mathlib.Core.Bool.{true, false}
+use borrow.Author.Tests.{not-true, not-false}
+use Rattle.plan.specs.Plan.{closed}
+use Rattle.plan.specs.HourKinds.{isKind}
+use Rattle.calendar.specs.inner.Stretches.{mayEnd}
+use Rattle.calendar.specs.inner.Windows.{withWindow}
+use Rattle.calendar.proofs.Answers.{unmoved, with-window-of}
+use Rattle.calendar.proofs.Stretches.{counts-small}
+use Rattle.calendar.proofs.Starts.{none-closed, none-between, none-ends, window-ready, window-is}
 use borrow.Author.Needs.{needs}
 use Rattle.calendar.proofs.with_start.Statement.{statement}
 use Rattle.calendar.proofs.with_start.Tie as tie
 
-cast-if1 : tie.Need-cast-if1
-cast-if1 c = search needs
+-- what is known at the start, once the shortest stretch was found to be an end
+abbrev entry : tie.Else3 → tie.Start
+entry c = c .before .before .before .before .before .before .before .before .before
 
-shared-slice-read-if1 : tie.Need-shared-slice-read-if1
-shared-slice-read-if1 c = search needs
+open-start : (c : tie.Else3) → isKind closed (entry c .args .calendar .now) (entry c .args .s .0) ≡ false
+open-start c = let open-hour = c .before .before .before .before .before in sym (open-hour .before .is-kind .ensures) ∙ open-hour .if1 .left
+
+ends : (c : tie.Else3) → mayEnd (entry c .args .work-time .0) (entry c .args .b) (entry c .args .shortest) ≡ true
+ends c = sym (c .before .may-end .ensures) ∙ not-false _ (c .if3 .left)
 
 returns : tie.Need-returns
-unfolding isKind
-returns c = unmoved _ (none-closed _ _ _ _ (eq-eqb _ _ (c .if1 .taken)))
+returns c = unmoved _ (none-closed _ _ _ _ (sym (c .before .is-kind .ensures) ∙ c .if1 .taken))
 
 returns-2 : tie.Need-returns-2
-returns-2 c = unmoved _ (none-between _ _ _ _ (c .before .before .before .before .before .before .before .pre .0) (c .before .before .before .before .before .before .before .pre .3) _ _ (c .before .before .before .before .before .before .before .pre .4) (c .if2 .taken))
+returns-2 c = unmoved _ (none-between (c .before .before .before .before .before .before .before .pre) (c .if2 .taken))
 
 may-end-requires : tie.Need-may-end-requires
-may-end-requires c κs = end-asks _ _ _ _ (c .before .before .before .before .before .before .before .pre .0) (c .before .before .before .before .before .before .before .pre .3) _ _ (c .before .before .before .before .before .before .before .pre .4) (c .before .before .before .before .before .before .before .pre .2)
+may-end-requires c κs = counts-small (c .before .before .before .before .before .before .before .pre .is-shortest)
 
 returns-3 : tie.Need-returns-3
-returns-3 c = unmoved _ (none-ends _ _ _ _ (c .before .before .before .before .before .before .before .before .before .pre .0) (c .before .before .before .before .before .before .before .before .before .pre .3) _ _ (c .before .before .before .before .before .before .before .before .before .pre .4) (sym (c .before .may-end .ensures) ∙ not-true _ (c .if3 .taken)))
+returns-3 c =
+    let known = c .before .before .before .before .before .before .before .before .before .pre in
+    unmoved _ (none-ends known (sym (c .before .may-end .ensures) ∙ not-true _ (c .if3 .taken)))
 
 window-from-requires : tie.Need-window-from-requires
-unfolding isKind
-window-from-requires c κs = window-asks _ _ _ _ (c .before .before .before .before .before .before .before .before .before .pre .0) (c .before .before .before .before .before .before .before .before .before .pre .3) _ _ (c .before .before .before .before .before .before .before .before .before .pre .4) (ne-eqb _ _ (c .before .before .before .before .before .if1 .left)) (sym (c .before .may-end .ensures) ∙ not-false _ (c .if3 .left)) (omega arith) (c .before .before .before .before .before .before .before .before .before .pre .2)
-
-with-window-requires : tie.Need-with-window-requires
-with-window-requires c κs = search needs
+window-from-requires c κs = window-ready (entry c .pre) (open-start c) (ends c) (c .before .before .if2 .left)
 
 returns-4 : tie.Need-returns-4
-unfolding isKind
-returns-4 c = c .with-window .ensures ∙ ap (joined (c .before .before .before .before .before .before .before .before .before .before .before .args .fit)) (c .before .window-from .ensures) ∙ sym (after-joined _ _ _ (window-is _ _ _ _ (c .before .before .before .before .before .before .before .before .before .before .before .pre .0) (c .before .before .before .before .before .before .before .before .before .before .before .pre .3) _ _ (c .before .before .before .before .before .before .before .before .before .before .before .pre .4) (ne-eqb _ _ (c .before .before .before .before .before .before .before .if1 .left)) (sym (c .before .before .before .may-end .ensures) ∙ not-false _ (c .before .before .if3 .left)) (omega arith)))
+returns-4 c =
+    let place = c .before .before in
+    let window = window-is (entry place .pre) (open-start place) (ends place) (place .before .before .if2 .left) in
+    c .with-window .ensures ∙ ap (withWindow (entry place .args .fit)) (c .before .window-from .ensures) ∙ sym (with-window-of _ _ _ window)
 
 pub with-start-spec : {M : Type 1} → statement M
 with-start-spec =
     tie.close
     (tie.spec
-    cast-if1
-    shared-slice-read-if1
+    (λ c. search needs)
+    (λ c κs. search needs)
     returns
     returns-2
     may-end-requires
     returns-3
     window-from-requires
-    with-window-requires
+    (λ c κs. search needs)
     returns-4)

@@ -1,8 +1,8 @@
 use mathlib.Core.Path.{sym, _∙_}
 use borrow.Author.Tests.{eq-eqb, ne-eqb}
-use Rattle.units.proofs.Choices.{not-left, not-right}
+use borrow.Author.Needs.{needs}
+use Rattle.units.proofs.Choices.{not-left, not-right, and-rest}
 use Rattle.plan.specs.Faults.{oneForEachTask}
-use Rattle.plan.proofs.Refusing.{and-rest, sixth, no-sixth}
 use Rattle.plan.proofs.has_one_for_each_task.Statement.{statement}
 use Rattle.plan.proofs.has_one_for_each_task.Tie as tie
 
@@ -16,11 +16,9 @@ returns-2 c = sym (not-right _ _ (not-left _ _ (ne-eqb _ _ (c .if2 .taken))))
 
 returns-3 : tie.Need-returns-3
 unfolding oneForEachTask
-returns-3 c = sym (not-right _ _ (not-right _ _ (no-sixth _ _ (c .if3 .taken))))
-
-returns-4 : tie.Need-returns-4
-unfolding oneForEachTask
-returns-4 c = sym (and-rest _ _ (eq-eqb _ _ (c .before .before .if1 .left)) ∙ and-rest _ _ (eq-eqb _ _ (c .before .if2 .left)) ∙ sym (sixth _ _ (c .if3 .left)))
+returns-3 c =
+    c .is-for-each .ensures
+    ∙ sym (and-rest _ _ (eq-eqb _ _ (c .before .before .if1 .left)) ∙ and-rest _ _ (eq-eqb _ _ (c .before .if2 .left)))
 
 pub has-one-for-each-task-spec : {M : Type 1} → statement M
-has-one-for-each-task-spec = tie.close (tie.spec returns returns-2 returns-3 returns-4)
+has-one-for-each-task-spec = tie.close (tie.spec returns returns-2 (λ c κs. search needs) returns-3)

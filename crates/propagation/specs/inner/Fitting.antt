@@ -6,12 +6,12 @@ use Prim.Native.Nat.{ℕ, _+_, _*_, _≤_, _<_}
 use lib.ListN.{length, getD}
 use Rattle.units.specs.Limits.{mostHours}
 use Rattle.plan.specs.Plan.{Shifts, firstSymbol}
-use Rattle.plan.specs.Faults.{isSymbol}
+use Rattle.plan.specs.HourKinds.{isSymbol}
 use Rattle.plan.specs.Boxes.{boundsAt}
 
 pub record Fitting (S : Shifts) (boxes : List ℕ) (i : ℕ) : Type 0 where
   pub short : S .hours ≤ mostHours
-  pub symbols : (k : ℕ) → k < length (S .calendars) → isSymbol (getD (S .calendars) k 0) ≡ true
+  pub symbols : (k : ℕ) → k < length (S .calendars) → isSymbol (S .calendars) k ≡ true
   pub task : i < length (S .taskCalendars)
   pub work : i < length (S .workTimes)
   pub box : 6 * i + 6 ≤ length boxes

@@ -13,7 +13,7 @@ use Rattle.units.specs.Sums.{sumWhere}
 use Rattle.units.specs.declared.Bounds.{Bounds}
 use Rattle.plan.specs.Plan.{Plan, taskCount}
 use Rattle.plan.specs.Boxes.{boundsAt, withBounds}
-use Rattle.plan.proofs.Passed.{Passed}
+use Rattle.plan.specs.Passed.{Passed}
 use Rattle.calendar.specs.declared.Window.{Window}
 use Rattle.calendar.specs.declared.Fit.{Fit}
 use Rattle.calendar.specs.declared.Fit.the-variants.{Never, Within}

@@ -1,7 +1,6 @@
 use mathlib.Core.Path.{sym, _∙_}
 use borrow.Author.Tests.{not-true, not-false}
-use Rattle.units.proofs.Choices.{not-left, not-right}
-use Rattle.plan.proofs.Refusing.{and-rest}
+use Rattle.units.proofs.Choices.{not-left, not-right, and-rest}
 use Rattle.calendar.specs.Triples.{inBounds}
 use borrow.Author.Needs.{needs}
 use Rattle.schedule.proofs.is_in_bounds.Statement.{statement}

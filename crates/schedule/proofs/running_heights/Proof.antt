@@ -8,8 +8,8 @@ use borrow.Author.Needs.{needs}
 use Rattle.units.specs.Limits.{mostHeight}
 use Rattle.units.specs.Sums.{sumTo, sumWhere}
 use Rattle.schedule.specs.Schedule.{tripleAt, runs}
-use Rattle.schedule.proofs.Adding.{sum-with, sum-without, sum-small}
 use Rattle.schedule.proofs.running_heights.Statement.{statement}
+use Rattle.units.proofs.Summing.{where-more, where-skip, where-most}
 use Rattle.schedule.proofs.running_heights.Tie as tie
 
 abbrev Inv-loop : tie.InvT-loop
@@ -38,7 +38,7 @@ shared-slice-read-sum c = search needs
 add-sum : tie.Need-add-sum Inv-loop μ-loop
 add-sum c =
     let ready = c .before .before .before .before .before .before .before .before .pre in
-    omega (arith, ready .heights (c .before .before .before .before .before .loop .i) (omega arith), sum-small _ _ mostHeight _ _ (c .before .before .before .before .before .loop .inv .1) (λ j l. ready .heights j (omega arith)))
+    omega (arith, ready .heights (c .before .before .before .before .before .loop .i) (omega arith), where-most _ _ _ _ mostHeight (c .before .before .before .before .before .loop .inv .1) (λ j l. ready .heights j (omega arith)))
 
 add-i : tie.Need-add-i Inv-loop μ-loop
 add-i c = search needs
@@ -51,7 +51,7 @@ loop-again c =
     let is = c .before .before .triple-at .ensures in
     let runs-is = c .before .is-running .ensures in
     let sum-is = c .before .before .before .before .loop .inv .1 in
-    (omega arith, ⊎-elim (λ w. w .2 ∙ sum-with _ _ _ _ sum-is (runs-as _ _ is _ _ _ runs-is (w .0 .taken))) (λ w. w .1 ∙ sum-without _ _ _ _ sum-is (runs-as _ _ is _ _ _ runs-is (w .0 .left))) (c .if1 .came))
+    (omega arith, ⊎-elim (λ w. w .2 ∙ where-more _ _ _ _ sum-is (runs-as _ _ is _ _ _ runs-is (w .0 .taken))) (λ w. w .1 ∙ where-skip _ _ _ _ sum-is (runs-as _ _ is _ _ _ runs-is (w .0 .left))) (c .if1 .came))
 
 returns : tie.Need-returns Inv-loop μ-loop
 returns c =

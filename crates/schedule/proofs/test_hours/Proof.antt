@@ -6,9 +6,9 @@ use native.Mathlib.Omega.{arith}
 use lib.Dec.{leb}
 use borrow.Author.Needs.{needs}
 use Rattle.units.specs.Choice.{firstOf}
-use Rattle.units.proofs.Choices.{first-next, first-hit}
+use Rattle.units.proofs.Choices.{first-next, first-hit, first-end}
 use Rattle.plan.specs.Refusals.{Fault, fault, unless}
-use Rattle.plan.proofs.Refusing.{unless-true, unless-false, first-end}
+use Rattle.plan.proofs.Refusing.{unless-true, unless-false}
 use Rattle.schedule.specs.Ready.{runningHeights}
 use Rattle.schedule.proofs.Testing.{exceeds, allows}
 use Rattle.schedule.proofs.test_hours.Statement.{statement}

@@ -19,12 +19,12 @@ has-one-for-each-task-requires c κs = search needs
 returns : tie.Need-returns
 returns c = checks-as _ _ _ _ (sym (refuse _ 31 0 _ (not-left _ _ (sym (c .before .has-one-for-each-task .ensures) ∙ not-true _ (c .if1 .taken)))))
 
-has-triples-requires : tie.Need-has-triples-requires
-has-triples-requires c κs = search needs
+is-for-each-requires : tie.Need-is-for-each-requires
+is-for-each-requires c κs = search needs
 
 returns-2 : tie.Need-returns-2
 unfolding isSized taskCount
-returns-2 c = checks-as _ _ _ _ (sym (refuse _ 31 0 _ (not-right _ _ (sym (c .before .has-triples .ensures) ∙ not-true _ (c .if2 .taken)))))
+returns-2 c = checks-as _ _ _ _ (sym (refuse _ 31 0 _ (not-right _ _ (sym (c .before .is-for-each .ensures) ∙ not-true _ (c .if2 .taken)))))
 
 test-plan-requires : tie.Need-test-plan-requires
 test-plan-requires c κs = sym (c .before .before .before .has-one-for-each-task .ensures) ∙ not-false _ (c .before .before .if1 .left)
@@ -37,13 +37,13 @@ enum-told-2 c = search needs
 
 returns-3 : tie.Need-returns-3
 returns-3 c =
-    let size = right-size _ _ _ _ _ (c .before .before .before .before .before .before .has-one-for-each-task .ensures) (c .before .before .before .before .before .if1 .left) (c .before .before .before .before .has-triples .ensures) (c .before .before .before .if2 .left) in
+    let size = right-size _ _ _ _ _ (c .before .before .before .before .before .before .has-one-for-each-task .ensures) (c .before .before .before .before .before .if1 .left) (c .before .before .before .before .is-for-each .ensures) (c .before .before .before .if2 .left) in
     let told = ap testedFault (c .enum-told2 .given .1) in
     checks-as _ _ _ _ (told ∙ sym (go-on _ 31 0 _ size ∙ else-some _ _ _ (sym (c .before .before .test-plan .ensures) ∙ told)))
 
 test-triples-requires : tie.Need-test-triples-requires
 test-triples-requires c κs =
-    let size = right-size _ _ _ _ _ (c .before .before .before .before .before .before .has-one-for-each-task .ensures) (c .before .before .before .before .before .if1 .left) (c .before .before .before .before .has-triples .ensures) (c .before .before .before .if2 .left) in
+    let size = right-size _ _ _ _ _ (c .before .before .before .before .before .before .has-one-for-each-task .ensures) (c .before .before .before .before .before .if1 .left) (c .before .before .before .before .is-for-each .ensures) (c .before .before .before .if2 .left) in
     triples-ready _ _ _ size (sym (c .before .before .test-plan .ensures) ∙ ap testedFault (c .enum-told .given .1))
 
 enum-told-3 : tie.Need-enum-told-3
@@ -55,20 +55,20 @@ enum-told-4 c = search needs
 returns-4 : tie.Need-returns-4
 unfolding scheduleFault taskCount
 returns-4 c =
-    let size = right-size _ _ _ _ _ (c .before .before .before .before .before .before .before .before .before .has-one-for-each-task .ensures) (c .before .before .before .before .before .before .before .before .if1 .left) (c .before .before .before .before .before .before .before .has-triples .ensures) (c .before .before .before .before .before .before .if2 .left) in
+    let size = right-size _ _ _ _ _ (c .before .before .before .before .before .before .before .before .before .has-one-for-each-task .ensures) (c .before .before .before .before .before .before .before .before .if1 .left) (c .before .before .before .before .before .before .before .is-for-each .ensures) (c .before .before .before .before .before .before .if2 .left) in
     let passes = sym (c .before .before .before .before .before .test-plan .ensures) ∙ ap testedFault (c .before .before .before .enum-told .given .1) in
     let told = ap testedFault (c .enum-told4 .given .1) in
     checks-as _ _ _ _ (told ∙ sym (go-on _ 31 0 _ size ∙ else-none _ _ passes ∙ else-some _ _ _ (sym (c .before .before .test-triples .ensures) ∙ told)))
 
 test-hours-requires : tie.Need-test-hours-requires
 test-hours-requires c κs =
-    let size = right-size _ _ _ _ _ (c .before .before .before .before .before .before .before .before .before .has-one-for-each-task .ensures) (c .before .before .before .before .before .before .before .before .if1 .left) (c .before .before .before .before .before .before .before .has-triples .ensures) (c .before .before .before .before .before .before .if2 .left) in
+    let size = right-size _ _ _ _ _ (c .before .before .before .before .before .before .before .before .before .has-one-for-each-task .ensures) (c .before .before .before .before .before .before .before .before .if1 .left) (c .before .before .before .before .before .before .before .is-for-each .ensures) (c .before .before .before .before .before .before .if2 .left) in
     hours-ready _ _ _ size (sym (c .before .before .before .before .before .test-plan .ensures) ∙ ap testedFault (c .before .before .before .enum-told .given .1))
 
 returns-5 : tie.Need-returns-5
 unfolding scheduleFault taskCount
 returns-5 c =
-    let size = right-size _ _ _ _ _ (c .before .before .before .before .before .before .before .before .before .before .has-one-for-each-task .ensures) (c .before .before .before .before .before .before .before .before .before .if1 .left) (c .before .before .before .before .before .before .before .before .has-triples .ensures) (c .before .before .before .before .before .before .before .if2 .left) in
+    let size = right-size _ _ _ _ _ (c .before .before .before .before .before .before .before .before .before .before .has-one-for-each-task .ensures) (c .before .before .before .before .before .before .before .before .before .if1 .left) (c .before .before .before .before .before .before .before .before .is-for-each .ensures) (c .before .before .before .before .before .before .before .if2 .left) in
     let passes = sym (c .before .before .before .before .before .before .test-plan .ensures) ∙ ap testedFault (c .before .before .before .before .enum-told .given .1) in
     let triples = sym (c .before .before .before .test-triples .ensures) ∙ ap testedFault (c .before .enum-told3 .given .1) in
     checks-as _ _ _ _ (c .test-hours .ensures ∙ hours-are _ _ (same-heights _ _ _ size passes) ∙ sym (go-on _ 31 0 _ size ∙ else-none _ _ passes ∙ else-none _ _ triples))
@@ -79,7 +79,7 @@ test-schedule-spec =
     (tie.spec
     has-one-for-each-task-requires
     returns
-    has-triples-requires
+    is-for-each-requires
     returns-2
     test-plan-requires
     enum-told

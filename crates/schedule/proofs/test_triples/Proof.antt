@@ -8,10 +8,9 @@ use native.Mathlib.Omega.{arith}
 use lib.ListN.{length}
 use borrow.Author.Needs.{needs}
 use Rattle.units.specs.Choice.{firstOf}
-use Rattle.units.proofs.Choices.{first-next, first-hit}
+use Rattle.units.proofs.Choices.{first-next, first-hit, first-end}
 use Rattle.plan.specs.Plan.{shifts}
 use Rattle.plan.specs.Refusals.{testedFault}
-use Rattle.plan.proofs.Refusing.{first-end}
 use Rattle.schedule.specs.Schedule.{tripleAt}
 use Rattle.schedule.specs.Entry.{tripleFault}
 use Rattle.schedule.proofs.test_triples.Statement.{statement}

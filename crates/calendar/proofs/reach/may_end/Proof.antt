@@ -2,7 +2,7 @@ use mathlib.Core.Path.{sym}
 use native.Mathlib.Omega.{arith}
 use borrow.Author.Tests.{lt-leb, ne-eqb}
 use Rattle.units.proofs.Choices.{not-left, not-right}
-use Rattle.calendar.specs.Scan.{mayEnd}
+use Rattle.calendar.specs.inner.Stretches.{mayEnd}
 use Rattle.calendar.proofs.Stretches.{ends-may, ends-by-most}
 use borrow.Author.Needs.{needs}
 use Rattle.calendar.proofs.reach.may_end.Statement.{statement}
@@ -11,9 +11,6 @@ use Rattle.calendar.proofs.reach.may_end.Tie as tie
 returns : tie.Need-returns
 unfolding mayEnd
 returns c = sym (not-left _ _ (lt-leb _ _ (c .if1 .taken)))
-
-add-if2 : tie.Need-add-if2
-add-if2 c = search needs
 
 returns-2 : tie.Need-returns-2
 unfolding mayEnd
@@ -26,12 +23,8 @@ returns-3 c = sym (not-right _ _ (not-right _ _ (not-left _ _ (ne-eqb _ _ (c .if
 returns-4 : tie.Need-returns-4
 returns-4 c = sym (ends-may _ _ _ (record { shortest = omega arith; works = omega arith; goes = c .before .if3 .left; most = omega arith }))
 
-sub-result : tie.Need-sub-result
-sub-result c = search needs
-
 returns-5 : tie.Need-returns-5
 returns-5 c = ends-by-most _ _ _ (omega arith) (omega arith) (c .before .before .if3 .left) (omega arith)
 
 pub may-end-spec : {M : Type 1} → statement M
-may-end-spec =
-    tie.close (tie.spec returns add-if2 returns-2 returns-3 returns-4 sub-result returns-5)
+may-end-spec = tie.close (tie.spec returns (λ c. search needs) returns-2 returns-3 returns-4 (λ c. search needs) returns-5)

@@ -1,7 +1,6 @@
 use mathlib.Core.Path.{sym, _∙_}
 use borrow.Author.Tests.{not-true, not-false}
-use Rattle.units.proofs.Choices.{not-left, not-right}
-use Rattle.plan.proofs.Refusing.{and-rest}
+use Rattle.units.proofs.Choices.{not-left, not-right, and-rest}
 use Rattle.plan_text.proofs.lines.is_end.Statement.{statement}
 use Rattle.plan_text.proofs.lines.is_end.Tie as tie
 

@@ -1,7 +1,6 @@
 use mathlib.Core.Path.{sym}
 use borrow.Author.Tests.{not-true, not-false}
-use Rattle.units.proofs.Choices.{not-left}
-use Rattle.plan.proofs.Refusing.{and-rest}
+use Rattle.units.proofs.Choices.{not-left, and-rest}
 use Rattle.plan_text.proofs.lines.is_even.Statement.{statement}
 use Rattle.plan_text.proofs.lines.is_even.Tie as tie
 

@@ -1,7 +1,6 @@
 use mathlib.Core.Path.{sym}
 use borrow.Author.Tests.{eq-eqb, ne-eqb}
-use Rattle.units.proofs.Choices.{not-left}
-use Rattle.plan.proofs.Refusing.{and-rest}
+use Rattle.units.proofs.Choices.{not-left, and-rest}
 use Rattle.steps.specs.Entry.{oneForEachStep}
 use Rattle.propagation.proofs.entry.has_one_for_each_step.Statement.{statement}
 use Rattle.propagation.proofs.entry.has_one_for_each_step.Tie as tie

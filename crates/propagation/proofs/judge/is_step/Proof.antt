@@ -2,7 +2,7 @@ use mathlib.Core.Path.{sym, _∙_}
 use borrow.Author.Tests.{lt-ltb, le-ltb, eq-eqb, ne-eqb}
 use Rattle.units.specs.Limits.{isHour}
 use Rattle.units.proofs.Choices.{not-left}
-use Rattle.plan.proofs.Refusing.{and-rest}
+use Rattle.units.proofs.Choices.{and-rest}
 use Rattle.propagation.proofs.Judging.{step-C, step-O, step-L, step-U, no-step}
 use borrow.Author.Needs.{needs}
 use Rattle.propagation.proofs.judge.is_step.Statement.{statement}

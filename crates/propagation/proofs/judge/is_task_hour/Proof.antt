@@ -1,8 +1,7 @@
 use mathlib.Core.Path.{sym}
 use borrow.Author.Tests.{lt-ltb, le-ltb}
 use Rattle.units.specs.Limits.{isHour}
-use Rattle.units.proofs.Choices.{not-left}
-use Rattle.plan.proofs.Refusing.{and-rest}
+use Rattle.units.proofs.Choices.{not-left, and-rest}
 use Rattle.propagation.proofs.judge.is_task_hour.Statement.{statement}
 use Rattle.propagation.proofs.judge.is_task_hour.Tie as tie
 

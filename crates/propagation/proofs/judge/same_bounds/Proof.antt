@@ -1,7 +1,6 @@
 use mathlib.Core.Path.{sym, _∙_}
 use borrow.Author.Tests.{eq-eqb, ne-eqb}
-use Rattle.units.proofs.Choices.{not-left, not-right}
-use Rattle.plan.proofs.Refusing.{and-rest}
+use Rattle.units.proofs.Choices.{not-left, not-right, and-rest}
 use Rattle.steps.specs.Steps.{sameBounds}
 use Rattle.propagation.proofs.judge.same_bounds.Statement.{statement}
 use Rattle.propagation.proofs.judge.same_bounds.Tie as tie

@@ -1,6 +1,6 @@
 use native.Mathlib.Omega.{arith}
 use borrow.Author.Needs.{needs}
-use Rattle.plan.proofs.Cells.{length-with}
+use Rattle.plan.proofs.Boxes.{length-with}
 use Rattle.propagation.proofs.kept.move_bounds.Statement.{statement}
 use Rattle.propagation.proofs.kept.move_bounds.Tie as tie
 

@@ -1,6 +1,6 @@
 use mathlib.Core.Path.{ap}
 use Rattle.propagation.specs.inner.Kept.{foundStep}
-use Rattle.propagation.proofs.Searching.{outer-ends, outer-goes-on}
+use Rattle.units.proofs.Choices.{outer-ends, outer-goes-on}
 use borrow.Author.Needs.{needs}
 use Rattle.propagation.proofs.search.first_by_load.Statement.{statement}
 use Rattle.propagation.proofs.search.first_by_load.Tie as tie

@@ -5,7 +5,7 @@ use native.Mathlib.Omega.{arith}
 use borrow.Author.Needs.{needs}
 use Rattle.units.specs.Choice.{firstOf}
 use Rattle.units.proofs.Choices.{some-if, none-if, first-next, first-hit}
-use Rattle.plan.proofs.Refusing.{first-end}
+use Rattle.units.proofs.Choices.{first-end}
 use Rattle.propagation.specs.inner.Finding.{firstCalendar}
 use Rattle.propagation.proofs.Searching.{calendar-at}
 use Rattle.propagation.proofs.search.first_calendar.Statement.{statement}

@@ -6,7 +6,7 @@ use lib.ListN.{length}
 use borrow.Author.Needs.{needs}
 use Rattle.units.specs.Choice.{firstOf}
 use Rattle.units.proofs.Choices.{some-if, none-if, first-next}
-use Rattle.plan.proofs.Refusing.{first-end}
+use Rattle.units.proofs.Choices.{first-end}
 use Rattle.steps.specs.declared.Found.the-variants.{Nothing}
 use Rattle.propagation.specs.inner.Kept.{foundStep}
 use Rattle.propagation.specs.inner.Finding.{firstExcess}

@@ -8,8 +8,7 @@ use Rattle.propagation.specs.inner.Finding.{firstOverload}
 use borrow.Author.Needs.{needs}
 use borrow.Author.Tests.{lt-ltb, le-ltb}
 use Rattle.units.specs.Choice.{someIf, firstOf}
-use Rattle.units.proofs.Choices.{some-if, none-if, first-next, first-hit}
-use Rattle.plan.proofs.Refusing.{first-end}
+use Rattle.units.proofs.Choices.{some-if, none-if, first-next, first-hit, first-end}
 use Rattle.steps.specs.Steps.{step, letterO}
 use Rattle.propagation.proofs.search.first_overload.Statement.{statement}
 use Rattle.propagation.proofs.search.first_overload.Tie as tie

@@ -6,7 +6,7 @@ use mathlib.Core.List.{List, [], _∷_, _++_, List·Memᴰ, List·Memᴰ·head, 
 use Prim.Native.Nat.{ℕ, _≤_, min, max}
 use native.Mathlib.Decide.{decLe}
 use native.Mathlib.Omega.{arith}
-use Rattle.calendar.specs.Rule.{least, greatest}
+use Rattle.units.specs.Extremes.{least, greatest}
 
 -- some member of the list has the value
 pub record Attained {A : Type 0} (key : A → ℕ) (xs : List A) (k : ℕ) : Type 0 where

@@ -1,0 +1,125 @@
+-- Stretches of hours from one start on: their counts, their last open hour, and how long a task that starts there may last.
+use mathlib.Core.Bool.{Bool, true, false, not}
+use mathlib.Core.Path.{_≡_}
+use mathlib.Core.List.{List}
+use Prim.Native.Nat.{ℕ, zero, suc, _+_, _-_, _≤_, _<_, min}
+use lib.Dec.{leb, eqb}
+use lib.ListN.{length}
+use Rattle.units.specs.Choice.{_and_, if_then_else_}
+use Rattle.units.specs.Limits.{mostHours, duration}
+use Rattle.units.specs.Sums.{oneIf}
+use Rattle.units.specs.inner.First.{firstFrom}
+use Rattle.units.specs.declared.Bounds.{Bounds}
+use Rattle.plan.specs.Plan.{regular, closed, overtime}
+use Rattle.plan.specs.HourKinds.{isKind, isSymbol}
+use Rattle.calendar.specs.declared.Counts.{Counts}
+use Rattle.calendar.specs.declared.Stretch.{Stretch}
+use Rattle.calendar.specs.declared.Triple.{Triple}
+use Rattle.calendar.specs.Valid.{hoursOf}
+use Rattle.calendar.specs.Triples.{startOf, elapsedOf}
+
+-- ---- the hours and their counts
+
+-- the e hours from s on lie in the calendar, which is no longer than a plan may be
+pub record Inside (cal : List ℕ) (s e : ℕ) : Type 0 where
+  pub inside : s + e ≤ length cal
+  pub short : length cal ≤ mostHours
+
+-- the regular and the overtime hours of [s, s + n)
+abbrev pub countsOf : List ℕ → ℕ → ℕ → Counts
+countsOf cal s n = record { regular = hoursOf regular cal s n; overtime = hoursOf overtime cal s n }
+
+-- with hour t, and without it
+abbrev pub withHour : Counts → List ℕ → ℕ → Counts
+withHour n cal t = record { regular = n .regular + oneIf (isKind regular cal t); overtime = n .overtime + oneIf (isKind overtime cal t) }
+
+abbrev pub withoutHour : Counts → List ℕ → ℕ → Counts
+withoutHour n cal t = record { regular = n .regular - oneIf (isKind regular cal t); overtime = n .overtime - oneIf (isKind overtime cal t) }
+
+-- hour t of the calendar is among those counted
+pub record HasHour (n : Counts) (cal : List ℕ) (t : ℕ) : Type 0 where
+  pub inside : t < length cal
+  pub regulars : oneIf (isKind regular cal t) ≤ n .regular
+  pub overtimes : oneIf (isKind overtime cal t) ≤ n .overtime
+
+-- a triple lies in the calendar, and the counts are those of its hours
+pub record HasCounts (cal : List ℕ) (t : Triple) (n : Counts) : Type 0 where
+  pub some-hours : 1 ≤ elapsedOf t
+  pub inside : startOf t + elapsedOf t ≤ length cal
+  pub are : n ≡ countsOf cal (startOf t) (elapsedOf t)
+
+-- ---- stretches
+
+-- of the e hours from s on, those up to the last open one
+unfoldable pub openLength : List ℕ → ℕ → ℕ → ℕ
+openLength cal s zero = 0
+openLength cal s (suc e) = if isKind closed cal (s + e) then openLength cal s e else suc e
+
+-- the stretch of e hours from s on; one of no hours
+abbrev pub stretchOf : List ℕ → ℕ → ℕ → Stretch
+stretchOf cal s e = record { hours = duration e; last = duration (openLength cal s e); counts = countsOf cal s e }
+
+abbrev pub noHours : Stretch
+noHours = record { hours = duration 0; last = duration 0; counts = record { regular = 0; overtime = 0 } }
+
+-- a stretch from s on
+pub record IsStretch (cal : List ℕ) (s : ℕ) (a : Stretch) : Type 0 where
+  pub hours : Inside cal s (a .hours .0)
+  pub is : a ≡ stretchOf cal s (a .hours .0)
+
+-- one with an hour after it
+pub record HasRoom (cal : List ℕ) (s : ℕ) (a : Stretch) : Type 0 where
+  pub stretch : IsStretch cal s a
+  pub room : s + a .hours .0 < length cal
+
+-- ---- how long a task that starts at s may last
+
+-- A task with the work time p may end with a stretch: by the tests of validity and of the box that a longer stretch passes too, and since its
+-- last hour is open.
+unfoldable pub mayEnd : ℕ → Bounds → Stretch → Bool
+mayEnd p b a =
+    leb (b .shortest .0) (a .hours .0)
+    and leb p (a .counts .regular + a .counts .overtime)
+    and eqb (a .last .0) (a .hours .0)
+    and leb p (b .most .0 + a .counts .regular)
+
+-- A task that starts at s may last e hours: by the tests that fewer hours pass too. The first and the last hour are worked, besides the regular
+-- hours between them; for e = 1 they are one hour.
+unfoldable pub mayLast : List ℕ → ℕ → Bounds → ℕ → ℕ → Bool
+mayLast cal p b s e =
+    leb e (b .longest .0)
+    and leb (b .fewest .0 + hoursOf regular cal s e) p
+    and leb (hoursOf regular cal (s + 1) (e - 2) + min e 2) p
+
+-- Where a stretch from s on is lengthened no more: the shortest, since a task may end with it; the longest, since no task may last longer.
+unfoldable pub stopsAt : List ℕ → ℕ → Bounds → ℕ → Bool → ℕ → Bool
+stopsAt cal p b s true e = mayEnd p b (stretchOf cal s e)
+stopsAt cal p b s false e = not (mayLast cal p b s (e + 1))
+
+-- the first length from e on at which the test holds, or up to the calendar's end
+unfoldable pub lengthened : List ℕ → ℕ → (ℕ → Bool) → ℕ → ℕ
+lengthened cal s test e = firstFrom test e (length cal - (s + e))
+
+-- ---- the calendar rule
+
+-- each hour of a calendar is r, c or o
+abbrev pub AllSymbols : List ℕ → Type 0
+AllSymbols cal = (t : ℕ) → t < length cal → isSymbol cal t ≡ true
+
+-- a calendar and a box that pass the tests
+pub record RuleReady (cal : List ℕ) (b : Bounds) : Type 0 where
+  pub shortest : 1 ≤ b .shortest .0
+  pub latest : b .latest .0 < length cal
+  pub short : length cal ≤ mostHours
+  pub symbols : AllSymbols cal
+
+-- What is known of two stretches from s on: no shorter one than the first may be an end, and exactly up to the second's hours a task may last.
+pub record Reaches (cal : List ℕ) (p : ℕ) (b : Bounds) (s : ℕ) (shortest longest : Stretch) : Type 0 where
+  pub ready : RuleReady cal b
+  pub start : s < length cal
+  pub is-shortest : IsStretch cal s shortest
+  pub is-longest : IsStretch cal s longest
+  pub none-before : (e : ℕ) → e < shortest .hours .0 → mayEnd p b (stretchOf cal s e) ≡ false
+  pub at-the-end : mayEnd p b shortest ≡ false → length cal ≤ s + shortest .hours .0
+  pub lasts : (e : ℕ) → 1 ≤ e → e ≤ longest .hours .0 → mayLast cal p b s e ≡ true
+  pub none-after : (e : ℕ) → longest .hours .0 < e → s + e ≤ length cal → mayLast cal p b s e ≡ false

@@ -1,0 +1,16 @@
+-- The kinds of the hours of a calendar, by their symbols (01, "A plan"): `r` regular, `c` closed, `o` overtime.
+use mathlib.Core.Bool.{Bool, true}
+use mathlib.Core.List.{List}
+use Prim.Native.Nat.{ℕ}
+use lib.Dec.{eqb}
+use lib.ListN.{getD}
+use Rattle.units.specs.Choice.{if_then_else_}
+use Rattle.plan.specs.Plan.{regular, closed, overtime}
+
+-- hour t is of the kind
+unfoldable pub isKind : ℕ → List ℕ → ℕ → Bool
+isKind kind cal t = eqb (getD cal t 0) kind
+
+-- its symbol is r, c or o
+unfoldable pub isSymbol : List ℕ → ℕ → Bool
+isSymbol cal t = if isKind regular cal t then true else (if isKind closed cal t then true else isKind overtime cal t)
