@@ -12,7 +12,7 @@ use Rattle.plan.specs.Plan.{Plan}
 use Rattle.plan.specs.Refusals.{Fault, fault}
 use Rattle.steps.specs.declared.Step.{Step}
 use Rattle.steps.specs.Steps.{judge, Judgement, unknown, notAdmitted, impossible, moved, onJudgement}
-use Rattle.steps.specs.Log.{LogEnd, logEnd, replayFrom}
+use Rattle.steps.specs.Log.{LogEnd, logEnd, replayBy, replayFrom}
 use Rattle.steps.proofs.Judgements.{judgement-all}
 
 module _ (P : Plan) where
@@ -31,7 +31,7 @@ module _ (P : Plan) where
 
   pub replay-append : (k : ℕ) (said : Bool) (boxes : List ℕ) (xs ys : List Step)
       → replayFrom P k said boxes (xs ++ ys) ≡ goneOn (replayFrom P k said boxes xs) ys
-  unfolding replayFrom goneOn onOption
+  unfolding replayBy goneOn onOption
   replay-append k said boxes [] ys = refl
   replay-append k true boxes (x ∷ xs) ys = refl
   replay-append k false boxes (x ∷ xs) ys =
@@ -69,7 +69,7 @@ module _ (P : Plan) where
   one-before k n e r = record { most = omega (arith, r .most); all = λ q. omega (arith, r .all q); at-end = r .at-end }
 
   pub replay-reaches : (k : ℕ) (said : Bool) (boxes : List ℕ) (xs : List Step) → Reaches k (length xs) (replayFrom P k said boxes xs)
-  unfolding replayFrom
+  unfolding replayBy
   replay-reaches k said boxes [] = record { most = omega arith; all = λ e. omega arith; at-end = λ f e. none≢some e }
   replay-reaches k true boxes (x ∷ xs) = refused-there k _ true boxes 13 (omega arith) (omega arith)
   replay-reaches k false boxes (x ∷ xs) =

@@ -20,12 +20,12 @@ use Rattle.steps.specs.declared.LogChecked.{LogChecked}
 use Rattle.steps.specs.declared.LogChecked.the-variants as checked
 use Rattle.steps.specs.Log.{LogEnd, logEnd, replayFrom, replay}
 use Rattle.steps.specs.Entry.{stepsFrom, oneForEachStep, entryFault, Accepted, checkAnswer, logAnswer}
-use Rattle.steps.specs.Entry as entry
+use Rattle.steps.specs.inner.From.{checkFrom}
 use Rattle.steps.proofs.Contracts.{refused≢answered}
 use Rattle.log.specs.declared.part.Part.{Part}
 use Rattle.log.specs.declared.part.PartChecked.{PartChecked}
 use Rattle.log.specs.Entry.{checkSteps}
-use Rattle.log.specs.Parts.{partSize, partSteps, Sized, checkedPart, checkFrom, CheckedAs}
+use Rattle.log.specs.inner.Parts.{partSize, partSteps, Sized, checkedPart, checkStepsFrom, CheckedAs}
 use Rattle.log.proofs.Copying.{part-length, steps-lent}
 use Rattle.log.proofs.Passing.{replay-passes}
 use Rattle.log.proofs.Appending.{replay-append, goes-on, ends-there, replay-reaches}
@@ -86,12 +86,12 @@ lent-fault P boxes ks ts hs n l m o =
 
 module _ (P : Plan) (boxes : List ℕ) (k : ℕ) (said : Bool) (steps : List Step) where
   -- a plan that passes: the end is the log's
-  pub from-passed : inputFault P boxes ≡ none → checkFrom P k said boxes steps ≡ replayFrom P k said boxes steps
-  unfolding checkFrom onOption
+  pub from-passed : inputFault P boxes ≡ none → checkStepsFrom P k said boxes steps ≡ replayFrom P k said boxes steps
+  unfolding checkStepsFrom onOption
   from-passed e = rw e
 
-  from-refused : (f : Fault) → inputFault P boxes ≡ some f → checkFrom P k said boxes steps ≡ logEnd 0 false boxes (some f)
-  unfolding checkFrom onOption
+  from-refused : (f : Fault) → inputFault P boxes ≡ some f → checkStepsFrom P k said boxes steps ≡ logEnd 0 false boxes (some f)
+  unfolding checkStepsFrom onOption
   from-refused f e = rw e
 
 -- what the loop needs of a part
@@ -123,10 +123,10 @@ lent-length {n} l a b = sym (length-take-le n l (omega arith))
 -- by the core, lent the first cells of the part's arrays
 module _ (P : Plan) (boxes : List ℕ) (from : ℕ) (said : Bool) (part : Part) (few : part .count ≤ partSize) (size : Sized part) where
   abbrev core : LogEnd
-  core = entry.checkFrom P boxes (take (part .count) (part .kinds)) (take (part .count) (part .tasks)) (take (part .count) (part .hours)) from said
+  core = checkFrom P boxes (take (part .count) (part .kinds)) (take (part .count) (part .tasks)) (take (part .count) (part .hours)) from said
 
-  core-is : core ≡ checkFrom P from said boxes (partSteps part)
-  unfolding entry.checkFrom checkFrom partSteps
+  core-is : core ≡ checkStepsFrom P from said boxes (partSteps part)
+  unfolding checkFrom checkStepsFrom partSteps
   core-is =
       let l : part .count ≤ length (part .kinds) = omega (arith, size .all-kinds) in
       let m : part .count ≤ length (part .tasks) = omega (arith, size .all-tasks) in
@@ -134,7 +134,7 @@ module _ (P : Plan) (boxes : List ℕ) (from : ℕ) (said : Bool) (part : Part) 
       rw (lent-fault P boxes (part .kinds) (part .tasks) (part .hours) (part .count) l m o, steps-lent (part .kinds) (part .tasks) (part .hours) (part .count) l)
 
   pub core-checked : (a : LogChecked) (left : List ℕ) → (logAnswer a ≡ checkAnswer core) × (left ≡ core .boxes)
-      → (r : PartChecked) → r ≡ checkedPart a (part .count) → CheckedAs (checkFrom P from said boxes (partSteps part)) (part .count) r left
+      → (r : PartChecked) → r ≡ checkedPart a (part .count) → CheckedAs (checkStepsFrom P from said boxes (partSteps part)) (part .count) r left
   core-checked a left (is, leaves) r q =
       rw q (checked-as _ (part .count) a left (is ∙ ap checkAnswer core-is) (leaves ∙ ap (λ (x : LogEnd). x .boxes) core-is))
 
@@ -144,14 +144,14 @@ module _ (P : Plan) (boxes : List ℕ) (from : ℕ) (said : Bool) (part : Part) 
 pub record Rest (P : Plan) (k n : ℕ) (ys : List Step) (whole end : LogEnd) : Type 0 where
   pub passes : inputFault P (end .boxes) ≡ none
   pub all : end .steps ≡ k + n
-  pub rest : checkFrom P (end .steps) (end .impossible) (end .boxes) ys ≡ whole
+  pub rest : checkStepsFrom P (end .steps) (end .impossible) (end .boxes) ys ≡ whole
 
 module _ (P : Plan) (k : ℕ) (said : Bool) (boxes : List ℕ) (xs ys : List Step) where
   abbrev end : LogEnd
-  end = checkFrom P k said boxes xs
+  end = checkStepsFrom P k said boxes xs
 
   abbrev whole : LogEnd
-  whole = checkFrom P k said boxes (xs ++ ys)
+  whole = checkStepsFrom P k said boxes (xs ++ ys)
 
   pub part-accepted : end .refusal ≡ none → Rest P k (length xs) ys whole end
   part-accepted a = go (inputFault P boxes) refl
@@ -185,14 +185,14 @@ module _ (P : Plan) (k : ℕ) (said : Bool) (boxes : List ℕ) (xs ys : List Ste
 -- What holds at each turn of the loop over the parts: the end from here is the log's end.
 pub record Going (P : Plan) (opening : List ℕ) (log : List Step) (from : ℕ) (said : Bool) (boxes : List ℕ) : Type 0 where
   pub inside : from ≤ length log
-  pub ends : checkFrom P from said boxes (drop from log) ≡ checkSteps P opening log
+  pub ends : checkStepsFrom P from said boxes (drop from log) ≡ checkSteps P opening log
   pub same : length boxes ≡ length opening
 
 pub going-opens : (P : Plan) (opening : List ℕ) (log : List Step) → Going P opening log 0 false opening
 going-opens P opening log =
     record {
       inside = omega arith;
-      ends = unfold checkSteps checkFrom replay in refl;
+      ends = unfold checkSteps checkStepsFrom replay in refl;
       same = refl;
     }
 
@@ -209,7 +209,7 @@ module _ (P : Plan) (opening : List ℕ) (log : List Step) (from : ℕ) (said : 
   parts = ap (λ (l : List Step). l ++ drop partSize (drop from log)) is ∙ take-append-drop partSize (drop from log)
 
   abbrev part-end : LogEnd
-  part-end = checkFrom P from said boxes (partSteps steps)
+  part-end = checkStepsFrom P from said boxes (partSteps steps)
 
   module _ (r : PartChecked) (left : List ℕ) (c : CheckedAs part-end (steps .count) r left) where
     pub part-goes-on : length left ≡ length boxes → r .more ≡ true → Going P opening log (r .steps) (r .impossible) left × (from < r .steps)
@@ -220,10 +220,10 @@ module _ (P : Plan) (opening : List ℕ) (log : List Step) (from : ℕ) (said : 
           record {
             inside = omega (arith, at, full, part-inside .1);
             ends =
-                ap (λ (n : ℕ). checkFrom P (r .steps) (r .impossible) left (drop n log)) at
-                ∙ ap (λ (l : List Step). checkFrom P (r .steps) (r .impossible) left l) (sym (drop-drop partSize from log))
+                ap (λ (n : ℕ). checkStepsFrom P (r .steps) (r .impossible) left (drop n log)) at
+                ∙ ap (λ (l : List Step). checkStepsFrom P (r .steps) (r .impossible) left l) (sym (drop-drop partSize from log))
                 ∙ rw (number, said-is, c .leaves) (rest .rest)
-                ∙ ap (checkFrom P from said boxes) parts
+                ∙ ap (checkStepsFrom P from said boxes) parts
                 ∙ g .ends;
             same = kept ∙ g .same;
           },
@@ -236,10 +236,10 @@ module _ (P : Plan) (opening : List ℕ) (log : List Step) (from : ℕ) (said : 
       where
         go : (o : Option Fault) → part-end .refusal ≡ o → part-end ≡ checkSteps P opening log
         go (some f) e =
-            part-refused P from said boxes (partSteps steps) (drop partSize (drop from log)) f e ∙ ap (checkFrom P from said boxes) parts ∙ g .ends
+            part-refused P from said boxes (partSteps steps) (drop partSize (drop from log)) f e ∙ ap (checkStepsFrom P from said boxes) parts ∙ g .ends
         go none e =
             let short : length (drop from log) ≤ partSize = rw (length-drop from log) (omega (arith, c .ends more e, count-is)) in
-            ap (checkFrom P from said boxes) (is ∙ take-all partSize (drop from log) short) ∙ g .ends
+            ap (checkStepsFrom P from said boxes) (is ∙ take-all partSize (drop from log) short) ∙ g .ends
 
     pub part-ends : r .more ≡ false → (logAnswer (r .answer) ≡ checkAnswer (checkSteps P opening log)) × (left ≡ checkSteps P opening log .boxes)
     part-ends more =

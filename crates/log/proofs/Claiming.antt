@@ -11,10 +11,10 @@ use Rattle.plan.specs.Refusals.{Answer}
 use Rattle.plan.specs.Faults.{inputFault}
 use Rattle.steps.specs.declared.Step.{Step}
 use Rattle.steps.specs.Filter.{run}
-use Rattle.steps.specs.Entry.{Accepted, checkAnswer, FilterAnswer}
+use Rattle.steps.specs.Entry.{Accepted, checkAnswer}
 use Rattle.steps.specs.Claim.{CheckedHolds, FilterHolds}
 use Rattle.steps.proofs.Contracts.{first-fault, first-sized, tested-holds, no-run-holds, run-holds}
-use Rattle.log.specs.Entry.{checkSteps, StepsEnd, LeavesSteps, loggedSteps, filterSteps}
+use Rattle.log.specs.Entry.{checkSteps, StepsEnd, stepsEnd, loggedSteps, filterSteps}
 
 module _ (P : Plan) (boxes : List ℕ) (log : List Step) where
   check-steps-hold : CheckedHolds P boxes (inputFault P boxes) log (checkAnswer (checkSteps P boxes log)) (checkSteps P boxes log .boxes)
@@ -37,6 +37,5 @@ module _ (P : Plan) (boxes : List ℕ) (log : List Step) where
       (λ e. run-holds P boxes (length log) _ (first-sized P boxes e) (take-append-seam (run P boxes (length log) .log) _))
       (λ f e. no-run-holds P boxes (length log) _ f)
 
-  pub leaves-steps : (answer : FilterAnswer) (left : List ℕ) (new : List Step) → LeavesSteps (filterSteps P boxes log) answer left new
-      → LeavesSteps (filterSteps P boxes log) answer left new × FilterHolds P boxes (length log) answer left (λ n. take n new)
-  leaves-steps answer left new l = (l, rw (l .answers, l .leaves-boxes, l .leaves-log) filter-steps-hold)
+  pub leaves-steps : (e : StepsEnd) → e ≡ filterSteps P boxes log → (e ≡ filterSteps P boxes log) × Holds e
+  leaves-steps e is = (is, rw is filter-steps-hold)

@@ -16,7 +16,7 @@ use Rattle.steps.specs.declared.Step.{Step}
 use Rattle.steps.specs.Steps.{step}
 use Rattle.steps.specs.Entry.{stepAt, stepsFrom, stepsIn}
 use Rattle.log.specs.declared.part.Part.{Part}
-use Rattle.log.specs.Parts.{noStep, partSize, partSteps, Sized}
+use Rattle.log.specs.inner.Parts.{noStep, partSize, partSteps, Sized}
 
 -- ---- the steps in three lists
 

@@ -19,15 +19,15 @@ use Rattle.plan.specs.Refusals.{Fault}
 use Rattle.plan.specs.Faults.{inputFault}
 use Rattle.steps.specs.declared.Step.{Step}
 use Rattle.steps.specs.declared.Filtered.{Filtered}
-use Rattle.steps.specs.declared.Filtered.the-variants as filtered
 use Rattle.steps.specs.Log.{LogEnd, replay}
-use Rattle.steps.specs.Filter.{Ending, settled, impossible, noRoom, Run, count, ended, after, run}
-use Rattle.steps.specs.Entry.{stepsFrom, refusedBy, endingAnswer, FilterEnd, Leaves, logged, filterPlan, filterAnswer}
+use Rattle.steps.specs.Filter.{next, Ending, settled, impossible, noRoom, Run, count, ended, after, run}
+use Rattle.steps.specs.Entry.{stepsFrom, FilterAnswer, refusedBy, endingAnswer, FilterEnd, filterEnd, filterAnswer}
+use Rattle.steps.specs.inner.From.{loggedFrom, filterFrom}
 use Rattle.steps.proofs.Runs.{run-settled, run-stops, run-moves, run-all, run-replays, run-fits, resumed, run-resumes}
-use Rattle.steps.proofs.Contracts.{steps-written, refused≢ending, same-ending}
+use Rattle.steps.proofs.Contracts.{steps-written}
 use Rattle.log.specs.declared.part.PartFiltered.{PartFiltered}
-use Rattle.log.specs.Entry.{LeavesSteps, loggedSteps, filterSteps}
-use Rattle.log.specs.Parts.{partSize, partSteps, counted, filteredPart, partRun, RanAs, RefusedAs, FilteredAs}
+use Rattle.log.specs.Entry.{stepsEnd, loggedSteps, filterSteps}
+use Rattle.log.specs.inner.Parts.{partSize, partSteps, countOf, goesOn, filteredPart, partRun, RanAs, RefusedAs, FilteredAs}
 use Rattle.log.proofs.Passing.{replay-passes}
 use Rattle.log.proofs.Checking.{lent-fault}
 
@@ -44,11 +44,11 @@ module _ (P : Plan) where
   pub run-more : (a b : ℕ) (boxes : List ℕ) → (run P boxes a .ending ≡ noRoom → ⊥) → run P boxes (a + b) ≡ run P boxes a
   unfolding after
   run-more a b boxes =
-      run-all P (λ boxes a r. (r .ending ≡ noRoom → ⊥) → run P boxes (a + b) ≡ r)
-      (λ boxes a e h. run-settled P boxes (a + b) e)
+      run-all (next P) (λ boxes a r. (r .ending ≡ noRoom → ⊥) → run P boxes (a + b) ≡ r)
+      (λ boxes a e h. run-settled (next P) boxes (a + b) e)
       (λ boxes h. absurd (h refl))
-      (λ boxes a x e h. rw (suc-add a b) (run-stops P boxes (a + b) x e))
-      (λ boxes left a x r e h q. rw (suc-add a b, run-moves P boxes (a + b) x left e) (ap (after x) (h q)))
+      (λ boxes a x e h. rw (suc-add a b) (run-stops (next P) boxes (a + b) x e))
+      (λ boxes left a x r e h q. rw (suc-add a b, run-moves (next P) boxes (a + b) x left e) (ap (after x) (h q)))
       a
       boxes
 
@@ -56,7 +56,7 @@ module _ (P : Plan) where
   pub run-filled : (a : ℕ) (boxes : List ℕ) → run P boxes a .ending ≡ noRoom → count (run P boxes a) ≡ a
   unfolding after
   run-filled a boxes =
-      run-all P (λ boxes a r. r .ending ≡ noRoom → count r ≡ a)
+      run-all (next P) (λ boxes a r. r .ending ≡ noRoom → count r ≡ a)
       (λ boxes a e h. settled≢noRoom h)
       (λ boxes h. refl)
       (λ boxes a x e h. impossible≢noRoom h)
@@ -81,13 +81,31 @@ module _ (P : Plan) where
   run-passes a boxes e =
       ap (λ (l : LogEnd). inputFault P (l .boxes)) (sym (run-replays P boxes a)) ∙ replay-passes P 0 false boxes (run P boxes a .log) e
 
--- ---- what each case of the core's answer makes of a part
+-- ---- what the core's answer makes of a part
 
-pub filtered-refused : (a : Filtered) (taken room : ℕ) (ks ts hs : List ℕ) {r : _} → a ≡ filtered.Refused r
+count-ending : (e : Ending) (taken n : ℕ) → countOf taken (endingAnswer e n) ≡ n
+count-ending settled taken n = unfold endingAnswer in refl
+count-ending impossible taken n = unfold endingAnswer in refl
+count-ending noRoom taken n = unfold endingAnswer in refl
+
+goes-ending : (e : Ending) (room n : ℕ) → goesOn room (endingAnswer e n) ≡ true → (e ≡ noRoom) × (n < room)
+unfolding endingAnswer
+goes-ending settled room n q = absurd (false≢true q)
+goes-ending impossible room n q = absurd (false≢true q)
+goes-ending noRoom room n q = (refl, ltb-true n room q)
+
+ends-ending : (e : Ending) (room n : ℕ) → goesOn room (endingAnswer e n) ≡ false → e ≡ noRoom → room ≤ n
+unfolding endingAnswer
+ends-ending settled room n q w = settled≢noRoom w
+ends-ending impossible room n q w = impossible≢noRoom w
+ends-ending noRoom room n q w = ltb-false n room q
+
+pub filtered-made : (a : Filtered) (taken room : ℕ) (ks ts hs : List ℕ) (n : ℕ) (more : Bool) → n ≡ countOf taken (filterAnswer a)
+    → more ≡ goesOn room (filterAnswer a)
     → _≡_ {A = PartFiltered}
-    (record { steps = record { kinds = ks; tasks = ts; hours = hs; count = 0 }; answer = a; more = false; taken = taken })
+    (record { steps = record { kinds = ks; tasks = ts; hours = hs; count = n - taken }; answer = a; more = more; taken = n })
     (filteredPart a taken room ks ts hs)
-filtered-refused a taken room ks ts hs e = rw e
+filtered-made a taken room ks ts hs n more p q = rw (p, q)
 
 -- after n steps that ended so
 record RanTo (e : Ending) (taken room : ℕ) (ks ts hs : List ℕ) (f : PartFiltered) (n : ℕ) : Type 0 where
@@ -97,36 +115,27 @@ record RanTo (e : Ending) (taken room : ℕ) (ks ts hs : List ℕ) (f : PartFilt
   goes-on : f .more ≡ true → (e ≡ noRoom) × (f .taken ≡ taken + n) × (taken + n < room)
   ends : f .more ≡ false → e ≡ noRoom → room ≤ taken + n
 
-ran-to : (a : Filtered) (e : Ending) (n taken room : ℕ) (ks ts hs : List ℕ) → filterAnswer a ≡ endingAnswer e n
+ran-to : (a : Filtered) (e : Ending) (n taken room : ℕ) (ks ts hs : List ℕ) → filterAnswer a ≡ endingAnswer e (taken + n)
     → RanTo e taken room ks ts hs (filteredPart a taken room ks ts hs) n
-unfolding endingAnswer partSteps
-ran-to (filtered.Refused r) e n taken room ks ts hs q = refused≢ending _ e n q
-ran-to (filtered.NoRoom m) e n taken room ks ts hs q =
-    let (s, z) = same-ending noRoom e m n q in
-    rw (← s, ← z)
+unfolding partSteps
+ran-to a e n taken room ks ts hs q =
+    let total : countOf taken (filterAnswer a) ≡ taken + n = ap (countOf taken) q ∙ count-ending e taken (taken + n) in
+    let number : countOf taken (filterAnswer a) - taken ≡ n = omega (arith, total) in
+    let more = ap (goesOn room) q in
     record {
-      answers = refl;
-      steps = refl;
-      number = refl;
-      goes-on = λ t. (refl, refl, ltb-true (taken + m) room t);
-      ends = λ t p. ltb-false (taken + m) room t;
+      answers = q;
+      steps = ap (stepsFrom ks ts hs 0) number;
+      number = number;
+      goes-on = λ t. let (w, l) = goes-ending e room (taken + n) (sym more ∙ t) in (w, total, l);
+      ends = λ t w. ends-ending e room (taken + n) (sym more ∙ t) w;
     }
-ran-to (filtered.Settled m) e n taken room ks ts hs q =
-    let (s, z) = same-ending settled e m n q in
-    rw (← s, ← z)
-    record { answers = refl; steps = refl; number = refl; goes-on = λ t. absurd (false≢true t); ends = λ t p. settled≢noRoom p }
-ran-to (filtered.Impossible m) e n taken room ks ts hs q =
-    let (s, z) = same-ending impossible e m n q in
-    rw (← s, ← z)
-    record { answers = refl; steps = refl; number = refl; goes-on = λ t. absurd (false≢true t); ends = λ t p. impossible≢noRoom p }
 
 refused-as : (a : Filtered) (f : Fault) (boxes left : List ℕ) (taken room : ℕ) (ks ts hs : List ℕ) → filterAnswer a ≡ refusedBy f → left ≡ boxes
     → RefusedAs f boxes (filteredPart a taken room ks ts hs) left
-unfolding partSteps stepsFrom endingAnswer
-refused-as (filtered.Refused r) f boxes left taken room ks ts hs q l = record { answers = q; leaves = l; steps = refl; number = refl; ends = refl }
-refused-as (filtered.NoRoom m) f boxes left taken room ks ts hs q l = refused≢ending f noRoom m (sym q)
-refused-as (filtered.Settled m) f boxes left taken room ks ts hs q l = refused≢ending f settled m (sym q)
-refused-as (filtered.Impossible m) f boxes left taken room ks ts hs q l = refused≢ending f impossible m (sym q)
+unfolding partSteps stepsFrom
+refused-as a f boxes left taken room ks ts hs q l =
+    let none-taken : countOf taken (filterAnswer a) - taken ≡ 0 = omega (arith, ap (countOf taken) q) in
+    record { answers = q; leaves = l; steps = ap (stepsFrom ks ts hs 0) none-taken; number = none-taken; ends = ap (goesOn room) q }
 
 -- the steps in the first cells of three lists that a log was written to
 steps-back : (log : List Step) (ks ts hs xs ys zs rest : List ℕ) → ks ≡ map (λ x. x .kind) log ++ xs → ts ≡ map (λ x. x .task) log ++ ys
@@ -152,61 +161,59 @@ module _ (cells : ℕ) (l : cells ≤ partSize) where
   unfolding blank
   inside = l
 
-  -- the core, lent the first cells of three arrays
-  module _ (P : Plan) (boxes : List ℕ) where
+  -- the core, lent the first cells of three arrays, after so many steps
+  module _ (P : Plan) (boxes : List ℕ) (taken : ℕ) where
     abbrev core : FilterEnd
-    core = filterPlan P boxes (take cells blank) (take cells blank) (take cells blank)
+    core = filterFrom P boxes (take cells blank) (take cells blank) (take cells blank) taken
 
     abbrev ran : Run
     ran = run P boxes cells
 
-    core-refused : (f : Fault) → inputFault P boxes ≡ some f → (core .answer ≡ refusedBy f) × (core .boxes ≡ boxes)
-    unfolding filterPlan onOption
-    core-refused f e = rw (lent-fault P boxes blank blank blank cells inside inside inside, e) (refl, refl)
+    core-refused : (f : Fault) → inputFault P boxes ≡ some f → core ≡ filterEnd (refusedBy f) boxes (take cells blank) (take cells blank) (take cells blank)
+    unfolding filterFrom onOption
+    core-refused f e = rw (lent-fault P boxes blank blank blank cells inside inside inside, e)
 
-    core-runs : inputFault P boxes ≡ none → core ≡ logged ran (take cells blank) (take cells blank) (take cells blank)
-    unfolding filterPlan onOption
+    core-runs : inputFault P boxes ≡ none → core ≡ loggedFrom taken ran (take cells blank) (take cells blank) (take cells blank)
+    unfolding filterFrom onOption
     core-runs e =
         rw (lent-fault P boxes blank blank blank cells inside inside inside, e)
-        (ap (λ (n : ℕ). logged (run P boxes n) (take cells blank) (take cells blank) (take cells blank)) (sym lent-length))
+        (ap (λ (n : ℕ). loggedFrom taken (run P boxes n) (take cells blank) (take cells blank) (take cells blank)) (sym lent-length))
 
-    module _ (a : Filtered) (left ks ts hs : List ℕ) (is : Leaves core (filterAnswer a) left ks ts hs) where
-      pub counted-inside : counted (filterAnswer a) ≤ cells
-      counted-inside = go (inputFault P boxes) refl
+    module _ (a : Filtered) (left ks ts hs : List ℕ) (is : filterEnd (filterAnswer a) left ks ts hs ≡ core) where
+      pub count-inside : taken ≤ countOf taken (filterAnswer a)
+      unfolding loggedFrom
+      count-inside = go (inputFault P boxes) refl
         where
-          at-ending : (e : Ending) (n : ℕ) → counted (endingAnswer e n) ≡ n
-          at-ending settled n = unfold endingAnswer in refl
-          at-ending impossible n = unfold endingAnswer in refl
-          at-ending noRoom n = unfold endingAnswer in refl
-
-          go : (o : Option Fault) → inputFault P boxes ≡ o → counted (filterAnswer a) ≤ cells
-          go (some f) e = rw (is .answers ∙ core-refused f e .0) (omega arith)
+          go : (o : Option Fault) → inputFault P boxes ≡ o → taken ≤ countOf taken (filterAnswer a)
+          go (some f) e = omega (arith, ap (λ (x : FilterEnd). countOf taken (x .answer)) (is ∙ core-refused f e))
           go none e =
-              let q : filterAnswer a ≡ endingAnswer (ran .ending) (count ran) = is .answers ∙ ap (λ (x : FilterEnd). x .answer) (core-runs e) ∙ unfold logged in refl in
-              omega (arith, ap counted q, at-ending (ran .ending) (count ran), run-fits P boxes cells)
+              omega
+              (arith, ap (λ (x : FilterEnd). countOf taken (x .answer)) (is ∙ core-runs e), count-ending (ran .ending) taken (taken + count ran))
 
-      module _ (taken room : ℕ) (few : cells ≡ min partSize (room - taken)) (f : PartFiltered)
+      module _ (room : ℕ) (few : cells ≡ min partSize (room - taken)) (f : PartFiltered)
           (made : f ≡ filteredPart a taken room (ks ++ drop cells blank) (ts ++ drop cells blank) (hs ++ drop cells blank)) where
         made-refused : (g : Fault) → inputFault P boxes ≡ some g → RefusedAs g boxes f left
         made-refused g e =
             rw made
-            (refused-as a g boxes left taken room _ _ _ (is .answers ∙ core-refused g e .0) (is .leaves-boxes ∙ core-refused g e .1))
+            (refused-as a g boxes left taken room _ _ _ (ap (λ (x : FilterEnd). x .answer) (is ∙ core-refused g e))
+            (ap (λ (x : FilterEnd). x .boxes) (is ∙ core-refused g e)))
 
         made-ran : inputFault P boxes ≡ none → RanAs ran taken room f left
-        unfolding logged written
+        unfolding loggedFrom written
         made-ran e =
             let past : List ℕ → List ℕ = λ l. drop (length l) (take cells blank) in
-            let c = core-runs e in
+            let c = is ∙ core-runs e in
             let r = ran-to a (ran .ending) (count ran) taken room (ks ++ drop cells blank) (ts ++ drop cells blank) (hs ++ drop cells blank)
-            (is .answers ∙ ap (λ (x : FilterEnd). x .answer) c) in
+            (ap (λ (x : FilterEnd). x .answer) c) in
             rw made
             record {
               answers = r .answers;
-              leaves = is .leaves-boxes ∙ ap (λ (x : FilterEnd). x .boxes) c;
+              leaves = ap (λ (x : FilterEnd). x .boxes) c;
               steps = r .steps
-                  ∙ steps-back (ran .log) ks ts hs (past (map (λ x. x .kind) (ran .log))) (past (map (λ x. x .task) (ran .log))) (past (map (λ x. x .hour) (ran .log)))
+                  ∙ steps-back (ran .log) ks ts hs (past (map (λ x. x .kind) (ran .log))) (past (map (λ x. x .task) (ran .log)))
+                  (past (map (λ x. x .hour) (ran .log)))
                   (drop cells blank)
-                  (is .leaves-kinds ∙ ap (λ (x : FilterEnd). x .kinds) c) (is .leaves-tasks ∙ ap (λ (x : FilterEnd). x .tasks) c) (is .leaves-hours ∙ ap (λ (x : FilterEnd). x .hours) c);
+                  (ap (λ (x : FilterEnd). x .kinds) c) (ap (λ (x : FilterEnd). x .tasks) c) (ap (λ (x : FilterEnd). x .hours) c);
               number = r .number;
               goes-on = r .goes-on;
               ends = r .ends;
@@ -221,6 +228,10 @@ module _ (cells : ℕ) (l : cells ≤ partSize) where
             }
 
 -- ---- the loop over the parts
+
+-- ends that agree in each part
+same-end : {a a′ : FilterAnswer} {b b′ : List ℕ} {l l′ : List Step} → a ≡ a′ → b ≡ b′ → l ≡ l′ → stepsEnd a b l ≡ stepsEnd a′ b′ l′
+same-end p q r = rw (p, q, r)
 
 -- What holds at each turn: the steps taken stand in the log's first cells, and the run goes on from here.
 pub record Running (P : Plan) (opening : List ℕ) (cells : List Step) (taken : ℕ) (boxes : List ℕ) (log : List Step) : Type 0 where
@@ -265,7 +276,7 @@ module _ (P : Plan) (opening : List ℕ) (cells : List Step) (taken : ℕ) (boxe
         go (some g) e =
             (omega (arith, same-log, t .inside, c .refuses g e .number), omega (arith, c .refuses g e .number))
         go none e =
-            let fits = run-fits P boxes (min partSize (room - taken)) in
+            let fits = run-fits (next P) boxes (min partSize (room - taken)) in
             let number = c .runs e .number in
             (omega (arith, same-log, t .inside, fits, number), omega (arith, fits, number))
 
@@ -310,7 +321,7 @@ module _ (P : Plan) (opening : List ℕ) (cells : List Step) (taken : ℕ) (boxe
                     ap (inputFault P) (ran .leaves) ∙ run-passes P m boxes e,
                     t .goes-on q .1
                         ∙ ap (λ (n : ℕ). resumed (t .steps) (run P boxes n)) rest
-                        ∙ ap (resumed (t .steps)) (run-resumes P boxes m (room - f .taken) full)
+                        ∙ ap (resumed (t .steps)) (run-resumes (next P) boxes m (room - f .taken) full)
                         ∙ ap (λ (l : List ℕ). resumed (t .steps) (resumed (r .log) (run P l (room - f .taken)))) (sym (ran .leaves))
                         ∙ ap (λ (l : List Step). ended (run P left (room - f .taken) .ending) l (run P left (room - f .taken) .boxes))
                         (sym (append-assoc (t .steps) (r .log) (run P left (room - f .taken) .log))),
@@ -321,28 +332,25 @@ module _ (P : Plan) (opening : List ℕ) (cells : List Step) (taken : ℕ) (boxe
                 omega (arith, all, number, inside, t .inside),
               )
 
-      pub part-leaves : f .more ≡ false → LeavesSteps (filterSteps P opening cells) (filterAnswer (f .answer)) left new
+      pub part-leaves : f .more ≡ false → stepsEnd (filterAnswer (f .answer)) left new ≡ filterSteps P opening cells
       unfolding partRun filterSteps loggedSteps onOption written
       part-leaves more = go (inputFault P boxes) refl
         where
-          go : (o : Option Fault) → inputFault P boxes ≡ o → LeavesSteps (filterSteps P opening cells) (filterAnswer (f .answer)) left new
+          go : (o : Option Fault) → inputFault P boxes ≡ o → stepsEnd (filterAnswer (f .answer)) left new ≡ filterSteps P opening cells
           go (some g) e = refused-so g e (inputFault P opening) refl
             where
               refused-so : (g : Fault) → inputFault P boxes ≡ some g → (o : Option Fault) → inputFault P opening ≡ o
-                  → LeavesSteps (filterSteps P opening cells) (filterAnswer (f .answer)) left new
+                  → stepsEnd (filterAnswer (f .answer)) left new ≡ filterSteps P opening cells
               refused-so g e none q = none≢some (sym (t .goes-on q .0) ∙ e)
               refused-so g e (some h) q =
                   let (b, z) = t .refuses h q in
                   let no-steps : t .steps ≡ [] = empty (t .steps) (t .number ∙ z) in
                   let same-fault : g ≡ h = let w : some g ≡ some h = sym e ∙ ap (inputFault P) b ∙ q in cc in
                   rw q
-                  record {
-                    answers = c .refuses g e .answers ∙ ap refusedBy same-fault;
-                    leaves-boxes = c .refuses g e .leaves ∙ b;
-                    leaves-log = logs-more [] (c .refuses g e .steps)
-                        ∙ ap (λ (s : List Step). (s ++ []) ++ drop (taken + 0) cells) no-steps
-                        ∙ ap (λ (n : ℕ). drop (n + 0) cells) z;
-                  }
+                  (same-end (c .refuses g e .answers ∙ ap refusedBy same-fault) (c .refuses g e .leaves ∙ b)
+                  (logs-more [] (c .refuses g e .steps)
+                  ∙ ap (λ (s : List Step). (s ++ []) ++ drop (taken + 0) cells) no-steps
+                  ∙ ap (λ (n : ℕ). drop (n + 0) cells) z))
                 where
                   empty : (l : List Step) → length l ≡ 0 → l ≡ []
                   empty [] e = refl
@@ -352,12 +360,9 @@ module _ (P : Plan) (opening : List ℕ) (cells : List Step) (taken : ℕ) (boxe
               let opened = passed-opening e in
               let m = min partSize (room - taken) in
               let ends : run P boxes (room - taken) ≡ run P boxes m =
-              run-last P m (room - taken) boxes (omega arith) (λ q. omega (arith, ran .ends more q, run-fits P boxes m)) in
+              run-last P m (room - taken) boxes (omega arith) (λ q. omega (arith, ran .ends more q, run-fits (next P) boxes m)) in
               let whole : run P opening room ≡ resumed (t .steps) r = t .goes-on opened .1 ∙ ap (resumed (t .steps)) ends in
               let long : length (t .steps ++ r .log) ≡ taken + count r = length-append (t .steps) (r .log) ∙ (omega (arith, t .number)) in
               rw (opened, whole)
-              record {
-                answers = ran .answers ∙ ap (endingAnswer (r .ending)) (sym long);
-                leaves-boxes = ran .leaves;
-                leaves-log = logs-more (r .log) (ran .steps) ∙ ap (λ (n : ℕ). (t .steps ++ r .log) ++ drop n cells) (sym long);
-              }
+              (same-end (ran .answers ∙ ap (endingAnswer (r .ending)) (sym long)) (ran .leaves)
+              (logs-more (r .log) (ran .steps) ∙ ap (λ (n : ℕ). (t .steps ++ r .log) ++ drop n cells) (sym long)))

@@ -12,7 +12,7 @@ use Rattle.plan.proofs.Refusing.{unless-none}
 use Rattle.plan.proofs.Passed.{passed, input-again}
 use Rattle.steps.specs.declared.Step.{Step}
 use Rattle.steps.specs.Steps.{judge}
-use Rattle.steps.specs.Log.{LogEnd, replayFrom}
+use Rattle.steps.specs.Log.{LogEnd, replayBy, replayFrom}
 use Rattle.steps.proofs.Judgements.{judgement-all}
 use Rattle.steps.proofs.Changes.{judge-change, change-length, change-passes}
 
@@ -27,7 +27,7 @@ module _ (P : Plan) where
   Passes e = inputFault P (e .boxes) ≡ none
 
   pub replay-passes : (k : ℕ) (said : Bool) (boxes : List ℕ) (log : List Step) → inputFault P boxes ≡ none → Passes (replayFrom P k said boxes log)
-  unfolding replayFrom
+  unfolding replayBy
   replay-passes k said boxes [] e = e
   replay-passes k true boxes (x ∷ xs) e = e
   replay-passes k false boxes (x ∷ xs) e =

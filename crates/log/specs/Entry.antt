@@ -2,7 +2,6 @@
 -- of refusals, and "Where each language form goes").
 use mathlib.Core.Bool.{false}
 use mathlib.Core.Option.{some}
-use mathlib.Core.Path.{_≡_}
 use mathlib.Core.List.{List}
 use Prim.Native.Nat.{ℕ}
 use lib.ListN.{length}
@@ -25,18 +24,15 @@ pub record StepsEnd : Type 0 where
   pub boxes : List ℕ
   pub log : List Step
 
--- an answer and the contents of the memory lent are those of an end
-pub record LeavesSteps (e : StepsEnd) (answer : FilterAnswer) (boxes : List ℕ) (log : List Step) : Type 0 where
-  pub answers : answer ≡ e .answer
-  pub leaves-boxes : boxes ≡ e .boxes
-  pub leaves-log : log ≡ e .log
+abbrev pub stepsEnd : FilterAnswer → List ℕ → List Step → StepsEnd
+stepsEnd answer boxes log = record { answer = answer; boxes = boxes; log = log }
 
 unfoldable pub loggedSteps : Run → List Step → StepsEnd
-loggedSteps r log = record { answer = endingAnswer (r .ending) (count r); boxes = r .boxes; log = written (r .log) log }
+loggedSteps r log = stepsEnd (endingAnswer (r .ending) (count r)) (r .boxes) (written (r .log) log)
 
 -- The filter, with the log lent as its room: the run, or a refusal that changes nothing.
 unfoldable pub filterSteps : Plan → List ℕ → List Step → StepsEnd
 filterSteps P boxes log =
     onOption (inputFault P boxes)
     (loggedSteps (run P boxes (length log)) log)
-    (λ f. record { answer = refusedBy f; boxes = boxes; log = log })
+    (λ f. stepsEnd (refusedBy f) boxes log)

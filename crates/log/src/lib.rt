@@ -13,8 +13,8 @@ ghost use Rattle.plan.specs.Faults.{inputFault};
 ghost use Rattle.plan.specs.Lent.{old, left, oldPlan};
 ghost use Rattle.steps.specs.Claim.{CheckedHolds, FilterHolds};
 ghost use Rattle.steps.specs.Entry.{checkAnswer, logAnswer, filterAnswer};
-ghost use Rattle.log.specs.Entry.{checkSteps, filterSteps, LeavesSteps};
-ghost use Rattle.log.specs.Parts.{noStep, partSize, partSteps, Sized};
+ghost use Rattle.log.specs.Entry.{checkSteps, stepsEnd, filterSteps};
+ghost use Rattle.log.specs.inner.Parts.{noStep, partSize, partSteps, Sized};
 
 mod part;
 
@@ -73,19 +73,13 @@ pub fn check_log(
     boxes: &mut [u16],
     log: &[Step],
 ) -> LogChecked
-    ensures { λ r. ⌜ (logAnswer r ≡ checkAnswer (checkSteps
-        (oldPlan hours capacity calendars «task_calendars» «work_times» heights)
-        (old boxes) (old log)))
-        × (left boxes ≡ checkSteps
-        (oldPlan hours capacity calendars «task_calendars» «work_times» heights)
-        (old boxes) (old log) .boxes) ⌝ }
-    ensures holds { λ r. ⌜ CheckedHolds
-        (oldPlan hours capacity calendars «task_calendars» «work_times» heights)
-        (old boxes)
-        (inputFault
-        (oldPlan hours capacity calendars «task_calendars» «work_times» heights)
-        (old boxes))
-        (old log) (logAnswer r) (left boxes) ⌝ }
+    ensures { λ r.
+        let P = oldPlan hours capacity calendars «task_calendars» «work_times» heights in
+        let e = checkSteps P (old boxes) (old log) in
+        ⌜ (logAnswer r ≡ checkAnswer e) × (left boxes ≡ e .boxes) ⌝ }
+    ensures holds { λ r.
+        let P = oldPlan hours capacity calendars «task_calendars» «work_times» heights in
+        ⌜ CheckedHolds P (old boxes) (inputFault P (old boxes)) (old log) (logAnswer r) (left boxes) ⌝ }
 {
     let mut from = 0;
     let mut said = false;
@@ -122,13 +116,12 @@ pub fn filter(
     boxes: &mut [u16],
     log: &mut [Step],
 ) -> Filtered
-    ensures { λ r. ⌜ LeavesSteps (filterSteps
-        (oldPlan hours capacity calendars «task_calendars» «work_times» heights)
-        (old boxes) (old log))
-        (filterAnswer r) (left boxes) (left log) ⌝ }
-    ensures holds { λ r. ⌜ FilterHolds
-        (oldPlan hours capacity calendars «task_calendars» «work_times» heights)
-        (old boxes) (length (old log)) (filterAnswer r) (left boxes) (λ n. take n (left log)) ⌝ }
+    ensures { λ r.
+        let P = oldPlan hours capacity calendars «task_calendars» «work_times» heights in
+        ⌜ stepsEnd (filterAnswer r) (left boxes) (left log) ≡ filterSteps P (old boxes) (old log) ⌝ }
+    ensures holds { λ r.
+        let P = oldPlan hours capacity calendars «task_calendars» «work_times» heights in
+        ⌜ FilterHolds P (old boxes) (length (old log)) (filterAnswer r) (left boxes) (λ n. take n (left log)) ⌝ }
 {
     let room = log.len();
     let mut taken = 0;

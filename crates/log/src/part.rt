@@ -7,7 +7,7 @@ ghost use mathlib.Core.List.{[], _∷_, _++_};
 ghost use Prim.Native.Nat.{_+_, _-_, _^_, _≤_, _<_, min};
 ghost use Rattle.plan.specs.Lent.{old, left, oldPlan};
 ghost use Rattle.steps.specs.Entry.{stepAt, filterAnswer};
-ghost use Rattle.log.specs.Parts.{partSize, partSteps, Sized, checkedPart, checkFrom, CheckedAs, counted, filteredPart, FilteredAs};
+ghost use Rattle.log.specs.inner.Parts.{partSize, partSteps, Sized, checkedPart, checkStepsFrom, CheckedAs, countOf, goesOn, filteredPart, FilteredAs};
 
 // The kinds, the tasks and the hours of its steps stand in the first cells, as many as the count.
 pub struct Part {
@@ -120,9 +120,9 @@ pub fn check_part(
     part: Part,
 ) -> PartChecked
     requires { ⌜ (part .count ≤ partSize) × Sized part × (from + part .count < 2 ^ 64) ⌝ }
-    ensures { λ r. ⌜ CheckedAs (checkFrom
-        (oldPlan hours capacity calendars «task_calendars» «work_times» heights)
-        from said (old boxes) (partSteps part)) (part .count) r (left boxes) ⌝ }
+    ensures { λ r.
+        let P = oldPlan hours capacity calendars «task_calendars» «work_times» heights in
+        ⌜ CheckedAs (checkStepsFrom P from said (old boxes) (partSteps part)) (part .count) r (left boxes) ⌝ }
 {
     let count = part.count;
     let kinds = part.kinds;
@@ -145,6 +145,30 @@ pub fn check_part(
     checked_part(checked, count)
 }
 
+// The steps taken by an answer, of which so many before; a refusal takes none.
+fn count_of(answer: Filtered, taken: usize) -> usize
+    ensures { λ r. ⌜ r ≡ countOf taken (filterAnswer answer) ⌝ }
+{
+    match answer {
+        Filtered::Refused(_) => taken,
+        Filtered::NoRoom(count) => count,
+        Filtered::Settled(count) => count,
+        Filtered::Impossible(count) => count,
+    }
+}
+
+// Whether the run goes on after an answer: it stopped for room, and there is room in all.
+fn goes_on(answer: Filtered, room: usize) -> bool
+    ensures { λ r. ⌜ r ≡ goesOn room (filterAnswer answer) ⌝ }
+{
+    match answer {
+        Filtered::Refused(_) => false,
+        Filtered::NoRoom(count) => count < room,
+        Filtered::Settled(_) => false,
+        Filtered::Impossible(_) => false,
+    }
+}
+
 // What the run comes to with a part, from how it ended there, after so many steps and with room for so many in all.
 fn filtered_part(
     answer: Filtered,
@@ -154,54 +178,20 @@ fn filtered_part(
     tasks: [u16; Part::SIZE],
     hours: [u16; Part::SIZE],
 ) -> PartFiltered
-    requires { ⌜ taken + counted (filterAnswer answer) ≤ room ⌝ }
+    requires { ⌜ taken ≤ countOf taken (filterAnswer answer) ⌝ }
     ensures { λ r. ⌜ r ≡ filteredPart answer taken room kinds tasks hours ⌝ }
 {
-    match answer {
-        Filtered::Refused(_) => PartFiltered {
-            steps: Part {
-                kinds,
-                tasks,
-                hours,
-                count: 0,
-            },
-            answer,
-            more: false,
-            taken,
+    let count = count_of(answer, taken);
+    PartFiltered {
+        steps: Part {
+            kinds,
+            tasks,
+            hours,
+            count: count - taken,
         },
-        Filtered::NoRoom(count) => PartFiltered {
-            steps: Part {
-                kinds,
-                tasks,
-                hours,
-                count,
-            },
-            answer: Filtered::NoRoom(taken + count),
-            more: taken + count < room,
-            taken: taken + count,
-        },
-        Filtered::Settled(count) => PartFiltered {
-            steps: Part {
-                kinds,
-                tasks,
-                hours,
-                count,
-            },
-            answer: Filtered::Settled(taken + count),
-            more: false,
-            taken: taken + count,
-        },
-        Filtered::Impossible(count) => PartFiltered {
-            steps: Part {
-                kinds,
-                tasks,
-                hours,
-                count,
-            },
-            answer: Filtered::Impossible(taken + count),
-            more: false,
-            taken: taken + count,
-        },
+        answer,
+        more: goes_on(answer, room),
+        taken: count,
     }
 }
 
@@ -218,15 +208,15 @@ pub fn filter_part(
     room: usize,
 ) -> PartFiltered
     requires { ⌜ taken ≤ room ⌝ }
-    ensures { λ r. ⌜ FilteredAs
-        (oldPlan hours capacity calendars «task_calendars» «work_times» heights)
-        (old boxes) taken room r (left boxes) ⌝ }
+    ensures { λ r.
+        let P = oldPlan hours capacity calendars «task_calendars» «work_times» heights in
+        ⌜ FilteredAs P (old boxes) taken room r (left boxes) ⌝ }
 {
     let mut kinds = [0u8; Part::SIZE];
     let mut tasks = [0u16; Part::SIZE];
     let mut task_hours = [0u16; Part::SIZE];
     let cells = part_end(taken, room) - taken;
-    let answer = propagation::filter::filter(
+    let answer = propagation::filter::filter_from(
         hours,
         capacity,
         calendars,
@@ -237,6 +227,7 @@ pub fn filter_part(
         &mut kinds[..cells],
         &mut tasks[..cells],
         &mut task_hours[..cells],
+        taken,
     );
     filtered_part(answer, taken, room, kinds, tasks, task_hours)
 }

@@ -34,7 +34,7 @@ same-length-2 : tie.Need-same-length-2 Inv-loop μ-loop
 same-length-2 c = c .before .before .before .put-part .kept .0 ∙ same-log _ _ _ _ _ _ (c .before .before .before .before .before .before .before .before .before .before .loop .inv)
 
 returns : tie.Need-returns Inv-loop μ-loop
-returns c = leaves-steps _ _ _ _ _ _ (part-leaves _ _ _ _ _ _ (c .before .before .before .before .before .before .before .before .before .before .loop .inv) _ _ (c .before .before .before .before .before .before .before .before .filter-part .ensures) _ (c .before .before .before .put-part .ensures) (not-true _ (c .if1 .taken)))
+returns c = leaves-steps _ _ _ _ (part-leaves _ _ _ _ _ _ (c .before .before .before .before .before .before .before .before .before .before .loop .inv) _ _ (c .before .before .before .before .before .before .before .before .filter-part .ensures) _ (c .before .before .before .put-part .ensures) (not-true _ (c .if1 .taken)))
 
 loop-less : tie.Need-loop-less Inv-loop μ-loop
 loop-less c =

@@ -13,12 +13,6 @@ Inv-loop log from end steps₀ i₀ steps i = (i ≤ end) × Copied log from i s
 abbrev μ-loop : tie.MeasureT-loop
 μ-loop log from end steps₀ i₀ steps i = end - i
 
-part-end-requires : tie.Need-part-end-requires Inv-loop μ-loop
-part-end-requires c κs = search needs
-
-no-steps-requires : tie.Need-no-steps-requires Inv-loop μ-loop
-no-steps-requires c κs = search needs
-
 loop-holds : tie.Need-loop-holds Inv-loop μ-loop
 loop-holds c = (omega (arith, c .before .part-end .ensures), none-copied _ _ _ (c .no-steps .ensures .0) (c .no-steps .ensures .1) (c .no-steps .ensures .2))
 
@@ -30,9 +24,6 @@ with-step-requires c κs = (omega (arith, c .before .before .loop .inv .1 .numbe
 
 add-i : tie.Need-add-i Inv-loop μ-loop
 add-i c = omega (arith, c .before .before .loop-test .taken, c .before .before .before .before .before .part-end .ensures, c .before .before .before .before .before .before .pre, c .before .before .before .before .before .before .good)
-
-loop-less : tie.Need-loop-less Inv-loop μ-loop
-loop-less c = search needs
 
 loop-again : tie.Need-loop-again Inv-loop μ-loop
 loop-again c = (omega (arith, c .before .before .loop-test .taken), one-copied _ _ _ _ _ _ (c .before .before .before .loop .inv .1) (omega (arith, c .before .before .loop-test .taken, c .before .before .before .before .before .part-end .ensures, c .before .before .before .before .before .before .pre)) (c .before .step-at .ensures) (c .with-step .ensures .0) (c .with-step .ensures .1) (c .with-step .ensures .2))
@@ -46,12 +37,12 @@ part-at-spec =
     (tie.spec
     Inv-loop
     μ-loop
-    part-end-requires
-    no-steps-requires
+    (λ c κs. search needs)
+    (λ c κs. search needs)
     loop-holds
     step-at-requires
     with-step-requires
     add-i
-    loop-less
+    (λ c. search needs)
     loop-again
     returns)

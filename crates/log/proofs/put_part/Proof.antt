@@ -32,9 +32,6 @@ put-step-requires c κs = omega (arith, c .before .before .loop-test .taken, c .
 add-k : tie.Need-add-k Inv-loop μ-loop
 add-k c = omega (arith, c .before .before .before .before .loop-test .taken, c .before .before .before .before .before .before .pre .1)
 
-loop-less : tie.Need-loop-less Inv-loop μ-loop
-loop-less c = search needs
-
 loop-again : tie.Need-loop-again Inv-loop μ-loop
 loop-again c = (
   omega (arith, c .before .before .before .before .loop-test .taken),
@@ -61,7 +58,7 @@ put-part-spec =
     add-put-step
     put-step-requires
     add-k
-    loop-less
+    (λ c. search needs)
     loop-again
     same-length
     returns)

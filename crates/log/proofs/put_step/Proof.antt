@@ -41,7 +41,7 @@ use denote.Triple.Table.{entered}
 use denote.Triple.Walked.{says, needs, Stays, stay-slice, stay-none, walkOf, goes-slice, goes-none, Walks, ends-at, walked, walk-meets}
 use denote.Exit.{yes}
 use Rattle.steps.specs.declared.Step.{Step}
-use Rattle.log.specs.Parts.{noStep}
+use Rattle.log.specs.inner.Parts.{noStep}
 use Rattle.steps.proofs.Step as T
 use Rattle.steps.proofs.Step.Laws as T′
 use Rattle.log.proofs.put_step.Key.{name as #log·put-step}

@@ -39,7 +39,7 @@ use denote.Triple.Table.{entered}
 use denote.Triple.Walked.{says, needs, Stays, stay-none-slice, stay-none, walkOf, goes-none-slice, goes-none, Walks, ends-at, walked, walk-meets}
 use denote.Exit.{yes}
 use Rattle.steps.specs.declared.Step.{Step}
-use Rattle.log.specs.Parts.{noStep}
+use Rattle.log.specs.inner.Parts.{noStep}
 use Rattle.steps.proofs.Step as T
 use Rattle.steps.proofs.Step.Laws as T′
 use Rattle.log.proofs.step_at.Key.{name as #log·step-at}

@@ -1,64 +1,78 @@
 use Prim.Native.Nat.{_-_}
 use native.Mathlib.Omega.{arith}
-use Rattle.log.proofs.Filtering.{blank, lent-length, counted-inside, filtered-as}
+use Rattle.log.proofs.Filtering.{blank, lent-length, count-inside, filtered-as}
 use borrow.Author.Needs.{needs}
 use Rattle.log.proofs.part.filter_part.Statement.{statement}
 use Rattle.log.proofs.part.filter_part.Tie as tie
 
-part-end-requires : tie.Need-part-end-requires
-part-end-requires c κs = search needs
+-- the entry, where the cells are counted, and where the core has run
+abbrev entry : tie.After-part-end → tie.Start
+entry c = c .before .before .before .before .before .before
 
-sub-cells : tie.Need-sub-cells
-sub-cells c = search needs
+abbrev counted : tie.After-task-hours → tie.After-part-end
+counted c = c .before .before .before .before
 
-array-borrow-prefix-kinds : tie.Need-array-borrow-prefix-kinds
-array-borrow-prefix-kinds c = search needs
+abbrev ran : tie.After-task-hours2 → tie.After-filter-from
+ran c = c .before .before .before .before .before
 
-slice-aggregate-filter : tie.Need-slice-aggregate-filter
+slice-aggregate-filter-from : tie.Need-slice-aggregate-filter-from
 unfolding blank
-slice-aggregate-filter c = lent-length (c .before .before .part-end .result - c .before .before .before .before .before .before .before .before .args .taken) (omega (arith, c .before .before .part-end .ensures))
+slice-aggregate-filter-from c =
+    let at = c .before .before in
+    lent-length (at .part-end .result - entry at .args .taken) (omega (arith, at .part-end .ensures))
 
-array-borrow-prefix-tasks : tie.Need-array-borrow-prefix-tasks
-array-borrow-prefix-tasks c = search needs
-
-slice-aggregate-filter-2 : tie.Need-slice-aggregate-filter-2
+slice-aggregate-filter-from-2 : tie.Need-slice-aggregate-filter-from-2
 unfolding blank
-slice-aggregate-filter-2 c = lent-length (c .before .before .before .part-end .result - c .before .before .before .before .before .before .before .before .before .args .taken) (omega (arith, c .before .before .before .part-end .ensures))
+slice-aggregate-filter-from-2 c =
+    let at = c .before .before .before in
+    lent-length (at .part-end .result - entry at .args .taken) (omega (arith, at .part-end .ensures))
 
-array-borrow-prefix-task-hours : tie.Need-array-borrow-prefix-task-hours
-array-borrow-prefix-task-hours c = search needs
-
-slice-aggregate-filter-3 : tie.Need-slice-aggregate-filter-3
+slice-aggregate-filter-from-3 : tie.Need-slice-aggregate-filter-from-3
 unfolding blank
-slice-aggregate-filter-3 c = lent-length (c .before .before .before .before .part-end .result - c .before .before .before .before .before .before .before .before .before .before .args .taken) (omega (arith, c .before .before .before .before .part-end .ensures))
+slice-aggregate-filter-from-3 c =
+    let at = counted c in
+    lent-length (at .part-end .result - entry at .args .taken) (omega (arith, at .part-end .ensures))
 
-filter-requires : tie.Need-filter-requires
-filter-requires c κs = search needs
+filter-from-requires : tie.Need-filter-from-requires
+unfolding blank
+filter-from-requires c κs =
+    let at = counted c in
+    omega (
+      arith,
+      entry at .pre,
+      entry at .fits,
+      at .part-end .ensures,
+      lent-length (at .part-end .result - entry at .args .taken) (omega (arith, at .part-end .ensures)),
+    )
 
 filtered-part-requires : tie.Need-filtered-part-requires
 unfolding blank
-filtered-part-requires c κs = omega (arith, c .before .before .before .before .before .before .before .before .before .before .before .before .before .before .before .before .pre, c .before .before .before .before .before .before .before .before .before .before .part-end .ensures, counted-inside (c .before .before .before .before .before .before .before .before .before .before .part-end .result - c .before .before .before .before .before .before .before .before .before .before .before .before .before .before .before .before .args .taken) (omega (arith, c .before .before .before .before .before .before .before .before .before .before .part-end .ensures)) _ _ (c .before .before .before .before .before .filter .result) _ _ _ _ (c .before .before .before .before .before .filter .ensures .0))
-
-same-length : tie.Need-same-length
-same-length c = search needs
+filtered-part-requires c κs =
+    let at = counted (ran c .before) in
+    count-inside (at .part-end .result - entry at .args .taken) (omega (arith, at .part-end .ensures)) _ _ _ (ran c .filter-from .result) _ _ _ _
+    (ran c .filter-from .ensures)
 
 returns : tie.Need-returns
 unfolding blank
-returns c = filtered-as (c .before .before .before .before .before .before .before .before .before .before .before .part-end .result - c .before .before .before .before .before .before .before .before .before .before .before .before .before .before .before .before .before .args .taken) (omega (arith, c .before .before .before .before .before .before .before .before .before .before .before .part-end .ensures)) _ _ (c .before .before .before .before .before .before .filter .result) _ _ _ _ (c .before .before .before .before .before .before .filter .ensures .0) (c .before .before .before .before .before .before .before .before .before .before .before .before .before .before .before .before .before .args .taken) (c .before .before .before .before .before .before .before .before .before .before .before .before .before .before .before .before .before .args .room) (omega (arith, c .before .before .before .before .before .before .before .before .before .before .before .part-end .ensures)) _ (c .filtered-part .ensures)
+returns c =
+    let core = ran (c .before) in
+    let at = counted (core .before) in
+    filtered-as (at .part-end .result - entry at .args .taken) (omega (arith, at .part-end .ensures)) _ _ _ (core .filter-from .result) _ _ _ _
+    (core .filter-from .ensures) (entry at .args .room) (omega (arith, at .part-end .ensures)) _ (c .filtered-part .ensures)
 
 pub filter-part-spec : {M : Type 1} → statement M
 filter-part-spec =
     tie.close
     (tie.spec
-    part-end-requires
-    sub-cells
-    array-borrow-prefix-kinds
-    slice-aggregate-filter
-    array-borrow-prefix-tasks
-    slice-aggregate-filter-2
-    array-borrow-prefix-task-hours
-    slice-aggregate-filter-3
-    filter-requires
+    (λ c κs. search needs)
+    (λ c. search needs)
+    (λ c. search needs)
+    slice-aggregate-filter-from
+    (λ c. search needs)
+    slice-aggregate-filter-from-2
+    (λ c. search needs)
+    slice-aggregate-filter-from-3
+    filter-from-requires
     filtered-part-requires
-    same-length
+    (λ c. search needs)
     returns)

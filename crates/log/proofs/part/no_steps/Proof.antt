@@ -1,6 +1,6 @@
 use mathlib.Core.Path.{refl}
 use Rattle.steps.specs.Entry.{stepsFrom}
-use Rattle.log.specs.Parts.{partSteps}
+use Rattle.log.specs.inner.Parts.{partSteps}
 use Rattle.log.proofs.part.no_steps.Statement.{statement}
 use Rattle.log.proofs.part.no_steps.Tie as tie
 

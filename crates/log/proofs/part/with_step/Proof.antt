@@ -1,28 +1,10 @@
 use mathlib.Core.Path.{refl}
 use native.Mathlib.Omega.{arith}
-use Rattle.log.specs.Parts.{partSteps}
+use Rattle.log.specs.inner.Parts.{partSteps}
 use Rattle.log.proofs.Copying.{steps-more, sized-more}
 use borrow.Author.Needs.{needs}
 use Rattle.log.proofs.part.with_step.Statement.{statement}
 use Rattle.log.proofs.part.with_step.Tie as tie
-
-element-write-longer : tie.Need-element-write-longer
-element-write-longer c = search needs
-
-mul-longer : tie.Need-mul-longer
-mul-longer c = search needs
-
-element-write-longer-2 : tie.Need-element-write-longer-2
-element-write-longer-2 c = search needs
-
-mul-longer-2 : tie.Need-mul-longer-2
-mul-longer-2 c = search needs
-
-element-write-longer-3 : tie.Need-element-write-longer-3
-element-write-longer-3 c = search needs
-
-add-longer : tie.Need-add-longer
-add-longer c = search needs
 
 returns : tie.Need-returns
 unfolding partSteps
@@ -36,10 +18,10 @@ pub with-step-spec : {M : Type 1} → statement M
 with-step-spec =
     tie.close
     (tie.spec
-    element-write-longer
-    mul-longer
-    element-write-longer-2
-    mul-longer-2
-    element-write-longer-3
-    add-longer
+    (λ c. search needs)
+    (λ c. search needs)
+    (λ c. search needs)
+    (λ c. search needs)
+    (λ c. search needs)
+    (λ c. search needs)
     returns)

@@ -15,7 +15,6 @@ use Rattle.steps.specs.declared.Step.{Step}
 use Rattle.steps.specs.declared.LogChecked.{LogChecked}
 use Rattle.steps.specs.declared.LogChecked.the-variants as checked
 use Rattle.steps.specs.declared.Filtered.{Filtered}
-use Rattle.steps.specs.declared.Filtered.the-variants as filtered
 use Rattle.steps.specs.Steps as steps
 use Rattle.steps.specs.Log.{LogEnd, logEnd, replayFrom}
 use Rattle.steps.specs.Filter.{Run, noRoom, count, run}
@@ -46,8 +45,8 @@ checkedPart (checked.Refused r) count = record { answer = checked.Refused r; mor
 checkedPart (checked.Accepted k said) count = record { answer = checked.Accepted k said; more = leb partSize count; steps = k; impossible = said }
 
 -- the end of a log from step number k on, or a refusal that changes nothing
-unfoldable pub checkFrom : Plan → ℕ → Bool → List ℕ → List Step → LogEnd
-checkFrom P k said boxes steps = onOption (inputFault P boxes) (replayFrom P k said boxes steps) (λ f. logEnd 0 false boxes (some f))
+unfoldable pub checkStepsFrom : Plan → ℕ → Bool → List ℕ → List Step → LogEnd
+checkStepsFrom P k said boxes steps = onOption (inputFault P boxes) (replayFrom P k said boxes steps) (λ f. logEnd 0 false boxes (some f))
 
 -- What the log checker comes to with a part of so many steps, whose end this is.
 pub record CheckedAs (e : LogEnd) (count : ℕ) (r : PartChecked) (left : List ℕ) : Type 0 where
@@ -59,41 +58,27 @@ pub record CheckedAs (e : LogEnd) (count : ℕ) (r : PartChecked) (left : List �
 
 -- ---- the filter
 
--- the steps that an answer counts
-abbrev pub counted : FilterAnswer → ℕ
-counted (refusedBy f) = 0
-counted (noRoomFor f n) = n
-counted (settledAfter n) = n
-counted (impossibleAfter n) = n
+-- the steps taken by an answer, of which so many before; a refusal takes none
+abbrev pub countOf : ℕ → FilterAnswer → ℕ
+countOf taken (refusedBy f) = taken
+countOf taken (noRoomFor f n) = n
+countOf taken (settledAfter n) = n
+countOf taken (impossibleAfter n) = n
+
+-- it goes on only where it stopped for room, with room in all
+abbrev pub goesOn : ℕ → FilterAnswer → Bool
+goesOn room (refusedBy f) = false
+goesOn room (noRoomFor f n) = ltb n room
+goesOn room (settledAfter n) = false
+goesOn room (impossibleAfter n) = false
 
 abbrev pub filteredPart : Filtered → ℕ → ℕ → List ℕ → List ℕ → List ℕ → PartFiltered
-filteredPart (filtered.Refused r) taken room kinds tasks hours =
+filteredPart answer taken room kinds tasks hours =
     record {
-      steps = record { kinds = kinds; tasks = tasks; hours = hours; count = 0 };
-      answer = filtered.Refused r;
-      more = false;
-      taken = taken;
-    }
-filteredPart (filtered.NoRoom n) taken room kinds tasks hours =
-    record {
-      steps = record { kinds = kinds; tasks = tasks; hours = hours; count = n };
-      answer = filtered.NoRoom (taken + n);
-      more = ltb (taken + n) room;
-      taken = taken + n;
-    }
-filteredPart (filtered.Settled n) taken room kinds tasks hours =
-    record {
-      steps = record { kinds = kinds; tasks = tasks; hours = hours; count = n };
-      answer = filtered.Settled (taken + n);
-      more = false;
-      taken = taken + n;
-    }
-filteredPart (filtered.Impossible n) taken room kinds tasks hours =
-    record {
-      steps = record { kinds = kinds; tasks = tasks; hours = hours; count = n };
-      answer = filtered.Impossible (taken + n);
-      more = false;
-      taken = taken + n;
+      steps = record { kinds = kinds; tasks = tasks; hours = hours; count = countOf taken (filterAnswer answer) - taken };
+      answer = answer;
+      more = goesOn room (filterAnswer answer);
+      taken = countOf taken (filterAnswer answer);
     }
 
 -- the run over one part, after so many steps and with room for so many in all
