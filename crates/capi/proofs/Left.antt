@@ -1,28 +1,22 @@
 -- What an entry point leaves, with its answer as numbers.
-use mathlib.Core.Path.{_≡_, ap, _∙_}
+use mathlib.Core.Path.{_≡_, refl, ap, _∙_}
 use mathlib.Core.List.{List}
 use Prim.Native.Nat.{ℕ}
 use Rattle.plan.specs.Refusals.{Answer}
 use Rattle.steps.specs.Log.{LogEnd}
-use Rattle.steps.specs.Entry.{Accepted, FilterAnswer, FilterEnd, Leaves, checkAnswer}
+use Rattle.steps.specs.Entry.{Accepted, checkAnswer, FilterAnswer, FilterEnd, filterEnd}
 use Rattle.plan_text.specs.Entry as reading
 use Rattle.capi.specs.Numbers.{logNumbers, filterNumbers, readNumbers}
-use Rattle.capi.specs.Leaving.{LeavesLog, LeavesRun, LeavesPlan}
+use Rattle.capi.specs.Leaving.{LeavesPlan}
 
 module _ {numbers boxes : List ℕ} where
-  pub left-log : {e : LogEnd} {a : Answer Accepted} → numbers ≡ logNumbers a → a ≡ checkAnswer e → boxes ≡ e .boxes → LeavesLog e numbers boxes
-  left-log n a b = record { answers = n ∙ ap logNumbers a; leaves-boxes = b }
+  pub left-log : (e : LogEnd) {a : Answer Accepted} → numbers ≡ logNumbers a → (a ≡ checkAnswer e) × (boxes ≡ e .boxes)
+      → (numbers ≡ logNumbers (checkAnswer e)) × (boxes ≡ e .boxes)
+  left-log e n (a, b) = (n ∙ ap logNumbers a, b)
 
-  pub left-run : {e : FilterEnd} {a : FilterAnswer} {kinds tasks hours : List ℕ}
-      → numbers ≡ filterNumbers a → Leaves e a boxes kinds tasks hours → LeavesRun e numbers boxes kinds tasks hours
-  left-run n left =
-      record {
-        answers = n ∙ ap filterNumbers (left .answers);
-        leaves-boxes = left .leaves-boxes;
-        leaves-kinds = left .leaves-kinds;
-        leaves-tasks = left .leaves-tasks;
-        leaves-hours = left .leaves-hours;
-      }
+  pub left-run : {e : FilterEnd} {a : FilterAnswer} {kinds tasks hours : List ℕ} → numbers ≡ filterNumbers a → filterEnd a boxes kinds tasks hours ≡ e
+      → (numbers ≡ filterNumbers (e .answer)) × (filterEnd (e .answer) boxes kinds tasks hours ≡ e)
+  left-run n is = rw (← is) (n, refl)
 
   pub left-plan : {e : reading.ReadEnd} {a : Answer reading.PlanRead} {calendars taskCalendars workTimes heights : List ℕ}
       → numbers ≡ readNumbers a

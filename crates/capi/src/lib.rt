@@ -8,11 +8,11 @@ ghost use Rattle.plan.specs.Boxes.{boundsAt};
 ghost use Rattle.plan.specs.Lent.{old, left, oldPlan};
 ghost use Rattle.calendar.specs.Entry.{calendarRule};
 ghost use Rattle.schedule.specs.Entry.{checkSchedule};
-ghost use Rattle.steps.specs.Entry.{checkLog, filterPlan};
+ghost use Rattle.steps.specs.Entry.{checkLog, checkAnswer, filterEnd, filterPlan};
 ghost use Rattle.plan_text.specs.Entry.{readPlan};
 ghost use Rattle.listing.specs.Program.{textListing};
-ghost use Rattle.capi.specs.Numbers.{ruleNumbers, scheduleNumbers};
-ghost use Rattle.capi.specs.Leaving.{LeavesLog, LeavesRun, LeavesPlan};
+ghost use Rattle.capi.specs.Numbers.{ruleNumbers, scheduleNumbers, logNumbers, filterNumbers};
+ghost use Rattle.capi.specs.Leaving.{LeavesPlan};
 
 mod numbers;
 
@@ -44,9 +44,9 @@ pub extern "C" fn shimlantern_check_schedule(
     schedule: &[u16],
     answer: &mut [u64; 3],
 )
-    ensures { λ _. ⌜ left answer ≡ scheduleNumbers (checkSchedule
-        (oldPlan hours capacity calendars «task_calendars» «work_times» heights)
-        (old boxes) (old schedule)) ⌝ }
+    ensures { λ _.
+        let P = oldPlan hours capacity calendars «task_calendars» «work_times» heights in
+        ⌜ left answer ≡ scheduleNumbers (checkSchedule P (old boxes) (old schedule)) ⌝ }
 {
     let checked = schedule::check_schedule(
         hours,
@@ -76,10 +76,10 @@ pub extern "C" fn shimlantern_check_log(
     log_hours: &[u16],
     answer: &mut [u64; 4],
 )
-    ensures { λ _. ⌜ LeavesLog (checkLog
-        (oldPlan hours capacity calendars «task_calendars» «work_times» heights)
-        (old boxes) (old «log_kinds») (old «log_tasks») (old «log_hours»))
-        (left answer) (left boxes) ⌝ }
+    ensures { λ _.
+        let P = oldPlan hours capacity calendars «task_calendars» «work_times» heights in
+        let e = checkLog P (old boxes) (old «log_kinds») (old «log_tasks») (old «log_hours») in
+        ⌜ (left answer ≡ logNumbers (checkAnswer e)) × (left boxes ≡ e .boxes) ⌝ }
 {
     let checked = propagation::replay::check_log(
         hours,
@@ -111,10 +111,11 @@ pub extern "C" fn shimlantern_filter(
     log_hours: &mut [u16],
     answer: &mut [u64; 4],
 )
-    ensures { λ _. ⌜ LeavesRun (filterPlan
-        (oldPlan hours capacity calendars «task_calendars» «work_times» heights)
-        (old boxes) (old «log_kinds») (old «log_tasks») (old «log_hours»))
-        (left answer) (left boxes) (left «log_kinds») (left «log_tasks») (left «log_hours») ⌝ }
+    ensures { λ _.
+        let P = oldPlan hours capacity calendars «task_calendars» «work_times» heights in
+        let e = filterPlan P (old boxes) (old «log_kinds») (old «log_tasks») (old «log_hours») in
+        ⌜ (left answer ≡ filterNumbers (e .answer))
+        × (filterEnd (e .answer) (left boxes) (left «log_kinds») (left «log_tasks») (left «log_hours») ≡ e) ⌝ }
 {
     let filtered = propagation::filter::filter(
         hours,

@@ -6,8 +6,7 @@ use lib.ListN.{length, take}
 use Rattle.units.specs.Cells.{written}
 use Rattle.plan.specs.Plan.{Plan, plan, taskCount}
 use Rattle.plan.specs.Refusals.{Fault, Answer, refused, answered, onAnswer}
-use Rattle.steps.specs.Entry.{FilterAnswer, filterPlan}
-use Rattle.steps.specs.Entry as entry
+use Rattle.steps.specs.Entry.{FilterAnswer, FilterEnd, filterEnd, filterPlan}
 use Rattle.plan_text.specs.Entry.{PlanRead}
 use Rattle.plan_text.specs.Entry as reading
 use Rattle.listing.specs.Listing.{refusedLine, listing}
@@ -19,10 +18,10 @@ pub put-as : {xs ys left : List ℕ} {n : ℕ} (cells : List ℕ) → xs ≡ ys 
 put-as cells e p q = (p ∙ ap length e, q ∙ ap (λ (l : List ℕ). written l cells) e)
 
 pub plan-listed : (P : Plan) (boxes : List ℕ) (answer : FilterAnswer) (left ks ts hs : List ℕ)
-    → entry.Leaves (filterPlan P boxes (zeros stepRoom) (zeros stepRoom) (zeros stepRoom)) answer left ks ts hs
+    → filterEnd answer left ks ts hs ≡ filterPlan P boxes (zeros stepRoom) (zeros stepRoom) (zeros stepRoom)
     → listing answer left (taskCount P) ≡ planListing P boxes
 unfolding planListing
-plan-listed P boxes answer left ks ts hs l = rw (l .answers, l .leaves-boxes)
+plan-listed P boxes answer left ks ts hs e = ap (λ (l : FilterEnd). listing (l .answer) (l .boxes) (taskCount P)) e
 
 pub leaves-as : {e : reading.ReadEnd} {x y : Answer PlanRead} {cs ts ws hs bs : List ℕ} → reading.Leaves e x cs ts ws hs bs → x ≡ y
     → reading.Leaves e y cs ts ws hs bs

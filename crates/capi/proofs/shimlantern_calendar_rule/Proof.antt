@@ -6,15 +6,6 @@ use borrow.Author.Needs.{needs}
 use Rattle.capi.proofs.shimlantern_calendar_rule.Statement.{statement}
 use Rattle.capi.proofs.shimlantern_calendar_rule.Tie as tie
 
-bounds-at-requires : tie.Need-bounds-at-requires
-bounds-at-requires c κs = search needs
-
-calendar-rule-requires : tie.Need-calendar-rule-requires
-calendar-rule-requires c κs = search needs
-
-rule-numbers-requires : tie.Need-rule-numbers-requires
-rule-numbers-requires c κs = search needs
-
 returns : tie.Need-returns
 returns c =
     let args = c .before .before .before .before .before .args in
@@ -25,4 +16,4 @@ returns c =
 
 pub shimlantern-calendar-rule-spec : {M : Type 1} → statement M
 shimlantern-calendar-rule-spec =
-    tie.close (tie.spec bounds-at-requires calendar-rule-requires rule-numbers-requires returns)
+    tie.close (tie.spec (λ c κs. search needs) (λ c κs. search needs) (λ c κs. search needs) returns)
