@@ -2,13 +2,13 @@
 use mathlib.Core.Path.{_≡_, refl, sym, ap, _∙_}
 use mathlib.Core.Bool.{Bool, true, false}
 use mathlib.Core.Option.{Option}
-use mathlib.Core.List.{List, []}
-use Prim.Native.Nat.{ℕ, _+_, _-_, _*_, _/_, _%_, _≤_, _<_}
+use mathlib.Core.List.{List}
+use Prim.Native.Nat.{ℕ, _+_, _-_, _≤_, _<_}
 use native.Mathlib.Omega.{arith}
-use lib.Dec.{eqb, leb, ltb}
+use lib.Dec.{leb, ltb}
 use lib.ListN.{length, getD, take, drop, length-take}
-use borrow.Author.Tests.{eqb-true, eqb-false, eq-eqb, ne-eqb, ltb-true, ltb-false, lt-ltb, le-ltb, le-leb, lt-leb}
-use Rattle.units.specs.Choice.{_orElse_, firstOf}
+use borrow.Author.Tests.{ltb-true, ltb-false, lt-ltb, le-ltb, le-leb, lt-leb}
+use Rattle.units.specs.Choice.{firstOf}
 use Rattle.units.specs.Limits.{hour, duration}
 use Rattle.units.specs.Sums.{sumWhere}
 use Rattle.units.specs.declared.Bounds.{Bounds}
@@ -19,7 +19,7 @@ use Rattle.plan.specs.Plan.{Shifts, Plan, taskCount, firstSymbol, calendarAt, c
 use Rattle.plan.specs.Boxes.{boundsAt}
 use Rattle.plan.specs.Refusals.{Fault, unless}
 use Rattle.calendar.specs.declared.Triple.{Triple}
-use Rattle.calendar.specs.Triples.{startOf, elapsedOf, endOf, validTriple, inBounds}
+use Rattle.calendar.specs.Triples.{startOf, elapsedOf, endOf}
 use Rattle.schedule.specs.Schedule.{tripleAt, runs, running}
 use Rattle.schedule.specs.Entry.{oneTripleFault, tripleFault, hourFault}
 use Rattle.schedule.specs.inner.Ready.{heightsFault}
@@ -76,7 +76,9 @@ triple-is S boxes schedule i cal b x r p q s e = rw (← p, ← q, ← s) e
 pub hours-are : (P : Plan) (schedule : List ℕ) → length (P .heights) ≡ taskCount P
     → firstOf (heightsFault (P .capacity) (P .heights) schedule) (P .shifts .hours) ≡ firstOf (hourFault P (tripleAt schedule)) (P .shifts .hours)
 unfolding hourFault heightsFault running heightsWhere heightOf
-hours-are P schedule e = first-eq _ _ (P .shifts .hours) (λ t l. ap (λ (n : ℕ). unless (leb (sumWhere (runsAt t) (λ i. getD (P .heights) i 0) n) (P .capacity)) 16 t) e)
+hours-are P schedule e =
+    first-eq _ _ (P .shifts .hours)
+    (λ t l. ap (λ (n : ℕ). unless (leb (sumWhere (runsAt t) (λ i. getD (P .heights) i 0) n) (P .capacity)) 16 t) e)
   where
     runsAt : ℕ → ℕ → Bool
     runsAt t i = runs (tripleAt schedule i) t

@@ -49,4 +49,12 @@ returns-3 c =
 pub test-calendars-spec : {M : Type 1} → statement M
 test-calendars-spec =
     tie.close
-    (tie.spec (λ c κs. search needs) (λ c. search needs) (λ c. search needs) returns has-calendars-requires returns-2 (λ c κs. search needs) returns-3)
+    (tie.spec
+    (λ c κs. search needs)
+    (λ c. search needs)
+    (λ c. search needs)
+    returns
+    has-calendars-requires
+    returns-2
+    (λ c κs. search needs)
+    returns-3)

@@ -28,4 +28,12 @@ returns-2 c =
     (answer, decides-as _ _ _ _ answer)
 
 pub check-schedule-spec : {M : Type 1} → statement M
-check-schedule-spec = tie.close (tie.spec (λ c κs. search needs) (λ c. search needs) (λ c. search needs) latest-end-requires returns returns-2)
+check-schedule-spec =
+    tie.close
+    (tie.spec
+    (λ c κs. search needs)
+    (λ c. search needs)
+    (λ c. search needs)
+    latest-end-requires
+    returns
+    returns-2)

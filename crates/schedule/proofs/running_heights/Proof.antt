@@ -37,9 +37,9 @@ loop-again c =
     let runs-is = c .before .is-running .ensures in (
       omega arith,
       ⊎-elim
-      (λ w. w .2 ∙ where-more _ _ _ _ sum-is (runs-as _ _ is _ _ _ runs-is (w .0 .taken)))
-      (λ w. w .1 ∙ where-skip _ _ _ _ sum-is (runs-as _ _ is _ _ _ runs-is (w .0 .left)))
-      (c .if1 .came),
+          (λ w. w .2 ∙ where-more _ _ _ _ sum-is (runs-as _ _ is _ _ _ runs-is (w .0 .taken)))
+          (λ w. w .1 ∙ where-skip _ _ _ _ sum-is (runs-as _ _ is _ _ _ runs-is (w .0 .left)))
+          (c .if1 .came),
     )
 
 returns : tie.Need-returns Inv-loop μ-loop
