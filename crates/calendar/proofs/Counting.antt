@@ -1,13 +1,11 @@
 -- Laws of the counts of hours of a kind. Assumes nothing.
 use mathlib.Core.Path.{_≡_, refl, ap}
-use mathlib.Core.Bool.{Bool, true, false}
 use mathlib.Core.List.{List}
-use Prim.Native.Nat.{ℕ, zero, suc, _+_, _≤_, _<_}
+use Prim.Native.Nat.{ℕ, zero, suc, _+_, _≤_}
 use native.Mathlib.Nat.{add-zero}
 use native.Mathlib.Numerals.{add-one}
 use native.Mathlib.Decide.{le-ind}
 use native.Mathlib.Omega.{arith}
-use Rattle.units.specs.Limits.{mostHours}
 use Rattle.units.specs.Sums.{sumTo, oneIf, countWhere}
 use Rattle.units.proofs.Summing.{one-le}
 use Rattle.plan.specs.Plan.{regular, overtime}

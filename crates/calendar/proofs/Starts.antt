@@ -6,10 +6,9 @@ use Prim.Native.Nat.{ℕ, _+_, _-_, _≤_, _<_, min}
 use native.Mathlib.Decide.{decLe}
 use native.Mathlib.Omega.{arith}
 use lib.Dec.{eqb}
-use lib.ListN.{length, getD}
-use borrow.Author.Tests.{eqb-true, eq-eqb, ne-eqb, not-true, not-false}
+use lib.ListN.{length}
+use borrow.Author.Tests.{eq-eqb, ne-eqb, not-true, not-false}
 use Rattle.units.specs.Choice.{if_then_else_}
-use Rattle.units.specs.Limits.{mostHours}
 use Rattle.units.specs.Sums.{oneIf}
 use Rattle.units.specs.declared.Bounds.{Bounds}
 use Rattle.units.proofs.Choices.{if-true, if-false, true≢false, untrue}

@@ -20,7 +20,7 @@ ghost use Rattle.units.specs.Sums.{oneIf};
 ghost use Rattle.plan.specs.HourKinds.{isKind};
 ghost use Rattle.plan.specs.Lent.{old};
 ghost use Rattle.calendar.specs.Valid.{overtimeEnds};
-ghost use Rattle.calendar.specs.Triples.{endOf, validTriple, starting};
+ghost use Rattle.calendar.specs.Triples.{validTriple, starting};
 ghost use Rattle.calendar.specs.Rule.{ruleOf};
 ghost use Rattle.calendar.specs.Entry.{calendarRule, ruleAnswer};
 ghost use Rattle.calendar.specs.inner.Stretches.{Inside, HasCounts, RuleReady, Reaches, countsOf, withHour};

@@ -7,7 +7,6 @@ use Prim.Native.Nat.{ℕ, _+_, _<_}
 use lib.ListN.{getD, take, drop}
 use lib.Seq.{getD-take, getD-drop}
 use borrow.Author.Tests.{eqb-true}
-use Rattle.units.specs.Choice.{if_then_else_}
 use Rattle.units.specs.Sums.{oneIf}
 use Rattle.units.proofs.Choices.{if-false}
 use Rattle.plan.specs.Plan.{regular, closed, overtime}

@@ -6,7 +6,7 @@ use mathlib.Core.List.{List}
 use Prim.Native.Nat.{ℕ, _+_, _*_, _/_, _%_, _≤_, _<_}
 use native.Mathlib.Nat.{div-add-mod', mul-le-mul-right, add-mul}
 use native.Mathlib.Omega.{arith}
-use lib.ListN.{length, getD, length-take, length-drop}
+use lib.ListN.{length, length-take, length-drop}
 use borrow.Author.Tests.{eqb-true, leb-true, ltb-true}
 use Rattle.units.specs.Limits.{mostHours, mostTasks, mostCapacity, boxNumbers, isPlanLength, isWorkTime, isHeight, isCapacity, isCalendarNumber, isTaskCount}
 use Rattle.units.proofs.Choices.{and-left, and-right, else-none, neither, first-none, first-all-none}

@@ -12,12 +12,12 @@ use Rattle.plan.proofs.Refusing.{unless-true, unless-none}
 use Rattle.calendar.specs.declared.Triple.{Triple}
 use Rattle.calendar.specs.Triples.{validTriple, inBounds}
 use Rattle.schedule.specs.Schedule.{running, Feasible}
-use Rattle.schedule.specs.Entry.{tripleFault, hourFault, scheduleFault}
+use Rattle.schedule.specs.Entry.{oneTripleFault, tripleFault, hourFault, scheduleFault}
 
 module _ (P : Plan) (boxes : List ℕ) (σ : ℕ → Triple) where
   triple-passed : (i : ℕ) → tripleFault (P .shifts) boxes σ i ≡ none
       → (inBounds (boundsAt boxes i) (σ i) ≡ true) × (validTriple (calendarOf (P .shifts) i) (workTimeOf (P .shifts) i) (σ i) ≡ true)
-  unfolding tripleFault
+  unfolding tripleFault oneTripleFault
   triple-passed i e = let (a, b) = neither _ _ e in (unless-none _ 14 i a, unless-none _ 15 i b)
 
   hour-passed : (t : ℕ) → hourFault P σ t ≡ none → running P σ t ≤ P .capacity
@@ -36,7 +36,7 @@ module _ (P : Plan) (boxes : List ℕ) (σ : ℕ → Triple) where
 
   no-triple-fault : (i : ℕ) → inBounds (boundsAt boxes i) (σ i) ≡ true → validTriple (calendarOf (P .shifts) i) (workTimeOf (P .shifts) i) (σ i) ≡ true
       → tripleFault (P .shifts) boxes σ i ≡ none
-  unfolding tripleFault
+  unfolding tripleFault oneTripleFault
   no-triple-fault i h v = else-none _ _ (unless-true _ 14 i h) ∙ unless-true _ 15 i v
 
   no-hour-fault : (t : ℕ) → running P σ t ≤ P .capacity → hourFault P σ t ≡ none

@@ -2,27 +2,27 @@
 use mathlib.Core.Path.{_≡_, refl, sym, ap, _∙_}
 use mathlib.Core.Bool.{Bool, true, false}
 use mathlib.Core.Option.{Option}
-use mathlib.Core.List.{List, []}
-use Prim.Native.Nat.{ℕ, _+_, _-_, _*_, _/_, _%_, _≤_, _<_}
+use mathlib.Core.List.{List}
+use Prim.Native.Nat.{ℕ, _+_, _-_, _≤_, _<_}
 use native.Mathlib.Omega.{arith}
-use lib.Dec.{eqb, leb, ltb}
+use lib.Dec.{leb, ltb}
 use lib.ListN.{length, getD, take, drop, length-take}
-use borrow.Author.Tests.{eqb-true, eqb-false, eq-eqb, ne-eqb, ltb-true, ltb-false, lt-ltb, le-ltb, le-leb, lt-leb}
-use Rattle.units.specs.Choice.{_orElse_, firstOf}
+use borrow.Author.Tests.{ltb-true, ltb-false, lt-ltb, le-ltb, le-leb, lt-leb}
+use Rattle.units.specs.Choice.{firstOf}
 use Rattle.units.specs.Limits.{hour, duration}
 use Rattle.units.specs.Sums.{sumWhere}
 use Rattle.units.specs.declared.Bounds.{Bounds}
 use Rattle.units.specs.declared.Duration.{Duration}
 use Rattle.units.specs.declared.Hour.{Hour}
-use Rattle.units.proofs.Choices.{not-left, and-rest}
+use Rattle.units.proofs.Choices.{not-left, and-rest, first-eq}
 use Rattle.plan.specs.Plan.{Shifts, Plan, taskCount, firstSymbol, calendarAt, calendarOf, workTimeOf, heightOf, heightsWhere}
 use Rattle.plan.specs.Boxes.{boundsAt}
 use Rattle.plan.specs.Refusals.{Fault, unless}
 use Rattle.calendar.specs.declared.Triple.{Triple}
-use Rattle.calendar.specs.Triples.{startOf, elapsedOf, endOf, validTriple, inBounds}
+use Rattle.calendar.specs.Triples.{startOf, elapsedOf, endOf}
 use Rattle.schedule.specs.Schedule.{tripleAt, runs, running}
-use Rattle.schedule.specs.Ready.{runningHeights}
-use Rattle.schedule.specs.Entry.{tripleFault, hourFault}
+use Rattle.schedule.specs.Entry.{oneTripleFault, tripleFault, hourFault}
+use Rattle.schedule.specs.inner.Ready.{heightsFault}
 
 -- an hour is before s + e if the time since s is less than e
 by-elapsed : (s e t d : ℕ) → s ≤ t → d ≡ t - s → ltb d e ≡ ltb t (s + e)
@@ -65,21 +65,20 @@ module _ (n r capacity : ℕ) (is : r ≡ n) where
 pub taken-small : (l all : List ℕ) (n m : ℕ) → l ≡ take n all → n ≤ m → length l ≤ m
 taken-small l all n m e h = rw e (simp length-take (omega arith))
 
-pub triple-is : (S : Shifts) (boxes schedule : List ℕ) (i work : ℕ) (cal : List ℕ) (b : Bounds) (x : Triple) (r : Option Fault)
-    → cal ≡ take (S .hours) (drop (firstSymbol (S .hours) (getD (S .taskCalendars) i 0)) (S .calendars))
-    → work ≡ getD (S .workTimes) i 0
-    → b ≡ boundsAt boxes i → x ≡ tripleAt schedule i
-    → r ≡ (unless (inBounds b x) 14 i orElse unless (validTriple cal work x) 15 i)
-    → r ≡ tripleFault S boxes (tripleAt schedule) i
+-- a task's own test, from what the code read of it
+pub triple-is : (S : Shifts) (boxes schedule : List ℕ) (i : ℕ) (cal : List ℕ) (b : Bounds) (x : Triple) (r : Option Fault)
+    → cal ≡ take (S .hours) (drop (firstSymbol (S .hours) (getD (S .taskCalendars) i 0)) (S .calendars)) → b ≡ boundsAt boxes i
+    → x ≡ tripleAt schedule i → r ≡ oneTripleFault cal (getD (S .workTimes) i 0) b i x → r ≡ tripleFault S boxes (tripleAt schedule) i
 unfolding tripleFault calendarOf calendarAt workTimeOf
-triple-is S boxes schedule i work cal b x r p w q s e = rw (← p, ← w, ← q, ← s) e
+triple-is S boxes schedule i cal b x r p q s e = rw (← p, ← q, ← s) e
 
 -- one task for each height, so the code counts the heights
 pub hours-are : (P : Plan) (schedule : List ℕ) → length (P .heights) ≡ taskCount P
-    → firstOf (λ t. unless (leb (runningHeights (P .heights) schedule t) (P .capacity)) 16 t) (P .shifts .hours)
-    ≡ firstOf (hourFault P (tripleAt schedule)) (P .shifts .hours)
-unfolding hourFault running heightsWhere heightOf
+    → firstOf (heightsFault (P .capacity) (P .heights) schedule) (P .shifts .hours) ≡ firstOf (hourFault P (tripleAt schedule)) (P .shifts .hours)
+unfolding hourFault heightsFault running heightsWhere heightOf
 hours-are P schedule e =
-    ap
-    (λ (n : ℕ). firstOf (λ t. unless (leb (sumWhere (λ i. runs (tripleAt schedule i) t) (λ i. getD (P .heights) i 0) n) (P .capacity)) 16 t) (P .shifts .hours))
-    e
+    first-eq _ _ (P .shifts .hours)
+    (λ t l. ap (λ (n : ℕ). unless (leb (sumWhere (runsAt t) (λ i. getD (P .heights) i 0) n) (P .capacity)) 16 t) e)
+  where
+    runsAt : ℕ → ℕ → Bool
+    runsAt t i = runs (tripleAt schedule i) t

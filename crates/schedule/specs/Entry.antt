@@ -10,17 +10,19 @@ use Rattle.plan.specs.Plan.{Shifts, Plan, taskCount, calendarOf, workTimeOf}
 use Rattle.plan.specs.Boxes.{boundsAt}
 use Rattle.plan.specs.Refusals.{Fault, unless, Answer, refused, answered, faultOf, answerUnless}
 use Rattle.plan.specs.Faults.{oneForEachTask, planFault}
+use Rattle.units.specs.declared.Bounds.{Bounds}
 use Rattle.calendar.specs.declared.Triple.{Triple}
 use Rattle.calendar.specs.Triples.{tripleNumbers, validTriple, inBounds}
 use Rattle.schedule.specs.declared.ScheduleChecked.{ScheduleChecked}
 use Rattle.schedule.specs.declared.ScheduleChecked.the-variants.{Refused, Feasible}
 use Rattle.schedule.specs.Schedule.{tripleAt, running, makespan}
 
--- task by task 14, 15
+-- task by task 14, 15: of task i, by its calendar, its work time p, its box and its triple
+unfoldable pub oneTripleFault : List ℕ → ℕ → Bounds → ℕ → Triple → Option Fault
+oneTripleFault cal p b i x = unless (inBounds b x) 14 i orElse unless (validTriple cal p x) 15 i
+
 unfoldable pub tripleFault : Shifts → List ℕ → (ℕ → Triple) → ℕ → Option Fault
-tripleFault S boxes σ i =
-    unless (inBounds (boundsAt boxes i) (σ i)) 14 i
-    orElse unless (validTriple (calendarOf S i) (workTimeOf S i) (σ i)) 15 i
+tripleFault S boxes σ i = oneTripleFault (calendarOf S i) (workTimeOf S i) (boundsAt boxes i) i (σ i)
 
 -- 16
 unfoldable pub hourFault : Plan → (ℕ → Triple) → ℕ → Option Fault
@@ -31,17 +33,19 @@ unfoldable pub scheduleFault : Plan → List ℕ → (ℕ → Triple) → Option
 scheduleFault P boxes σ = firstOf (tripleFault (P .shifts) boxes σ) (taskCount P) orElse firstOf (hourFault P σ) (P .shifts .hours)
 
 -- one triple for each task
-unfoldable pub isSized : Plan → List ℕ → Bool
-isSized P schedule = eqb (length schedule) (tripleNumbers * taskCount P)
+unfoldable pub isSized : ℕ → List ℕ → Bool
+isSized tasks schedule = eqb (length schedule) (tripleNumbers * tasks)
 
--- 31, the plan's tests, the schedule's; accepted with the makespan
-unfoldable pub checkSchedule : Plan → List ℕ → List ℕ → Answer ℕ
-checkSchedule P boxes schedule =
-    answerUnless
-    (unless (oneForEachTask (P .shifts .taskCalendars) (P .shifts .workTimes) (P .heights) boxes and isSized P schedule) 31 0
+-- 31, the plan's tests, the schedule's
+unfoldable pub checkFault : Plan → List ℕ → List ℕ → Option Fault
+checkFault P boxes schedule =
+    unless (oneForEachTask (P .shifts .taskCalendars) (P .shifts .workTimes) (P .heights) boxes and isSized (taskCount P) schedule) 31 0
     orElse planFault P boxes
-    orElse scheduleFault P boxes (tripleAt schedule))
-    (makespan P (tripleAt schedule))
+    orElse scheduleFault P boxes (tripleAt schedule)
+
+-- accepted with the makespan
+unfoldable pub checkSchedule : Plan → List ℕ → List ℕ → Answer ℕ
+checkSchedule P boxes schedule = answerUnless (checkFault P boxes schedule) (makespan P (tripleAt schedule))
 
 -- the number and the values of each case of the answer
 abbrev pub scheduleAnswer : ScheduleChecked → Answer ℕ

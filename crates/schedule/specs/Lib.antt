@@ -1,4 +1,4 @@
 pub mod Schedule
 pub mod Entry
-pub mod Ready
 pub mod Decision
+pub mod inner

@@ -8,18 +8,18 @@ use units::Height;
 use units::Hour;
 ghost use mathlib.Core.Path.{_≡_};
 ghost use Prim.Native.Nat.{_+_, _*_, _≤_, max};
-ghost use lib.Dec.{leb};
 ghost use lib.ListN.{length};
-ghost use Rattle.units.specs.Choice.{_orElse_, firstOf};
+ghost use Rattle.units.specs.Choice.{_and_, firstOf};
 ghost use Rattle.units.specs.Limits.{mostHours, within};
 ghost use Rattle.units.specs.Sums.{maxTo};
-ghost use Rattle.plan.specs.Refusals.{unless, answerUnless, testedFault};
-ghost use Rattle.plan.specs.Lent.{old, oldShifts, oldPlan};
-ghost use Rattle.calendar.specs.Triples.{tripleNumbers, endOf, validTriple, inBounds};
-ghost use Rattle.schedule.specs.Schedule.{tripleAt, runs, makespan};
-ghost use Rattle.schedule.specs.Ready.{TriplesReady, HoursReady, EndsReady, runningHeights};
-ghost use Rattle.schedule.specs.Entry.{tripleFault, checkSchedule, scheduleAnswer};
+ghost use Rattle.plan.specs.Refusals.{testedFault};
+ghost use Rattle.plan.specs.Faults.{oneForEachTask};
+ghost use Rattle.plan.specs.Lent.{old, shiftsOf, oldShifts, oldPlan};
+ghost use Rattle.calendar.specs.Triples.{tripleNumbers, endOf, inBounds};
+ghost use Rattle.schedule.specs.Schedule.{tripleAt, runs};
+ghost use Rattle.schedule.specs.Entry.{oneTripleFault, tripleFault, isSized, checkFault, checkSchedule, scheduleAnswer};
 ghost use Rattle.schedule.specs.Decision.{Decides};
+ghost use Rattle.schedule.specs.inner.Ready.{TriplesReady, HoursReady, EndsReady, runningHeights, heightsFault};
 
 // What the schedule checker answers; a feasible schedule with its makespan.
 pub enum ScheduleChecked {
@@ -71,8 +71,7 @@ fn test_triple(
     t: Triple,
 ) -> Tested
     requires { ⌜ length (now calendar) ≤ mostHours ⌝ }
-    ensures { λ r. ⌜ testedFault r ≡ (unless (inBounds bounds t) 14 task
-        orElse unless (validTriple (old calendar) («work_time» .0) t) 15 task) ⌝ }
+    ensures { λ r. ⌜ testedFault r ≡ oneTripleFault (old calendar) («work_time» .0) bounds task t ⌝ }
 {
     if !is_in_bounds(bounds, t) {
         return Tested::Refused(Refusal::OutsideBounds(task));
@@ -92,11 +91,9 @@ fn test_triples(
     boxes: &[u16],
     schedule: &[u16],
 ) -> Tested
-    requires { ⌜ TriplesReady (hours .0) (now calendars) (now «task_calendars») (now «work_times») (now boxes) (now schedule) ⌝ }
-    ensures { λ r. ⌜ testedFault r ≡ firstOf
-        (tripleFault (oldShifts (hours .0) calendars «task_calendars» «work_times») (old boxes)
-        (tripleAt (old schedule)))
-        (length (old «task_calendars»)) ⌝ }
+    requires { ⌜ TriplesReady (shiftsOf (hours .0) calendars «task_calendars» «work_times») (now boxes) (now schedule) ⌝ }
+    ensures { λ r. let S = oldShifts (hours .0) calendars «task_calendars» «work_times» in
+        ⌜ testedFault r ≡ firstOf (tripleFault S (old boxes) (tripleAt (old schedule))) (length (S .taskCalendars)) ⌝ }
 {
     for i in 0..task_calendars.len() {
         let tested = test_triple(
@@ -141,9 +138,7 @@ fn running_heights(heights: &[u16], schedule: &[u16], hour: Hour) -> u16
 // 16, at the first hour in which the running tasks take more than the capacity.
 fn test_hours(hours: Duration, capacity: Height, heights: &[u16], schedule: &[u16]) -> Tested
     requires { ⌜ HoursReady (now heights) (now schedule) ⌝ }
-    ensures { λ r. ⌜ testedFault r ≡ firstOf
-        (λ t. unless (leb (runningHeights (old heights) (old schedule) t) (capacity .0)) 16 t)
-        (hours .0) ⌝ }
+    ensures { λ r. ⌜ testedFault r ≡ firstOf (heightsFault (capacity .0) (old heights) (old schedule)) (hours .0) ⌝ }
 {
     for hour in 0..hours.0 {
         if capacity.0 < running_heights(heights, schedule, Hour(hour)) {
@@ -151,6 +146,23 @@ fn test_hours(hours: Duration, capacity: Height, heights: &[u16], schedule: &[u1
         }
     }
     Tested::Passed
+}
+
+// Whether the fields, the boxes and the schedule number one for each task.
+fn is_right_size(
+    task_calendars: &[u16],
+    work_times: &[u16],
+    heights: &[u16],
+    boxes: &[u16],
+    schedule: &[u16],
+) -> bool
+    ensures { λ r. ⌜ r ≡ (oneForEachTask (old «task_calendars») (old «work_times») (old heights) (old boxes)
+        and isSized (length (old «task_calendars»)) (old schedule)) ⌝ }
+{
+    if !plan::has_one_for_each_task(task_calendars, work_times, heights, boxes) {
+        return false;
+    }
+    units::is_for_each(schedule.len(), Triple::NUMBERS, task_calendars.len())
 }
 
 // The tests of a schedule: 31, the plan's tests, the triples, the hours.
@@ -164,19 +176,13 @@ fn test_schedule(
     boxes: &[u16],
     schedule: &[u16],
 ) -> Tested
-    ensures { λ r. ⌜ answerUnless (testedFault r) (makespan
-        (oldPlan hours capacity calendars «task_calendars» «work_times» heights)
-        (tripleAt (old schedule))) ≡ checkSchedule
-        (oldPlan hours capacity calendars «task_calendars» «work_times» heights)
-        (old boxes) (old schedule) ⌝ }
+    ensures { λ r. let P = oldPlan hours capacity calendars «task_calendars» «work_times» heights in
+        ⌜ testedFault r ≡ checkFault P (old boxes) (old schedule) ⌝ }
 {
-    if !plan::has_one_for_each_task(task_calendars, work_times, heights, boxes) {
+    if !is_right_size(task_calendars, work_times, heights, boxes, schedule) {
         return Tested::Refused(Refusal::MemorySize);
     }
-    if !units::is_for_each(schedule.len(), Triple::NUMBERS, task_calendars.len()) {
-        return Tested::Refused(Refusal::MemorySize);
-    }
-    let input = plan::test_plan(
+    let by_plan = plan::test_plan(
         hours,
         capacity,
         calendars,
@@ -185,11 +191,11 @@ fn test_schedule(
         heights,
         boxes,
     );
-    let Tested::Passed = input else {
-        return input;
+    let Tested::Passed = by_plan else {
+        return by_plan;
     };
     let plan_length = Duration(hours);
-    let triples = test_triples(
+    let by_triples = test_triples(
         plan_length,
         calendars,
         task_calendars,
@@ -197,8 +203,8 @@ fn test_schedule(
         boxes,
         schedule,
     );
-    let Tested::Passed = triples else {
-        return triples;
+    let Tested::Passed = by_triples else {
+        return by_triples;
     };
     test_hours(plan_length, Height(capacity), heights, schedule)
 }
@@ -235,12 +241,10 @@ pub fn check_schedule(
     boxes: &[u16],
     schedule: &[u16],
 ) -> ScheduleChecked
-    ensures { λ r. ⌜ scheduleAnswer r ≡ checkSchedule
-        (oldPlan hours capacity calendars «task_calendars» «work_times» heights)
-        (old boxes) (old schedule) ⌝ }
-    ensures exactly { λ r. ⌜ Decides
-        (oldPlan hours capacity calendars «task_calendars» «work_times» heights)
-        (old boxes) (old schedule) (scheduleAnswer r) ⌝ }
+    ensures { λ r. let P = oldPlan hours capacity calendars «task_calendars» «work_times» heights in
+        ⌜ scheduleAnswer r ≡ checkSchedule P (old boxes) (old schedule) ⌝ }
+    ensures exactly { λ r. let P = oldPlan hours capacity calendars «task_calendars» «work_times» heights in
+        ⌜ Decides P (old boxes) (old schedule) (scheduleAnswer r) ⌝ }
 {
     let tested = test_schedule(
         hours,

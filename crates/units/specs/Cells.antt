@@ -1,6 +1,5 @@
 -- Lent memory, as the list of its cells.
 use mathlib.Core.List.{List, _++_}
-use Prim.Native.Nat.{ℕ}
 use lib.ListN.{length, drop}
 
 -- the cells from the first on become xs; those past them are untouched

@@ -1,20 +1,22 @@
 use mathlib.Core.Path.{refl}
+use Prim.Native.Nat.{ℕ, _*_, _≤_}
 use native.Mathlib.Nat.{mul-le-mul}
 use native.Mathlib.Omega.{arith}
-use Rattle.plan.specs.Plan.{firstSymbol}
 use borrow.Author.Needs.{needs}
+use Rattle.plan.specs.Plan.{firstSymbol}
 use Rattle.plan.proofs.first_symbol.Statement.{statement}
 use Rattle.plan.proofs.first_symbol.Tie as tie
 
-cast-result : tie.Need-cast-result
-cast-result c = search needs
+-- the product of two numbers of 16 bits
+small : (a b : ℕ) → a ≤ 65535 → b ≤ 65535 → a * b ≤ 65535 * 65535
+small a b p q = mul-le-mul p q
 
 mul-result : tie.Need-mul-result
-mul-result c = omega (arith, mul-le-mul {n₁ = c .before .args .number} {m₁ = c .before .args .hours .0} {n₂ = 65535} {m₂ = 65535} (omega arith) (omega arith))
+mul-result c = let a = c .before .args in omega (arith, small (a .number) (a .hours .0) (omega arith) (omega arith))
 
 returns : tie.Need-returns
 unfolding firstSymbol
 returns c = refl
 
 pub first-symbol-spec : {M : Type 1} → statement M
-first-symbol-spec = tie.close (tie.spec cast-result mul-result returns)
+first-symbol-spec = tie.close (tie.spec (λ c. search needs) mul-result returns)

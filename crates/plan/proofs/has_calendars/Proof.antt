@@ -19,4 +19,12 @@ returns-2 c =
     ∙ sym (and-rest _ _ (eq-eqb _ _ (c .before .before .if1 .left)))
 
 pub has-calendars-spec : {M : Type 1} → statement M
-has-calendars-spec = tie.close (tie.spec (λ c. search needs) (λ c. search needs) returns (λ c κs. search needs) (λ c κs. search needs) returns-2)
+has-calendars-spec =
+    tie.close
+    (tie.spec
+    (λ c. search needs)
+    (λ c. search needs)
+    returns
+    (λ c κs. search needs)
+    (λ c κs. search needs)
+    returns-2)

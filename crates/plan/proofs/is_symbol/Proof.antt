@@ -26,4 +26,11 @@ returns-3 c =
 
 pub is-symbol-spec : {M : Type 1} → statement M
 is-symbol-spec =
-    tie.close (tie.spec (λ c κs. search needs) returns (λ c κs. search needs) returns-2 (λ c κs. search needs) returns-3)
+    tie.close
+    (tie.spec
+    (λ c κs. search needs)
+    returns
+    (λ c κs. search needs)
+    returns-2
+    (λ c κs. search needs)
+    returns-3)

@@ -16,10 +16,10 @@ use Rattle.plan.proofs.test_calendars.Tie as tie
 long : (c : tie.After-known-told) → isPlanLength (c .before .before .before .before .before .args .hours) ≡ true
 long c = if-some _ _ _ (sym (c .before .before .before .of-plan .ensures) ∙ ap durationMade (c .before .plan-length .given .1)) .0
 
-tested : (c : tie.After-has-calendars)
+same-calendars : (c : tie.After-has-calendars)
     → let a = c .before .before .before .before .before .before .args in
     isCalendars (a .hours) (a .calendars .now) ≡ c .has-calendars .result
-tested c =
+same-calendars c =
     let told = c .before .before in
     let made = if-some _ _ _ (sym (told .before .before .of-plan .ensures) ∙ ap durationMade (told .plan-length .given .1)) in
     let calendars = told .before .before .before .before .args .calendars .now in
@@ -37,16 +37,24 @@ has-calendars-requires c κs =
 
 returns-2 : tie.Need-returns-2
 unfolding calendarsFault
-returns-2 c = sym (go-on _ 2 0 _ (long (c .before .before)) ∙ refuse _ 3 0 _ (tested (c .before) ∙ not-true _ (c .if1 .taken)))
+returns-2 c = sym (go-on _ 2 0 _ (long (c .before .before)) ∙ refuse _ 3 0 _ (same-calendars (c .before) ∙ not-true _ (c .if1 .taken)))
 
 returns-3 : tie.Need-returns-3
 unfolding calendarsFault
 returns-3 c =
     let place = c .before .before in
     c .test-symbols .ensures
-    ∙ sym (go-on _ 2 0 _ (long (place .before)) ∙ go-on _ 3 0 _ (tested place ∙ not-false _ (c .before .if1 .left)))
+    ∙ sym (go-on _ 2 0 _ (long (place .before)) ∙ go-on _ 3 0 _ (same-calendars place ∙ not-false _ (c .before .if1 .left)))
 
 pub test-calendars-spec : {M : Type 1} → statement M
 test-calendars-spec =
     tie.close
-    (tie.spec (λ c κs. search needs) (λ c. search needs) (λ c. search needs) returns has-calendars-requires returns-2 (λ c κs. search needs) returns-3)
+    (tie.spec
+    (λ c κs. search needs)
+    (λ c. search needs)
+    (λ c. search needs)
+    returns
+    has-calendars-requires
+    returns-2
+    (λ c κs. search needs)
+    returns-3)

@@ -29,4 +29,13 @@ returns-3 c =
     ∙ unless-true _ 10 0 (if-some _ _ _ (sym (c .before .before .of-plan .ensures) ∙ ap heightMade (c .enum-told .given .1)) .0))
 
 pub test-counts-spec : {M : Type 1} → statement M
-test-counts-spec = tie.close (tie.spec (λ c κs. search needs) returns (λ c κs. search needs) (λ c. search needs) (λ c. search needs) returns-2 returns-3)
+test-counts-spec =
+    tie.close
+    (tie.spec
+    (λ c κs. search needs)
+    returns
+    (λ c κs. search needs)
+    (λ c. search needs)
+    (λ c. search needs)
+    returns-2
+    returns-3)

@@ -1,13 +1,9 @@
-use mathlib.Core.Path.{_≡_, sym, _∙_}
-use mathlib.Core.Bool.{true, false}
-use mathlib.Core.Option.{none, some}
+use mathlib.Core.Path.{sym, _∙_}
 use Prim.Native.Nat.{_-_}
-use native.Mathlib.Omega.{arith}
 use lib.ListN.{length}
 use borrow.Author.Needs.{needs}
 use borrow.Author.Tests.{not-true, not-false}
 use Rattle.units.proofs.Searching.{Unfound, unfound-first, unfound-next, unfound-hit, unfound-end}
-use Rattle.plan.specs.Refusals.{fault}
 use Rattle.plan.specs.Faults.{symbolFault}
 use Rattle.plan.proofs.Refusing.{unless-true, unless-false}
 use Rattle.plan.proofs.test_symbols.Statement.{statement}

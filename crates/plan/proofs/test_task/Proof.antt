@@ -65,12 +65,14 @@ returns-3 c =
 returns-4 : tie.Need-returns-4
 returns-4 c =
     let place = c .before .before .before in
-    sym (by-box place ∙ unless-false _ 9 _ (same-box place ∙ if-none _ _ (sym (c .before .before .of-task2 .ensures) ∙ ap boundsMade (c .enum-told7 .given .1))))
+    let made = sym (c .before .before .of-task2 .ensures) ∙ ap boundsMade (c .enum-told7 .given .1) in
+    sym (by-box place ∙ unless-false _ 9 _ (same-box place ∙ if-none _ _ made))
 
 returns-5 : tie.Need-returns-5
 returns-5 c =
     let place = c .before .before .before in
-    sym (by-box place ∙ unless-true _ 9 _ (same-box place ∙ if-some _ _ _ (sym (c .before .before .of-task2 .ensures) ∙ ap boundsMade (c .enum-told6 .given .1)) .0))
+    let made = sym (c .before .before .of-task2 .ensures) ∙ ap boundsMade (c .enum-told6 .given .1) in
+    sym (by-box place ∙ unless-true _ 9 _ (same-box place ∙ if-some _ _ _ made .0))
 
 pub test-task-spec : {M : Type 1} → statement M
 test-task-spec =

@@ -25,24 +25,24 @@ turn c = c .before .before .before .before .before
 abbrev entry : tie.After-test-task Inv-loop μ-loop → tie.Start Inv-loop μ-loop
 entry c = turn c .before .before .before .before .before .before .before .before
 
-tested : (c : tie.After-test-task Inv-loop μ-loop)
+own-test : (c : tie.After-test-task Inv-loop μ-loop)
     → let a = entry c .args in
     testedFault (c .test-task .result)
     ≡ taskFault (shifts (a .hours .0) (a .calendars .now) (a .task-calendars .now) (a .work-times .now)) (a .heights .now) (a .boxes .now)
     (turn c .before .loop .i)
-tested c = task-is _ _ _ _ _ _ _ (turn c .before .before .calendar-count .ensures) (c .before .bounds-at .ensures) (c .test-task .ensures)
+own-test c = task-is _ _ _ _ _ _ _ (turn c .before .before .calendar-count .ensures) (c .before .bounds-at .ensures) (c .test-task .ensures)
 
 returns : tie.Need-returns Inv-loop μ-loop
 unfolding tasksFault
 returns c =
     let place = c .before .before in
     let told = ap testedFault (c .enum-told2 .given .1) in
-    told ∙ sym (unfound-hit (turn place .before .loop .inv) (turn place .loop-test .taken) (sym (tested place) ∙ told))
+    told ∙ sym (unfound-hit (turn place .before .loop .inv) (turn place .loop-test .taken) (sym (own-test place) ∙ told))
 
 loop-again : tie.Need-loop-again Inv-loop μ-loop
 loop-again c =
     let place = c .before .before in
-    unfound-next (turn place .before .loop .inv) (turn place .loop-test .taken) (sym (tested place) ∙ ap testedFault (c .enum-told .given .1))
+    unfound-next (turn place .before .loop .inv) (turn place .loop-test .taken) (sym (own-test place) ∙ ap testedFault (c .enum-told .given .1))
 
 returns-2 : tie.Need-returns-2 Inv-loop μ-loop
 unfolding tasksFault

@@ -4,10 +4,10 @@ use native.Mathlib.Omega.{arith}
 use borrow.Author.Needs.{needs}
 use Rattle.units.specs.Limits.{mostHours}
 use Rattle.units.specs.Sums.{maxTo}
+use Rattle.units.proofs.Summing.{max-with}
 use Rattle.calendar.specs.Triples.{endOf}
 use Rattle.schedule.specs.Schedule.{tripleAt}
 use Rattle.schedule.proofs.Testing.{ends-as, end-as}
-use Rattle.units.proofs.Summing.{max-with}
 use Rattle.schedule.proofs.latest_end.Statement.{statement}
 use Rattle.schedule.proofs.latest_end.Tie as tie
 
@@ -21,23 +21,16 @@ loop-holds : tie.Need-loop-holds Inv-loop μ-loop
 unfolding maxTo
 loop-holds c = (omega arith, refl)
 
-triple-at-requires : tie.Need-triple-at-requires Inv-loop μ-loop
-triple-at-requires c κs = search needs
-
 plus-requires : tie.Need-plus-requires Inv-loop μ-loop
-plus-requires c κs = ends-as _ _ (c .before .triple-at .ensures) mostHours (c .before .before .before .before .before .pre .ends _ (omega arith))
-
-later-requires : tie.Need-later-requires Inv-loop μ-loop
-later-requires c κs = search needs
-
-add-i : tie.Need-add-i Inv-loop μ-loop
-add-i c = search needs
-
-loop-less : tie.Need-loop-less Inv-loop μ-loop
-loop-less c = search needs
+plus-requires c κs =
+    let turn = c .before .before in
+    ends-as _ _ (c .before .triple-at .ensures) mostHours (turn .before .before .before .pre .ends _ (turn .loop-test .taken))
 
 loop-again : tie.Need-loop-again Inv-loop μ-loop
-loop-again c = (omega arith, max-with _ _ _ _ _ (c .before .before .before .before .before .loop .inv .1) (end-as _ _ (c .before .before .before .triple-at .ensures) _ (c .before .plus .ensures)) (c .later .ensures))
+loop-again c =
+    let triple = c .before .before .before in
+    let end = end-as _ _ (triple .triple-at .ensures) _ (c .before .plus .ensures) in
+    (omega arith, max-with _ _ _ _ _ (triple .before .before .loop .inv .1) end (c .later .ensures))
 
 returns : tie.Need-returns Inv-loop μ-loop
 returns c =
@@ -51,10 +44,10 @@ latest-end-spec =
     Inv-loop
     μ-loop
     loop-holds
-    triple-at-requires
+    (λ c κs. search needs)
     plus-requires
-    later-requires
-    add-i
-    loop-less
+    (λ c κs. search needs)
+    (λ c. search needs)
+    (λ c. search needs)
     loop-again
     returns)

@@ -1,4 +1,3 @@
-use Rattle.schedule.proofs.Testing.{runs-as}
 use mathlib.Core.Path.{_≡_, refl, _∙_}
 use mathlib.Core.Logic.{⊎-elim}
 use Prim.Native.Nat.{_-_, _≤_}
@@ -7,9 +6,10 @@ use lib.ListN.{length, getD}
 use borrow.Author.Needs.{needs}
 use Rattle.units.specs.Limits.{mostHeight}
 use Rattle.units.specs.Sums.{sumTo, sumWhere}
-use Rattle.schedule.specs.Schedule.{tripleAt, runs}
-use Rattle.schedule.proofs.running_heights.Statement.{statement}
 use Rattle.units.proofs.Summing.{where-more, where-skip, where-most}
+use Rattle.schedule.specs.Schedule.{tripleAt, runs}
+use Rattle.schedule.proofs.Testing.{runs-as}
+use Rattle.schedule.proofs.running_heights.Statement.{statement}
 use Rattle.schedule.proofs.running_heights.Tie as tie
 
 abbrev Inv-loop : tie.InvT-loop
@@ -23,35 +23,24 @@ loop-holds : tie.Need-loop-holds Inv-loop μ-loop
 unfolding sumWhere sumTo
 loop-holds c = (omega arith, refl)
 
-triple-at-requires : tie.Need-triple-at-requires Inv-loop μ-loop
-triple-at-requires c κs = search needs
-
-is-running-requires : tie.Need-is-running-requires Inv-loop μ-loop
-is-running-requires c κs = search needs
-
-mul-sum : tie.Need-mul-sum Inv-loop μ-loop
-mul-sum c = search needs
-
-shared-slice-read-sum : tie.Need-shared-slice-read-sum Inv-loop μ-loop
-shared-slice-read-sum c = search needs
-
 add-sum : tie.Need-add-sum Inv-loop μ-loop
 add-sum c =
-    let ready = c .before .before .before .before .before .before .before .before .pre in
-    omega (arith, ready .heights (c .before .before .before .before .before .loop .i) (omega arith), where-most _ _ _ _ mostHeight (c .before .before .before .before .before .loop .inv .1) (λ j l. ready .heights j (omega arith)))
-
-add-i : tie.Need-add-i Inv-loop μ-loop
-add-i c = search needs
-
-loop-less : tie.Need-loop-less Inv-loop μ-loop
-loop-less c = search needs
+    let turn = c .before .before .before .before in
+    let ready = turn .before .before .before .before .pre in
+    let small = where-most _ _ _ _ mostHeight (turn .before .loop .inv .1) (λ j l. ready .heights j (omega arith)) in
+    omega (arith, ready .tasks, ready .heights (turn .before .loop .i) (turn .loop-test .taken), small)
 
 loop-again : tie.Need-loop-again Inv-loop μ-loop
 loop-again c =
-    let is = c .before .before .triple-at .ensures in
-    let runs-is = c .before .is-running .ensures in
     let sum-is = c .before .before .before .before .loop .inv .1 in
-    (omega arith, ⊎-elim (λ w. w .2 ∙ where-more _ _ _ _ sum-is (runs-as _ _ is _ _ _ runs-is (w .0 .taken))) (λ w. w .1 ∙ where-skip _ _ _ _ sum-is (runs-as _ _ is _ _ _ runs-is (w .0 .left))) (c .if1 .came))
+    let is = c .before .before .triple-at .ensures in
+    let runs-is = c .before .is-running .ensures in (
+      omega arith,
+      ⊎-elim
+          (λ w. w .2 ∙ where-more _ _ _ _ sum-is (runs-as _ _ is _ _ _ runs-is (w .0 .taken)))
+          (λ w. w .1 ∙ where-skip _ _ _ _ sum-is (runs-as _ _ is _ _ _ runs-is (w .0 .left)))
+          (c .if1 .came),
+    )
 
 returns : tie.Need-returns Inv-loop μ-loop
 returns c =
@@ -65,12 +54,12 @@ running-heights-spec =
     Inv-loop
     μ-loop
     loop-holds
-    triple-at-requires
-    is-running-requires
-    mul-sum
-    shared-slice-read-sum
+    (λ c κs. search needs)
+    (λ c κs. search needs)
+    (λ c. search needs)
+    (λ c. search needs)
     add-sum
-    add-i
-    loop-less
+    (λ c. search needs)
+    (λ c. search needs)
     loop-again
     returns)

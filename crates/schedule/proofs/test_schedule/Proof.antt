@@ -1,93 +1,88 @@
-use mathlib.Core.Path.{sym, ap, _∙_}
+use mathlib.Core.Path.{_≡_, sym, ap, _∙_}
+use borrow.Author.Needs.{needs}
 use borrow.Author.Tests.{not-true, not-false}
-use Rattle.units.proofs.Choices.{not-left, not-right, else-none, else-some}
-use Rattle.plan.specs.Plan.{taskCount}
-use Rattle.plan.specs.Plan.{taskCount}
+use Rattle.units.proofs.Choices.{and-left, else-none, outer-ends, outer-goes-on}
+use Rattle.plan.specs.Plan.{Plan, plan, taskCount}
 use Rattle.plan.specs.Refusals.{testedFault}
 use Rattle.plan.proofs.Refusing.{go-on, refuse}
-use Rattle.schedule.specs.Entry.{isSized, scheduleFault}
+use Rattle.schedule.specs.Schedule.{tripleAt}
+use Rattle.schedule.specs.Entry.{scheduleFault, checkFault}
+use Rattle.schedule.specs.Decision.{RightSize}
 use Rattle.schedule.proofs.Testing.{hours-are}
-use Rattle.schedule.proofs.Readiness.{right-size, same-heights, triples-ready, hours-ready}
-use Rattle.schedule.proofs.Decision.{checks-as}
-use borrow.Author.Needs.{needs}
+use Rattle.schedule.proofs.Readiness.{InputPasses, same-heights, triples-ready, hours-ready}
 use Rattle.schedule.proofs.test_schedule.Statement.{statement}
 use Rattle.schedule.proofs.test_schedule.Tie as tie
 
-has-one-for-each-task-requires : tie.Need-has-one-for-each-task-requires
-has-one-for-each-task-requires c κs = search needs
+-- the plan that is asked of, and memory of the right size
+abbrev asked : tie.Start → Plan
+asked s =
+    let a = s .args in
+    plan (a .hours) (a .capacity) (a .calendars .now) (a .task-calendars .now) (a .work-times .now) (a .heights .now)
+
+abbrev entry : tie.Else1 → tie.Start
+entry c = c .before .before .before .before .before .before .before .before
+
+sized : (c : tie.Else1) → RightSize (asked (entry c)) (entry c .args .boxes .now) (entry c .args .schedule .now)
+unfolding taskCount
+sized c = sym (c .before .is-right-size .ensures) ∙ not-false _ (c .if1 .left)
+
+-- and a plan that passes
+abbrev size-place : tie.After-enum-told → tie.Else1
+size-place c = c .before .before .before
+
+passes : (c : tie.After-enum-told)
+    → let start = entry (size-place c) in InputPasses (asked start) (start .args .boxes .now) (start .args .schedule .now)
+passes c =
+    record {
+      size = sized (size-place c);
+      passes = sym (c .before .before .test-plan .ensures) ∙ ap testedFault (c .enum-told .given .1);
+    }
+
+-- so that the schedule's tests decide
+by-schedule : (c : tie.After-enum-told)
+    → let start = entry (size-place c) in
+    checkFault (asked start) (start .args .boxes .now) (start .args .schedule .now)
+    ≡ scheduleFault (asked start) (start .args .boxes .now) (tripleAt (start .args .schedule .now))
+unfolding checkFault
+by-schedule c = go-on _ 31 0 _ (passes c .size) ∙ else-none _ _ (passes c .passes)
 
 returns : tie.Need-returns
-returns c = checks-as _ _ _ _ (sym (refuse _ 31 0 _ (not-left _ _ (sym (c .before .has-one-for-each-task .ensures) ∙ not-true _ (c .if1 .taken)))))
-
-is-for-each-requires : tie.Need-is-for-each-requires
-is-for-each-requires c κs = search needs
+unfolding checkFault taskCount
+returns c = sym (refuse _ 31 0 _ (sym (c .before .is-right-size .ensures) ∙ not-true _ (c .if1 .taken)))
 
 returns-2 : tie.Need-returns-2
-unfolding isSized taskCount
-returns-2 c = checks-as _ _ _ _ (sym (refuse _ 31 0 _ (not-right _ _ (sym (c .before .is-for-each .ensures) ∙ not-true _ (c .if2 .taken)))))
-
-test-plan-requires : tie.Need-test-plan-requires
-test-plan-requires c κs = sym (c .before .before .before .has-one-for-each-task .ensures) ∙ not-false _ (c .before .before .if1 .left)
-
-enum-told : tie.Need-enum-told
-enum-told c = search needs
-
-enum-told-2 : tie.Need-enum-told-2
-enum-told-2 c = search needs
+unfolding checkFault
+returns-2 c =
+    outer-ends _ _ (c .before .before .test-plan .ensures) (ap testedFault (c .enum-told2 .given .1))
+    ∙ sym (go-on _ 31 0 _ (sized (c .before .before .before)))
 
 returns-3 : tie.Need-returns-3
+unfolding scheduleFault taskCount
 returns-3 c =
-    let size = right-size _ _ _ _ _ (c .before .before .before .before .before .before .has-one-for-each-task .ensures) (c .before .before .before .before .before .if1 .left) (c .before .before .before .before .is-for-each .ensures) (c .before .before .before .if2 .left) in
-    let told = ap testedFault (c .enum-told2 .given .1) in
-    checks-as _ _ _ _ (told ∙ sym (go-on _ 31 0 _ size ∙ else-some _ _ _ (sym (c .before .before .test-plan .ensures) ∙ told)))
-
-test-triples-requires : tie.Need-test-triples-requires
-test-triples-requires c κs =
-    let size = right-size _ _ _ _ _ (c .before .before .before .before .before .before .has-one-for-each-task .ensures) (c .before .before .before .before .before .if1 .left) (c .before .before .before .before .is-for-each .ensures) (c .before .before .before .if2 .left) in
-    triples-ready _ _ _ size (sym (c .before .before .test-plan .ensures) ∙ ap testedFault (c .enum-told .given .1))
-
-enum-told-3 : tie.Need-enum-told-3
-enum-told-3 c = search needs
-
-enum-told-4 : tie.Need-enum-told-4
-enum-told-4 c = search needs
+    outer-ends _ _ (c .before .before .test-triples .ensures) (ap testedFault (c .enum-told4 .given .1)) ∙ sym (by-schedule (c .before .before .before))
 
 returns-4 : tie.Need-returns-4
 unfolding scheduleFault taskCount
 returns-4 c =
-    let size = right-size _ _ _ _ _ (c .before .before .before .before .before .before .before .before .before .has-one-for-each-task .ensures) (c .before .before .before .before .before .before .before .before .if1 .left) (c .before .before .before .before .before .before .before .is-for-each .ensures) (c .before .before .before .before .before .before .if2 .left) in
-    let passes = sym (c .before .before .before .before .before .test-plan .ensures) ∙ ap testedFault (c .before .before .before .enum-told .given .1) in
-    let told = ap testedFault (c .enum-told4 .given .1) in
-    checks-as _ _ _ _ (told ∙ sym (go-on _ 31 0 _ size ∙ else-none _ _ passes ∙ else-some _ _ _ (sym (c .before .before .test-triples .ensures) ∙ told)))
-
-test-hours-requires : tie.Need-test-hours-requires
-test-hours-requires c κs =
-    let size = right-size _ _ _ _ _ (c .before .before .before .before .before .before .before .before .before .has-one-for-each-task .ensures) (c .before .before .before .before .before .before .before .before .if1 .left) (c .before .before .before .before .before .before .before .is-for-each .ensures) (c .before .before .before .before .before .before .if2 .left) in
-    hours-ready _ _ _ size (sym (c .before .before .before .before .before .test-plan .ensures) ∙ ap testedFault (c .before .before .before .enum-told .given .1))
-
-returns-5 : tie.Need-returns-5
-unfolding scheduleFault taskCount
-returns-5 c =
-    let size = right-size _ _ _ _ _ (c .before .before .before .before .before .before .before .before .before .before .has-one-for-each-task .ensures) (c .before .before .before .before .before .before .before .before .before .if1 .left) (c .before .before .before .before .before .before .before .before .is-for-each .ensures) (c .before .before .before .before .before .before .before .if2 .left) in
-    let passes = sym (c .before .before .before .before .before .before .test-plan .ensures) ∙ ap testedFault (c .before .before .before .before .enum-told .given .1) in
-    let triples = sym (c .before .before .before .test-triples .ensures) ∙ ap testedFault (c .before .enum-told3 .given .1) in
-    checks-as _ _ _ _ (c .test-hours .ensures ∙ hours-are _ _ (same-heights _ _ _ size passes) ∙ sym (go-on _ 31 0 _ size ∙ else-none _ _ passes ∙ else-none _ _ triples))
+    let triples = c .before in
+    let plan = triples .before .before .before in
+    outer-goes-on _ _ (triples .before .before .test-triples .ensures) (ap testedFault (triples .enum-told3 .given .1))
+    (c .test-hours .ensures ∙ hours-are _ _ (same-heights (passes plan)))
+    ∙ sym (by-schedule plan)
 
 pub test-schedule-spec : {M : Type 1} → statement M
 test-schedule-spec =
     tie.close
     (tie.spec
-    has-one-for-each-task-requires
+    (λ c κs. search needs)
     returns
-    is-for-each-requires
+    (λ c κs. and-left _ _ (sized c))
+    (λ c. search needs)
+    (λ c. search needs)
     returns-2
-    test-plan-requires
-    enum-told
-    enum-told-2
+    (λ c κs. triples-ready (passes c))
+    (λ c. search needs)
+    (λ c. search needs)
     returns-3
-    test-triples-requires
-    enum-told-3
-    enum-told-4
-    returns-4
-    test-hours-requires
-    returns-5)
+    (λ c κs. hours-ready (passes (c .before .before .before)))
+    returns-4)

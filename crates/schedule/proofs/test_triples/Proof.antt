@@ -1,79 +1,63 @@
-use Rattle.schedule.proofs.Testing.{triple-is, taken-small}
-use Rattle.units.specs.Limits.{mostHours}
-use mathlib.Core.Path.{_≡_, refl, sym, ap, _∙_}
-use mathlib.Core.Option.{none}
-use mathlib.Core.List.{[]}
-use Prim.Native.Nat.{_≤_, _-_}
+use mathlib.Core.Path.{_≡_, sym, ap, _∙_}
+use Prim.Native.Nat.{_-_}
 use native.Mathlib.Omega.{arith}
 use lib.ListN.{length}
 use borrow.Author.Needs.{needs}
-use Rattle.units.specs.Choice.{firstOf}
-use Rattle.units.proofs.Choices.{first-next, first-hit, first-end}
+use Rattle.units.specs.Limits.{mostHours}
+use Rattle.units.proofs.Searching.{Unfound, unfound-first, unfound-next, unfound-hit, unfound-end}
 use Rattle.plan.specs.Plan.{shifts}
 use Rattle.plan.specs.Refusals.{testedFault}
 use Rattle.schedule.specs.Schedule.{tripleAt}
 use Rattle.schedule.specs.Entry.{tripleFault}
+use Rattle.schedule.proofs.Testing.{triple-is, taken-small}
 use Rattle.schedule.proofs.test_triples.Statement.{statement}
 use Rattle.schedule.proofs.test_triples.Tie as tie
 
 abbrev Inv-loop : tie.InvT-loop
 Inv-loop hours calendars task-calendars work-times boxes schedule i₀ i-end i =
-    (i ≤ length task-calendars)
-    × (firstOf (tripleFault (shifts (hours .0) calendars task-calendars work-times) boxes (tripleAt schedule)) i ≡ none)
+    Unfound (tripleFault (shifts (hours .0) calendars task-calendars work-times) boxes (tripleAt schedule)) (length task-calendars) i
 
 abbrev μ-loop : tie.MeasureT-loop
 μ-loop hours calendars task-calendars work-times boxes schedule i₀ i-end i = i-end - i
 
-loop-holds : tie.Need-loop-holds Inv-loop μ-loop
-unfolding firstOf
-loop-holds c = (omega arith, refl)
+-- a turn, and the task's own test in it
+abbrev turn : tie.After-test-triple Inv-loop μ-loop → tie.In-loop Inv-loop μ-loop
+turn c = c .before .before .before .before .before .before
 
-mul-calendar-at : tie.Need-mul-calendar-at Inv-loop μ-loop
-mul-calendar-at c = search needs
+abbrev entry : tie.In-loop Inv-loop μ-loop → tie.Start Inv-loop μ-loop
+entry c = c .before .before .before .before .before .before .before
 
-shared-slice-read-calendar-at : tie.Need-shared-slice-read-calendar-at Inv-loop μ-loop
-shared-slice-read-calendar-at c = search needs
+own-test : (c : tie.After-test-triple Inv-loop μ-loop)
+    → let a = entry (turn c) .args in
+    testedFault (c .test-triple .result)
+    ≡ tripleFault (shifts (a .hours .0) (a .calendars .now) (a .task-calendars .now) (a .work-times .now)) (a .boxes .now)
+    (tripleAt (a .schedule .now)) (turn c .before .loop .i)
+own-test c =
+    let triple = c .before in
+    triple-is _ _ _ _ _ _ _ _ (triple .before .before .before .calendar-at .ensures) (triple .before .bounds-at .ensures)
+    (triple .triple-at .ensures) (c .test-triple .ensures)
 
 calendar-at-requires : tie.Need-calendar-at-requires Inv-loop μ-loop
-calendar-at-requires c κs = c .before .before .before .before .before .before .before .before .pre .calendar _ (omega arith)
-
-mul-t15 : tie.Need-mul-t15 Inv-loop μ-loop
-mul-t15 c = search needs
-
-shared-slice-read-t17 : tie.Need-shared-slice-read-t17 Inv-loop μ-loop
-shared-slice-read-t17 c = search needs
-
-bounds-at-requires : tie.Need-bounds-at-requires Inv-loop μ-loop
-bounds-at-requires c κs = search needs
-
-triple-at-requires : tie.Need-triple-at-requires Inv-loop μ-loop
-triple-at-requires c κs = search needs
+calendar-at-requires c κs = entry (c .before) .pre .calendar _ (c .before .loop-test .taken)
 
 test-triple-requires : tie.Need-test-triple-requires Inv-loop μ-loop
-test-triple-requires c κs = taken-small _ _ _ mostHours (c .before .before .before .calendar-at .ensures) (c .before .before .before .before .before .before .before .before .before .before .before .before .pre .hours)
-
-enum-told : tie.Need-enum-told Inv-loop μ-loop
-enum-told c = search needs
-
-enum-told-2 : tie.Need-enum-told-2 Inv-loop μ-loop
-enum-told-2 c = search needs
+test-triple-requires c κs =
+    let calendar = c .before .before .before in
+    taken-small _ _ _ mostHours (calendar .calendar-at .ensures) (entry (calendar .before .before) .pre .hours)
 
 returns : tie.Need-returns Inv-loop μ-loop
 returns c =
+    let place = c .before .before in
     let told = ap testedFault (c .enum-told2 .given .1) in
-    told ∙ sym (first-hit (tripleFault _ _ _) _ _ _ (c .before .before .before .before .before .before .before .before .loop-test .taken) (c .before .before .before .before .before .before .before .before .before .loop .inv .1) (sym (triple-is _ _ _ _ _ _ _ _ _ (c .before .before .before .before .before .before .calendar-at .ensures) refl (c .before .before .before .before .bounds-at .ensures) (c .before .before .before .triple-at .ensures) (c .before .before .test-triple .ensures)) ∙ told))
-
-add-i : tie.Need-add-i Inv-loop μ-loop
-add-i c = omega (arith, c .before .before .before .before .before .before .before .before .before .before .before .before .before .before .before .good)
-
-loop-less : tie.Need-loop-less Inv-loop μ-loop
-loop-less c = search needs
+    told ∙ sym (unfound-hit (turn place .before .loop .inv) (turn place .loop-test .taken) (sym (own-test place) ∙ told))
 
 loop-again : tie.Need-loop-again Inv-loop μ-loop
-loop-again c = (omega arith, first-next (tripleFault _ _ _) _ (c .before .before .before .before .before .before .before .before .before .loop .inv .1) ∙ sym (triple-is _ _ _ _ _ _ _ _ _ (c .before .before .before .before .before .before .calendar-at .ensures) refl (c .before .before .before .before .bounds-at .ensures) (c .before .before .before .triple-at .ensures) (c .before .before .test-triple .ensures)) ∙ ap testedFault (c .enum-told .given .1))
+loop-again c =
+    let place = c .before .before in
+    unfound-next (turn place .before .loop .inv) (turn place .loop-test .taken) (sym (own-test place) ∙ ap testedFault (c .enum-told .given .1))
 
 returns-2 : tie.Need-returns-2 Inv-loop μ-loop
-returns-2 c = sym (first-end (tripleFault _ _ _) _ _ (c .before .loop .inv .0) (c .loop-test .left) (c .before .loop .inv .1))
+returns-2 c = sym (unfound-end (c .before .loop .inv) (c .loop-test .left))
 
 pub test-triples-spec : {M : Type 1} → statement M
 test-triples-spec =
@@ -81,19 +65,19 @@ test-triples-spec =
     (tie.spec
     Inv-loop
     μ-loop
-    loop-holds
-    mul-calendar-at
-    shared-slice-read-calendar-at
+    (λ c. unfound-first)
+    (λ c. search needs)
+    (λ c. search needs)
     calendar-at-requires
-    mul-t15
-    shared-slice-read-t17
-    bounds-at-requires
-    triple-at-requires
+    (λ c. search needs)
+    (λ c. search needs)
+    (λ c κs. search needs)
+    (λ c κs. search needs)
     test-triple-requires
-    enum-told
-    enum-told-2
+    (λ c. search needs)
+    (λ c. search needs)
     returns
-    add-i
-    loop-less
+    (λ c. omega (arith, entry (turn (c .before .before)) .good))
+    (λ c. search needs)
     loop-again
     returns-2)

@@ -27,4 +27,13 @@ returns-5 : tie.Need-returns-5
 returns-5 c = ends-by-most _ _ _ (omega arith) (omega arith) (c .before .before .if3 .left) (omega arith)
 
 pub may-end-spec : {M : Type 1} → statement M
-may-end-spec = tie.close (tie.spec returns (λ c. search needs) returns-2 returns-3 returns-4 (λ c. search needs) returns-5)
+may-end-spec =
+    tie.close
+    (tie.spec
+    returns
+    (λ c. search needs)
+    returns-2
+    returns-3
+    returns-4
+    (λ c. search needs)
+    returns-5)

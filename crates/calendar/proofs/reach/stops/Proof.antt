@@ -12,4 +12,10 @@ returns-2 : tie.Need-returns-2
 returns-2 c = ap not (c .may-last .ensures) ∙ stops-longer _ _ _ _ _ _ (c .before .if1 .left)
 
 pub stops-spec : {M : Type 1} → statement M
-stops-spec = tie.close (tie.spec (λ c κs. counts-small (c .before .before .pre .stretch)) returns (λ c κs. search needs) returns-2)
+stops-spec =
+    tie.close
+    (tie.spec
+    (λ c κs. counts-small (c .before .before .pre .stretch))
+    returns
+    (λ c κs. search needs)
+    returns-2)

@@ -1,4 +1,4 @@
-use mathlib.Core.Path.{sym, _∙_}
+use mathlib.Core.Path.{sym}
 use Rattle.units.specs.Limits.{isCalendarCount}
 use Rattle.units.proofs.Ranges.{too-small, by-most}
 use Rattle.units.proofs.CalendarNumber.is_count.Statement.{statement}

@@ -19,4 +19,11 @@ returns-3 c =
 pub are-in-order-spec : {M : Type 1} → statement M
 are-in-order-spec =
     tie.close
-    (tie.spec (λ c. search needs) (λ c. search needs) returns (λ c. search needs) (λ c. search needs) returns-2 returns-3)
+    (tie.spec
+    (λ c. search needs)
+    (λ c. search needs)
+    returns
+    (λ c. search needs)
+    (λ c. search needs)
+    returns-2
+    returns-3)

@@ -1,21 +1,24 @@
--- What the private functions lean on: the plan passed its tests, and the memory is of the right size. Only their contracts cite this.
+-- What the private functions lean on: the plan passed its tests, and the memory is of the right size.
 use mathlib.Core.Path.{_≡_}
+use mathlib.Core.Option.{Option}
 use mathlib.Core.List.{List}
 use Prim.Native.Nat.{ℕ, _+_, _*_, _≤_, _<_}
+use lib.Dec.{leb}
 use lib.ListN.{length, getD}
 use Rattle.units.specs.Limits.{boxNumbers, mostHours, mostTasks, mostHeight}
 use Rattle.units.specs.Sums.{sumWhere}
-use Rattle.plan.specs.Plan.{firstSymbol}
+use Rattle.plan.specs.Plan.{Shifts, firstSymbol}
+use Rattle.plan.specs.Refusals.{Fault, unless}
 use Rattle.calendar.specs.Triples.{tripleNumbers, endOf}
 use Rattle.schedule.specs.Schedule.{tripleAt, runs}
 
 -- the tests of the triples: each task has a calendar, a work time, a box and a triple
-pub record TriplesReady (h : ℕ) (calendars taskCalendars workTimes bs σ : List ℕ) : Type 0 where
-  pub hours : h ≤ mostHours
-  pub calendar : (i : ℕ) → i < length taskCalendars → firstSymbol h (getD taskCalendars i 0) + h ≤ length calendars
-  pub work-times : length workTimes ≡ length taskCalendars
-  pub boxes : length bs ≡ boxNumbers * length taskCalendars
-  pub schedule : length σ ≡ tripleNumbers * length taskCalendars
+pub record TriplesReady (S : Shifts) (bs σ : List ℕ) : Type 0 where
+  pub hours : S .hours ≤ mostHours
+  pub calendar : (i : ℕ) → i < length (S .taskCalendars) → firstSymbol (S .hours) (getD (S .taskCalendars) i 0) + S .hours ≤ length (S .calendars)
+  pub work-times : length (S .workTimes) ≡ length (S .taskCalendars)
+  pub boxes : length bs ≡ boxNumbers * length (S .taskCalendars)
+  pub schedule : length σ ≡ tripleNumbers * length (S .taskCalendars)
 
 -- the tests of the hours: each height has a triple, and the heights are so small that their sum fits
 pub record HoursReady (hs σ : List ℕ) : Type 0 where
@@ -28,6 +31,9 @@ pub record EndsReady (σ : List ℕ) (tasks : ℕ) : Type 0 where
   pub schedule : length σ ≡ tripleNumbers * tasks
   pub ends : (i : ℕ) → i < tasks → endOf (tripleAt σ i) ≤ mostHours
 
--- the heights of the tasks that run in hour t, added, one task for each height
+-- the heights of the tasks that run in hour t, added, one task for each height; 16 by them
 abbrev pub runningHeights : List ℕ → List ℕ → ℕ → ℕ
 runningHeights heights schedule t = sumWhere (λ i. runs (tripleAt schedule i) t) (λ i. getD heights i 0) (length heights)
+
+unfoldable pub heightsFault : ℕ → List ℕ → List ℕ → ℕ → Option Fault
+heightsFault capacity heights schedule t = unless (leb (runningHeights heights schedule t) capacity) 16 t
