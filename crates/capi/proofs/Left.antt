@@ -5,7 +5,7 @@ use Prim.Native.Nat.{ℕ}
 use Rattle.plan.specs.Refusals.{Answer}
 use Rattle.steps.specs.Log.{LogEnd}
 use Rattle.steps.specs.Entry.{Accepted, FilterAnswer, FilterEnd, Leaves, checkAnswer}
-use Rattle.plan_text.specs.Entry as reading
+use Rattle.plan_text.specs.Entry.{PlanRead, ReadEnd, endWith}
 use Rattle.capi.specs.Numbers.{logNumbers, filterNumbers, readNumbers}
 use Rattle.capi.specs.Leaving.{LeavesLog, LeavesRun, LeavesPlan}
 
@@ -24,16 +24,16 @@ module _ {numbers boxes : List ℕ} where
         leaves-hours = left .leaves-hours;
       }
 
-  pub left-plan : {e : reading.ReadEnd} {a : Answer reading.PlanRead} {calendars taskCalendars workTimes heights : List ℕ}
+  pub left-plan : {e : ReadEnd} {a : Answer PlanRead} {calendars taskCalendars workTimes heights : List ℕ}
       → numbers ≡ readNumbers a
-      → reading.Leaves e a calendars taskCalendars workTimes heights boxes
+      → endWith a calendars taskCalendars workTimes heights boxes ≡ e
       → LeavesPlan e numbers calendars taskCalendars workTimes heights boxes
   left-plan n left =
       record {
-        answers = n ∙ ap readNumbers (left .answers);
-        leaves-calendars = left .leaves-calendars;
-        leaves-task-calendars = left .leaves-task-calendars;
-        leaves-work-times = left .leaves-work-times;
-        leaves-heights = left .leaves-heights;
-        leaves-boxes = left .leaves-boxes;
+        answers = n ∙ ap (λ (x : ReadEnd). readNumbers (x .answer)) left;
+        leaves-calendars = ap (λ (x : ReadEnd). x .calendars) left;
+        leaves-task-calendars = ap (λ (x : ReadEnd). x .taskCalendars) left;
+        leaves-work-times = ap (λ (x : ReadEnd). x .workTimes) left;
+        leaves-heights = ap (λ (x : ReadEnd). x .heights) left;
+        leaves-boxes = ap (λ (x : ReadEnd). x .boxes) left;
       }

@@ -10,7 +10,7 @@ ghost use Rattle.calendar.specs.Entry.{calendarRule};
 ghost use Rattle.schedule.specs.Entry.{checkSchedule};
 ghost use Rattle.steps.specs.Entry.{checkLog, filterPlan};
 ghost use Rattle.plan_text.specs.Entry.{readPlan};
-ghost use Rattle.listing.specs.Program.{textListing};
+ghost use Rattle.text_listing.specs.Program.{textListing};
 ghost use Rattle.capi.specs.Numbers.{ruleNumbers, scheduleNumbers};
 ghost use Rattle.capi.specs.Leaving.{LeavesLog, LeavesRun, LeavesPlan};
 
@@ -155,5 +155,5 @@ pub extern "C" fn shimlantern_read_plan(
 pub extern "C" fn shimlantern_list_text(text: &[u8], out: &mut [u8; listing::ROOM]) -> usize
     ensures { λ r. ⌜ (r ≡ length (textListing (old text))) × (left out ≡ written (textListing (old text)) (old out)) ⌝ }
 {
-    listing::text::list_text(text, out)
+    text_listing::list_text(text, out)
 }
