@@ -53,7 +53,7 @@ fn put_tasks(out: &mut [u8], at: usize, boxes: &[u16], tasks: usize) -> usize
 // The one line of a refusal, 35 bytes at most; the bytes past it are untouched.
 pub fn list_refusal(r: Refusal, out: &mut [u8]) -> usize
     requires { ⌜ 35 ≤ length (now out) ⌝ }
-    ensures { λ n. ⌜ (n ≡ length (refusedLine (faultOf r))) × (left out ≡ written (refusedLine (faultOf r)) (old out)) ⌝ }
+    ensures { λ n. let L = refusedLine (faultOf r) in ⌜ (n ≡ length L) × (left out ≡ written L (old out)) ⌝ }
 {
     let fault = fault_of(r);
     let numbers = [fault.0 as usize, fault.1];
@@ -73,7 +73,7 @@ fn list_tasks(word: &[u8], n: usize, boxes: &[u16], tasks: usize, out: &mut [u8]
 // What a run of the filter answered, and the boxes that it left; the bytes past the listing are untouched.
 pub fn list_run(answer: Filtered, boxes: &[u16], tasks: usize, out: &mut [u8]) -> usize
     requires { ⌜ (tasks ≤ mostTasks) × (6 * tasks ≤ length (now boxes)) × (mostListing ≤ length (now out)) ⌝ }
-    ensures { λ n. ⌜ (n ≡ length (listing (filterAnswer answer) (old boxes) tasks)) × (left out ≡ written (listing (filterAnswer answer) (old boxes) tasks) (old out)) ⌝ }
+    ensures { λ n. let L = listing (filterAnswer answer) (old boxes) tasks in ⌜ (n ≡ length L) × (left out ≡ written L (old out)) ⌝ }
 {
     match answer {
         Filtered::Refused(r) => list_refusal(r, out),

@@ -29,7 +29,8 @@ module _ (fields : List ℕ) where
   unfolding calOf
   cal-more h =
       let (ps, s) = parts-first tab (drop (suc (firstAt tab fields)) fields) in
-      rw (parts-more tab fields (omega (arith, first-within tab fields, h)), s) (none-if _ _ (not-left _ _ (ne-eqb (suc (suc (length ps))) 1 (λ e. omega arith))))
+      rw (parts-more tab fields (omega (arith, first-within tab fields, h)), s)
+      (none-if _ _ (not-left _ _ (ne-eqb (suc (suc (length ps))) 1 (λ e. omega arith))))
 
   pub cal-empty : firstAt tab fields ≡ length fields → length fields < 1 → calOf (parts tab fields) ≡ none
   unfolding calOf

@@ -33,7 +33,13 @@ module _ (ns : List ℕ) (i : ℕ) (h : i < length ns) where
   fields-room =
       let all = ap length (ap numberFields (sym (take-append-drop i ns)) ∙ fields-append (take i ns) (drop i ns)) in
       let rest = ap (λ l. length (numberFields l)) (drop-cons ns i 0 h) in
-      omega (arith, all, rest, length-append (numberFields (take i ns)) (numberFields (drop i ns)), length-append (decimalText (getD ns i 0)) (numberFields (drop (suc i) ns)))
+      omega (
+        arith,
+        all,
+        rest,
+        length-append (numberFields (take i ns)) (numberFields (drop i ns)),
+        length-append (decimalText (getD ns i 0)) (numberFields (drop (suc i) ns)),
+      )
 
   pub put-field-next : {at m1 m2 m3 : ℕ} {cells l1 l2 l3 : List ℕ} → at ≤ length cells → Put (numberFields (take i ns)) at cells m1 l1
       → Put (tab ∷ []) m1 l1 m2 l2 → Put (decimalText (getD ns i 0)) m2 l2 m3 l3 → Put (numberFields (take (i + 1) ns)) at cells m3 l3

@@ -61,7 +61,7 @@ fn list_plan(
 // The listing of a text.
 pub fn list_text(text: &[u8], out: &mut [u8]) -> usize
     requires { ⌜ mostListing ≤ length (now out) ⌝ }
-    ensures { λ r. ⌜ (r ≡ length (textListing (old text))) × (left out ≡ written (textListing (old text)) (old out)) ⌝ }
+    ensures { λ r. let L = textListing (old text) in ⌜ (r ≡ length L) × (left out ≡ written L (old out)) ⌝ }
 {
     let mut symbols = [0u8; SYMBOLS];
     let mut task_calendars = [0u16; Bounds::MOST];

@@ -36,7 +36,8 @@ unfolding taskLine
 returns c =
     let p = c .before .before in
     let s = bounded (p .before) in
-    (rw (← (s .bounds-at .ensures)) (p .put-line .ensures), omega (arith, p .put-line .ensures .place, task-length (numbers (p .before)) refl (few-digits (p .before))))
+    let short = task-length (numbers (p .before)) refl (few-digits (p .before)) in
+    (rw (← (s .bounds-at .ensures)) (p .put-line .ensures), omega (arith, p .put-line .ensures .place, short))
 
 pub put-task-spec : {M : Type 1} → statement M
 put-task-spec =

@@ -7,7 +7,10 @@ use Rattle.text_listing.proofs.list_plan.Tie as tie
 
 returns : tie.Need-returns
 unfolding taskCount zeros
-returns c = put-as _ (plan-listed _ _ _ _ _ _ _ (c .before .before .before .before .before .before .before .before .before .before .filter .ensures .0)) (c .before .before .list-run .ensures .0) (c .before .before .list-run .ensures .1)
+returns c =
+    let l = c .before .before in
+    let f = l .before .before .before .before .before .before .before .before in
+    put-as _ (plan-listed _ _ _ _ _ _ _ (f .filter .ensures .0)) (l .list-run .ensures .0) (l .list-run .ensures .1)
 
 pub list-plan-spec : {M : Type 1} → statement M
 list-plan-spec =

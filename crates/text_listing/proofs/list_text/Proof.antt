@@ -63,7 +63,9 @@ array-share-prefix-heights : tie.Need-array-share-prefix-heights
 array-share-prefix-heights c = let k = c .before .before .before .before in omega (arith, limits k .tasks, read k .read-plan .kept .1 .1 .1 .1 .0)
 
 slice-aggregate-list-plan-4 : tie.Need-slice-aggregate-list-plan-4
-slice-aggregate-list-plan-4 c = let k = c .before .before .before .before .before in part-length _ _ 64 (read k .read-plan .kept .1 .1 .1 .1 .0) (limits k .tasks)
+slice-aggregate-list-plan-4 c =
+    let k = c .before .before .before .before .before in
+    part-length _ _ 64 (read k .read-plan .kept .1 .1 .1 .1 .0) (limits k .tasks)
 
 array-borrow-prefix-boxes : tie.Need-array-borrow-prefix-boxes
 array-borrow-prefix-boxes c = let k = c .before .before .before .before .before in omega (arith, limits k .tasks, read k .read-plan .kept .1 .1 .1 .1 .1 .0)

@@ -24,7 +24,9 @@ returns c = λ tasks count kept.
     (b .store-box .ensures)
 
 returns-2 : tie.Need-returns-2
-returns-2 c = λ tasks count kept. let s = c .before .before .before in tasks-over (s .args .hours) tasks _ (s .args .task) count (s .args .cells .now) (c .if1 .left)
+returns-2 c = λ tasks count kept.
+    let s = c .before .before .before in
+    tasks-over (s .args .hours) tasks _ (s .args .task) count (s .args .cells .now) (c .if1 .left)
 
 pub store-task-spec : {M : Type 1} → statement M
 store-task-spec =

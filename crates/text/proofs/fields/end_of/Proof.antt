@@ -13,26 +13,26 @@ Inv-loop bytes separator i₀ i-end i = (i ≤ length bytes) × (firstAt separat
 abbrev μ-loop : tie.MeasureT-loop
 μ-loop bytes separator i₀ i-end i = i-end - i
 
-loop-holds : tie.Need-loop-holds Inv-loop μ-loop
-loop-holds c = omega arith
-
-shared-slice-read-if1 : tie.Need-shared-slice-read-if1 Inv-loop μ-loop
-shared-slice-read-if1 c = omega arith
+-- a turn's head
+abbrev head : tie.After-shared-slice-known Inv-loop μ-loop → tie.At-loop Inv-loop μ-loop
+head c = c .before .before
 
 returns : tie.Need-returns Inv-loop μ-loop
-returns c = omega (arith, first-here (c .before .before .before .before .args .separator) (c .before .before .before .before .args .bytes .now) (c .before .before .before .loop .i) (c .before .before .loop-test .taken) (c .if1 .taken))
-
-add-i : tie.Need-add-i Inv-loop μ-loop
-add-i c = omega arith
-
-loop-less : tie.Need-loop-less Inv-loop μ-loop
-loop-less c = omega arith
+returns c =
+    let h = head (c .before) in
+    let a = h .before .args in
+    omega (arith, first-here (a .separator) (a .bytes .now) (h .loop .i) (c .before .before .loop-test .taken) (c .if1 .taken))
 
 loop-again : tie.Need-loop-again Inv-loop μ-loop
-loop-again c = omega (arith, first-later (c .before .before .before .before .args .separator) (c .before .before .before .before .args .bytes .now) (c .before .before .before .loop .i) (c .before .before .loop-test .taken) (c .if1 .left))
+loop-again c =
+    let h = head (c .before) in
+    let a = h .before .args in
+    omega (arith, first-later (a .separator) (a .bytes .now) (h .loop .i) (c .before .before .loop-test .taken) (c .if1 .left))
 
 returns-2 : tie.Need-returns-2 Inv-loop μ-loop
-returns-2 c = omega (arith, first-end (c .before .before .args .separator) (c .before .before .args .bytes .now) (c .before .loop .i) (c .loop-test .left))
+returns-2 c =
+    let a = c .before .before .args in
+    omega (arith, first-end (a .separator) (a .bytes .now) (c .before .loop .i) (c .loop-test .left))
 
 pub end-of-spec : {M : Type 1} → statement M
 end-of-spec =
@@ -40,10 +40,10 @@ end-of-spec =
     (tie.spec
     Inv-loop
     μ-loop
-    loop-holds
-    shared-slice-read-if1
+    (λ c. omega arith)
+    (λ c. omega arith)
     returns
-    add-i
-    loop-less
+    (λ c. omega arith)
+    (λ c. omega arith)
     loop-again
     returns-2)

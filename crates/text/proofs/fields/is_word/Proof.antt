@@ -13,32 +13,19 @@ Inv-loop field word i₀ i-end i = (i ≤ length field) × (same (drop i field) 
 abbrev μ-loop : tie.MeasureT-loop
 μ-loop field word i₀ i-end i = i-end - i
 
-returns : tie.Need-returns Inv-loop μ-loop
-returns c = sym (same-unequal _ _ (c .if1 .taken))
-
-loop-holds : tie.Need-loop-holds Inv-loop μ-loop
-loop-holds c = (omega arith, refl)
-
-shared-slice-read-if2 : tie.Need-shared-slice-read-if2 Inv-loop μ-loop
-shared-slice-read-if2 c = omega arith
-
-shared-slice-read-if2-2 : tie.Need-shared-slice-read-if2-2 Inv-loop μ-loop
-shared-slice-read-if2-2 c = omega arith
+-- a turn's head
+abbrev head : tie.After-shared-slice-known2 Inv-loop μ-loop → tie.At-loop Inv-loop μ-loop
+head c = c .before .before .before
 
 returns-2 : tie.Need-returns-2 Inv-loop μ-loop
-returns-2 c = sym (same-not _ _ (c .before .before .before .before .loop .i) (omega arith) (omega arith) (c .if2 .taken)) ∙ c .before .before .before .before .loop .inv .1
-
-add-i : tie.Need-add-i Inv-loop μ-loop
-add-i c = omega arith
-
-loop-less : tie.Need-loop-less Inv-loop μ-loop
-loop-less c = omega arith
+returns-2 c =
+    let h = head (c .before) in
+    sym (same-not _ _ (h .loop .i) (omega arith) (omega arith) (c .if2 .taken)) ∙ h .loop .inv .1
 
 loop-again : tie.Need-loop-again Inv-loop μ-loop
-loop-again c = (omega arith, sym (same-next _ _ (c .before .before .before .before .loop .i) (omega arith) (omega arith) (c .if2 .left)) ∙ c .before .before .before .before .loop .inv .1)
-
-returns-3 : tie.Need-returns-3 Inv-loop μ-loop
-returns-3 c = sym (same-end _ _ (c .before .loop .i) (omega arith) (omega arith)) ∙ c .before .loop .inv .1
+loop-again c =
+    let h = head (c .before) in
+    (omega arith, sym (same-next _ _ (h .loop .i) (omega arith) (omega arith) (c .if2 .left)) ∙ h .loop .inv .1)
 
 pub is-word-spec : {M : Type 1} → statement M
 is-word-spec =
@@ -46,12 +33,12 @@ is-word-spec =
     (tie.spec
     Inv-loop
     μ-loop
-    returns
-    loop-holds
-    shared-slice-read-if2
-    shared-slice-read-if2-2
+    (λ c. sym (same-unequal _ _ (c .if1 .taken)))
+    (λ c. (omega arith, refl))
+    (λ c. omega arith)
+    (λ c. omega arith)
     returns-2
-    add-i
-    loop-less
+    (λ c. omega arith)
+    (λ c. omega arith)
     loop-again
-    returns-3)
+    (λ c. sym (same-end _ _ (c .before .loop .i) (omega arith) (omega arith)) ∙ c .before .loop .inv .1))

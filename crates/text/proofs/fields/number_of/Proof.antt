@@ -1,12 +1,14 @@
 use mathlib.Core.Path.{_≡_, refl, sym, ap, _∙_}
 use mathlib.Core.Option.{some}
-use Prim.Native.Nat.{_+_, _-_, _*_, _≤_}
+use mathlib.Core.List.{List}
+use Prim.Native.Nat.{ℕ, _+_, _-_, _*_, _≤_}
 use native.Mathlib.Omega.{arith}
 use lib.ListN.{length, getD, drop}
 use borrow.Author.Tests.{not-true, not-false}
 use Rattle.units.proofs.Ranges.{is-within, too-small, too-large}
 use Rattle.text.specs.Numbers.{isDigits, decimal, mostNumber}
-use Rattle.text.proofs.Numbers.{number-empty, number-digits, number-plain, number-large, number-is, digits-next, digits-not, digits-end, decimal-step, decimal-end, decimal-least}
+use Rattle.text.proofs.Numbers.{number-empty, number-digits, number-plain, number-large, number-is, digits-next, digits-not, digits-end}
+use Rattle.text.proofs.Numbers.{decimal-step, decimal-end, decimal-least}
 use Rattle.text.proofs.fields.number_of.Statement.{statement}
 use Rattle.text.proofs.fields.number_of.Tie as tie
 
@@ -17,55 +19,54 @@ Inv-loop field number₀ i₀ i-end number i =
 abbrev μ-loop : tie.MeasureT-loop
 μ-loop field number₀ i₀ i-end number i = i-end - i
 
-returns : tie.Need-returns Inv-loop μ-loop
-returns c = sym (number-empty _ (c .if1 .taken))
+-- The places that answers look back to: the field as it was lent; a turn's head, from where its digit was read.
+abbrev field : tie.At-loop Inv-loop μ-loop → List ℕ
+field c = c .before .before .before .before .before .args .field .now
 
-is-plain-requires : tie.Need-is-plain-requires Inv-loop μ-loop
-is-plain-requires c κs = omega arith
+abbrev head : tie.After-shared-slice-known2 Inv-loop μ-loop → tie.At-loop Inv-loop μ-loop
+head c = c .before .before
 
-returns-2 : tie.Need-returns-2 Inv-loop μ-loop
-returns-2 c = sym (number-plain _ (sym (c .before .is-plain .ensures) ∙ not-true _ (c .if2 .taken)))
-
-loop-holds : tie.Need-loop-holds Inv-loop μ-loop
-loop-holds c = (omega arith, omega arith, refl, refl)
-
-shared-slice-read-digit : tie.Need-shared-slice-read-digit Inv-loop μ-loop
-shared-slice-read-digit c = omega arith
+-- the digit is a byte
+byte : (c : tie.After-shared-slice-known2 Inv-loop μ-loop) → getD (field (head c)) (head c .loop .i) 0 ≤ 255
+byte c = omega (arith, c .shared-slice-known2 .given (head c .loop .i))
 
 returns-3 : tie.Need-returns-3 Inv-loop μ-loop
-returns-3 c = sym (number-digits _ (sym (c .before .before .before .loop .inv .2) ∙ digits-not _ (c .before .before .before .loop .i) (omega arith) (too-small 48 57 _ (c .if3 .taken))))
+returns-3 c =
+    let h = head (c .before) in
+    sym (number-digits _ (sym (h .loop .inv .2) ∙ digits-not _ (h .loop .i) (omega arith) (too-small 48 57 _ (c .if3 .taken))))
 
 returns-4 : tie.Need-returns-4 Inv-loop μ-loop
-returns-4 c = sym (number-digits _ (sym (c .before .before .before .before .loop .inv .2) ∙ digits-not _ (c .before .before .before .before .loop .i) (omega arith) (too-large 48 57 _ (c .if4 .taken))))
+returns-4 c =
+    let h = head (c .before .before) in
+    sym (number-digits _ (sym (h .loop .inv .2) ∙ digits-not _ (h .loop .i) (omega arith) (too-large 48 57 _ (c .if4 .taken))))
 
-mul-number : tie.Need-mul-number Inv-loop μ-loop
-mul-number c = omega (arith, c .before .before .shared-slice-known2 .given (c .before .before .before .before .loop .i))
-
-cast-number : tie.Need-cast-number Inv-loop μ-loop
-cast-number c = omega (arith, c .before .before .shared-slice-known2 .given (c .before .before .before .before .loop .i))
-
-add-number : tie.Need-add-number Inv-loop μ-loop
-add-number c = omega (arith, c .before .before .shared-slice-known2 .given (c .before .before .before .before .loop .i))
-
+-- the number with its next digit, and more digits make no smaller number
 returns-5 : tie.Need-returns-5 Inv-loop μ-loop
-returns-5 c = sym (number-large _ (omega (arith, c .before .before .before .before .before .loop .inv .3, decimal-step (c .before .before .before .before .before .before .before .before .before .before .args .field .now) (c .before .before .before .before .before .loop .i) (c .before .before .before .before .before .loop .number) (omega arith), decimal-least (c .before .before .before .before .before .loop .number * 10 + (getD (c .before .before .before .before .before .before .before .before .before .before .args .field .now) (c .before .before .before .before .before .loop .i) 0 - 48)) (drop (c .before .before .before .before .before .loop .i + 1) (c .before .before .before .before .before .before .before .before .before .before .args .field .now)))))
-
-add-i : tie.Need-add-i Inv-loop μ-loop
-add-i c = omega (arith, c .before .before .before .shared-slice-known2 .given (c .before .before .before .before .before .loop .i))
-
-loop-less : tie.Need-loop-less Inv-loop μ-loop
-loop-less c = omega (arith, c .before .before .before .shared-slice-known2 .given (c .before .before .before .before .before .loop .i))
+returns-5 c =
+    let h = head (c .before .before .before) in
+    let l = field h in
+    let i = h .loop .i in
+    let n = h .loop .number in
+    let more = decimal-least (n * 10 + (getD l i 0 - 48)) (drop (i + 1) l) in
+    sym (number-large l (omega (arith, h .loop .inv .3, decimal-step l i n (omega arith), more)))
 
 loop-again : tie.Need-loop-again Inv-loop μ-loop
-loop-again c = (omega arith, omega arith, sym (digits-next _ (c .before .before .before .before .before .loop .i) (omega arith) (is-within 48 57 _ (c .before .before .if3 .left) (c .before .if4 .left))) ∙ c .before .before .before .before .before .loop .inv .2, sym (decimal-step _ (c .before .before .before .before .before .loop .i) _ (omega arith)) ∙ c .before .before .before .before .before .loop .inv .3)
-
-cast-t14 : tie.Need-cast-t14 Inv-loop μ-loop
-cast-t14 c = omega arith
+loop-again c =
+    let h = head (c .before .before .before) in
+    let digit = is-within 48 57 _ (c .before .before .if3 .left) (c .before .if4 .left) in (
+      omega arith,
+      omega arith,
+      sym (digits-next _ (h .loop .i) (omega arith) digit) ∙ h .loop .inv .2,
+      sym (decimal-step _ (h .loop .i) _ (omega arith)) ∙ h .loop .inv .3,
+    )
 
 returns-6 : tie.Need-returns-6 Inv-loop μ-loop
 returns-6 c =
-    let n = sym (c .before .loop .inv .3) ∙ decimal-end _ (c .before .loop .i) _ (c .loop-test .left) in
-    sym (number-is _ (omega arith) (sym (c .before .loop .inv .2) ∙ digits-end _ (c .before .loop .i) (c .loop-test .left)) (sym (c .before .before .before .is-plain .ensures) ∙ not-false _ (c .before .before .if2 .left)) (omega (arith, n)) ∙ ap some n)
+    let h = c .before in
+    let n = sym (h .loop .inv .3) ∙ decimal-end _ (h .loop .i) _ (c .loop-test .left) in
+    let digits = sym (h .loop .inv .2) ∙ digits-end _ (h .loop .i) (c .loop-test .left) in
+    let plain = sym (h .before .before .is-plain .ensures) ∙ not-false _ (h .before .if2 .left) in
+    sym (number-is _ (omega arith) digits plain (omega (arith, n)) ∙ ap some n)
 
 pub number-of-spec : {M : Type 1} → statement M
 number-of-spec =
@@ -73,19 +74,19 @@ number-of-spec =
     (tie.spec
     Inv-loop
     μ-loop
-    returns
-    is-plain-requires
-    returns-2
-    loop-holds
-    shared-slice-read-digit
+    (λ c. sym (number-empty _ (c .if1 .taken)))
+    (λ c κs. omega arith)
+    (λ c. sym (number-plain _ (sym (c .before .is-plain .ensures) ∙ not-true _ (c .if2 .taken))))
+    (λ c. (omega arith, omega arith, refl, refl))
+    (λ c. omega arith)
     returns-3
     returns-4
-    mul-number
-    cast-number
-    add-number
+    (λ c. omega (arith, byte (c .before .before)))
+    (λ c. omega (arith, byte (c .before .before)))
+    (λ c. omega (arith, byte (c .before .before)))
     returns-5
-    add-i
-    loop-less
+    (λ c. omega (arith, byte (c .before .before .before)))
+    (λ c. omega (arith, byte (c .before .before .before)))
     loop-again
-    cast-t14
+    (λ c. omega arith)
     returns-6)
