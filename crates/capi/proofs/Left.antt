@@ -5,9 +5,8 @@ use Prim.Native.Nat.{ℕ}
 use Rattle.plan.specs.Refusals.{Answer}
 use Rattle.steps.specs.Log.{LogEnd}
 use Rattle.steps.specs.Entry.{Accepted, checkAnswer, FilterAnswer, FilterEnd, filterEnd}
-use Rattle.plan_text.specs.Entry as reading
+use Rattle.plan_text.specs.Entry.{PlanRead, ReadEnd, endWith}
 use Rattle.capi.specs.Numbers.{logNumbers, filterNumbers, readNumbers}
-use Rattle.capi.specs.Leaving.{LeavesPlan}
 
 module _ {numbers boxes : List ℕ} where
   pub left-log : (e : LogEnd) {a : Answer Accepted} → numbers ≡ logNumbers a → (a ≡ checkAnswer e) × (boxes ≡ e .boxes)
@@ -18,16 +17,7 @@ module _ {numbers boxes : List ℕ} where
       → (numbers ≡ filterNumbers (e .answer)) × (filterEnd (e .answer) boxes kinds tasks hours ≡ e)
   left-run n is = rw (← is) (n, refl)
 
-  pub left-plan : {e : reading.ReadEnd} {a : Answer reading.PlanRead} {calendars taskCalendars workTimes heights : List ℕ}
-      → numbers ≡ readNumbers a
-      → reading.Leaves e a calendars taskCalendars workTimes heights boxes
-      → LeavesPlan e numbers calendars taskCalendars workTimes heights boxes
-  left-plan n left =
-      record {
-        answers = n ∙ ap readNumbers (left .answers);
-        leaves-calendars = left .leaves-calendars;
-        leaves-task-calendars = left .leaves-task-calendars;
-        leaves-work-times = left .leaves-work-times;
-        leaves-heights = left .leaves-heights;
-        leaves-boxes = left .leaves-boxes;
-      }
+  pub left-plan : {e : ReadEnd} {a : Answer PlanRead} {calendars taskCalendars workTimes heights : List ℕ} → numbers ≡ readNumbers a
+      → endWith a calendars taskCalendars workTimes heights boxes ≡ e
+      → (numbers ≡ readNumbers (e .answer)) × (endWith (e .answer) calendars taskCalendars workTimes heights boxes ≡ e)
+  left-plan n is = rw (← is) (n, refl)

@@ -9,10 +9,9 @@ ghost use Rattle.plan.specs.Lent.{old, left, oldPlan};
 ghost use Rattle.calendar.specs.Entry.{calendarRule};
 ghost use Rattle.schedule.specs.Entry.{checkSchedule};
 ghost use Rattle.steps.specs.Entry.{checkLog, checkAnswer, filterEnd, filterPlan};
-ghost use Rattle.plan_text.specs.Entry.{readPlan};
-ghost use Rattle.listing.specs.Program.{textListing};
-ghost use Rattle.capi.specs.Numbers.{ruleNumbers, scheduleNumbers, logNumbers, filterNumbers};
-ghost use Rattle.capi.specs.Leaving.{LeavesPlan};
+ghost use Rattle.plan_text.specs.Entry.{endWith, readPlan};
+ghost use Rattle.text_listing.specs.Program.{textListing};
+ghost use Rattle.capi.specs.Numbers.{ruleNumbers, scheduleNumbers, logNumbers, filterNumbers, readNumbers};
 
 mod numbers;
 
@@ -143,9 +142,10 @@ pub extern "C" fn shimlantern_read_plan(
     boxes: &mut [u16],
     answer: &mut [u64; 6],
 )
-    ensures { λ _. ⌜ LeavesPlan
-        (readPlan (old calendars) (old «task_calendars») (old «work_times») (old heights) (old boxes) (old text))
-        (left answer) (left calendars) (left «task_calendars») (left «work_times») (left heights) (left boxes) ⌝ }
+    ensures { λ _.
+        let e = readPlan (old calendars) (old «task_calendars») (old «work_times») (old heights) (old boxes) (old text) in
+        ⌜ (left answer ≡ readNumbers (e .answer))
+        × (endWith (e .answer) (left calendars) (left «task_calendars») (left «work_times») (left heights) (left boxes) ≡ e) ⌝ }
 {
     let reading = plan_text::read_plan(text, calendars, task_calendars, work_times, heights, boxes);
     *answer = numbers::read_numbers(reading);
@@ -156,5 +156,5 @@ pub extern "C" fn shimlantern_read_plan(
 pub extern "C" fn shimlantern_list_text(text: &[u8], out: &mut [u8; listing::ROOM]) -> usize
     ensures { λ r. ⌜ (r ≡ length (textListing (old text))) × (left out ≡ written (textListing (old text)) (old out)) ⌝ }
 {
-    listing::text::list_text(text, out)
+    text_listing::list_text(text, out)
 }

@@ -17,7 +17,7 @@ use Rattle.plan.specs.Faults.{planFault}
 use Rattle.plan.proofs.Refusing.{unless-none}
 use Rattle.plan.proofs.Passed.{counts-passed}
 use Rattle.plan_text.specs.Text.{Read, readText}
-use Rattle.plan_text.specs.Entry.{planIn, readFault, isEnough, PlanRead, ReadEnd, unread, stored, readPlan}
+use Rattle.plan_text.specs.Entry.{planIn, lineFault, readFault, isEnough, PlanRead, unread, stored, readTested, readPlan}
 
 pub record Holds (a : PlanRead) : Type 0 where
   pub hours : a .hours ≤ mostHours
@@ -27,14 +27,14 @@ pub record Holds (a : PlanRead) : Type 0 where
 
 fault-free : (enough : Bool) (r : Read) → readFault enough r ≡ none
     → Holds (record { hours = r .hours; capacity = r .capacity; calendars = length (r .calendars); tasks = length (r .tasks) })
-unfolding readFault planFault planIn taskCount isPlanLength isCalendarCount
+unfolding readFault lineFault planFault planIn taskCount isPlanLength isCalendarCount
 fault-free enough r e =
     let after-31 = neither _ _ e in
-    let after-2 = neither _ _ (after-31 .1) in
-    let after-3 = neither _ _ (after-2 .1) in
+    let after-3 = neither _ _ (after-31 .1) in
+    let of-lines = neither _ _ (after-3 .0) in
     let counts = counts-passed (neither _ _ (neither _ _ (after-3 .1) .1) .0) in
-    let h : r .hours ≤ mostHours = to-most 1 mostHours _ (unless-none _ 2 0 (after-2 .0)) in
-    let c : length (r .calendars) ≤ mostCalendars = to-most 1 mostCalendars _ (and-left _ _ (unless-none _ 3 0 (after-3 .0))) in
+    let h : r .hours ≤ mostHours = to-most 1 mostHours _ (unless-none _ 2 0 (of-lines .0)) in
+    let c : length (r .calendars) ≤ mostCalendars = to-most 1 mostCalendars _ (and-left _ _ (unless-none _ 3 0 (of-lines .1))) in
     let few : length (r .tasks) ≤ mostTasks = omega (arith, counts .tasks, length-map (r .tasks) (λ (t : List ℕ). getD t 0 0)) in
     record {
       hours = h;
@@ -47,16 +47,9 @@ refused≢answered : {A C : Type 0} {f : Fault} {a : A} → refused f ≡ answer
 refused≢answered e = absurd (let z : _≡_ {A = ℕ} 0 1 = cc in omega arith)
 
 module _ (calendars taskCalendars workTimes heights boxes : List ℕ) where
-  abbrev end : Answer Read → ReadEnd
-  end o =
-      onAnswer o (unread calendars taskCalendars workTimes heights boxes)
-      (λ r. onOption (readFault (isEnough calendars taskCalendars workTimes heights boxes) r) (stored calendars taskCalendars workTimes heights boxes r)
-      (unread calendars taskCalendars workTimes heights boxes))
-
-  from-read : (o : Answer Read) (a : PlanRead) → end o .answer ≡ answered a → Holds a
-  unfolding onAnswer onOption unread stored
-  from-read (refused f) a e = refused≢answered e
-  from-read (answered r) a e = go (readFault (isEnough calendars taskCalendars workTimes heights boxes) r) refl e
+  from-tested : (r : Read) (a : PlanRead) → readTested calendars taskCalendars workTimes heights boxes r .answer ≡ answered a → Holds a
+  unfolding readTested onOption unread stored
+  from-tested r a e = go (readFault (isEnough calendars taskCalendars workTimes heights boxes) r) refl e
     where
       go : (o : Option Fault) → readFault (isEnough calendars taskCalendars workTimes heights boxes) r ≡ o
           → onOption o (stored calendars taskCalendars workTimes heights boxes r) (unread calendars taskCalendars workTimes heights boxes) .answer
@@ -65,6 +58,13 @@ module _ (calendars taskCalendars workTimes heights boxes : List ℕ) where
           let is : record { hours = r .hours; capacity = r .capacity; calendars = length (r .calendars); tasks = length (r .tasks) } ≡ a = cc in
           subst Holds is (fault-free _ r q)
       go (some f) q s = refused≢answered s
+
+  from-read : (o : Answer Read) (a : PlanRead)
+      → onAnswer o (unread calendars taskCalendars workTimes heights boxes) (readTested calendars taskCalendars workTimes heights boxes) .answer
+      ≡ answered a → Holds a
+  unfolding onAnswer unread
+  from-read (refused f) a e = refused≢answered e
+  from-read (answered r) a e = from-tested r a e
 
   pub read-holds : (text : List ℕ) (a : PlanRead) → answered a ≡ readPlan calendars taskCalendars workTimes heights boxes text .answer → Holds a
   unfolding readPlan

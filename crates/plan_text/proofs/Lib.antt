@@ -1,8 +1,5 @@
-pub mod Parting
-pub mod Reading
-pub mod Gathering
 pub mod Recording
-pub mod Storing
+pub mod Sections
 pub mod Following
 pub mod Lining
 pub mod Judging

@@ -3,7 +3,6 @@
 use mathlib.Core.Bool.{Bool, true}
 use mathlib.Core.Option.{Option}
 use mathlib.Core.List.{List, [], _∷_, _++_, map}
-use mathlib.Core.Path.{_≡_}
 use Prim.Native.Nat.{ℕ, _-_, _*_}
 use lib.Dec.{leb, eqb}
 use lib.ListN.{length, getD, drop}
@@ -52,13 +51,15 @@ isEnough calendars taskCalendars workTimes heights boxes =
     and leb mostTasks (length heights)
     and leb (6 * mostTasks) (length boxes)
 
--- after 1: 31, 2, 3 (each line by itself), 4, 5, 10, then task by task 6 to 9
-unfoldable pub readFault : Bool → Read → Option Fault
-readFault enough r =
-    unless enough 31 0
-    orElse unless (isPlanLength (r .hours)) 2 0
+-- 2 and 3, each calendar line by itself
+unfoldable pub lineFault : Read → Option Fault
+lineFault r =
+    unless (isPlanLength (r .hours)) 2 0
     orElse unless (isCalendarCount (length (r .calendars)) and allOf (r .hours) (r .calendars)) 3 0
-    orElse planFault (planIn r) (boxesIn r)
+
+-- after 1: 31, 2, 3, 4, 5, 10, then task by task 6 to 9
+unfoldable pub readFault : Bool → Read → Option Fault
+readFault enough r = unless enough 31 0 orElse lineFault r orElse planFault (planIn r) (boxesIn r)
 
 -- What reading answers: H, the capacity, and how many calendars and tasks were read.
 pub record PlanRead : Type 0 where
@@ -76,51 +77,39 @@ pub record ReadEnd : Type 0 where
   pub heights : List ℕ
   pub boxes : List ℕ
 
+abbrev pub endWith : Answer PlanRead → List ℕ → List ℕ → List ℕ → List ℕ → List ℕ → ReadEnd
+endWith answer calendars taskCalendars workTimes heights boxes =
+    record {
+      answer = answer;
+      calendars = calendars;
+      taskCalendars = taskCalendars;
+      workTimes = workTimes;
+      heights = heights;
+      boxes = boxes;
+    }
+
 module _ (calendars taskCalendars workTimes heights boxes : List ℕ) where
   -- a refusal changes no lent memory
   unfoldable pub unread : Fault → ReadEnd
-  unread f =
-      record {
-        answer = refused f;
-        calendars = calendars;
-        taskCalendars = taskCalendars;
-        workTimes = workTimes;
-        heights = heights;
-        boxes = boxes;
-      }
+  unread f = endWith (refused f) calendars taskCalendars workTimes heights boxes
 
   -- cells past the plan's own are untouched
   unfoldable pub stored : Read → ReadEnd
   stored r =
-      record {
-        answer =
-            answered
-            record {
-              hours = r .hours;
-              capacity = r .capacity;
-              calendars = length (r .calendars);
-              tasks = length (r .tasks);
-            };
-        calendars = written (planIn r .shifts .calendars) calendars;
-        taskCalendars = written (planIn r .shifts .taskCalendars) taskCalendars;
-        workTimes = written (planIn r .shifts .workTimes) workTimes;
-        heights = written (planIn r .heights) heights;
-        boxes = written (boxesIn r) boxes;
-      }
+      endWith
+      (answered (record { hours = r .hours; capacity = r .capacity; calendars = length (r .calendars); tasks = length (r .tasks) }))
+      (written (planIn r .shifts .calendars) calendars)
+      (written (planIn r .shifts .taskCalendars) taskCalendars)
+      (written (planIn r .shifts .workTimes) workTimes)
+      (written (planIn r .heights) heights)
+      (written (boxesIn r) boxes)
+
+  -- a text that keeps to the rules: the refusals after 1 in their order, or its plan
+  unfoldable pub readTested : Read → ReadEnd
+  readTested r = onOption (readFault (isEnough calendars taskCalendars workTimes heights boxes) r) (stored r) unread
 
   unfoldable pub readPlan : List ℕ → ReadEnd
-  readPlan text =
-      onAnswer (readText text) unread
-      (λ r. onOption (readFault (isEnough calendars taskCalendars workTimes heights boxes) r) (stored r) unread)
-
--- an answer and the contents of the memory lent are those of an end, number for number
-pub record Leaves (e : ReadEnd) (answer : Answer PlanRead) (calendars taskCalendars workTimes heights boxes : List ℕ) : Type 0 where
-  pub answers : answer ≡ e .answer
-  pub leaves-calendars : calendars ≡ e .calendars
-  pub leaves-task-calendars : taskCalendars ≡ e .taskCalendars
-  pub leaves-work-times : workTimes ≡ e .workTimes
-  pub leaves-heights : heights ≡ e .heights
-  pub leaves-boxes : boxes ≡ e .boxes
+  readPlan text = onAnswer (readText text) unread readTested
 
 -- the number and the values of each case of the answer
 abbrev pub readingAnswer : PlanReading → Answer PlanRead

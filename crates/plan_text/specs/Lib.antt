@@ -1,6 +1,4 @@
-pub mod Fields
 pub mod Records
 pub mod Text
-pub mod Lines
 pub mod Entry
-pub mod Scanning
+pub mod inner

@@ -1,12 +1,14 @@
 -- The records of plan text, one a line (01, "Plan text and listing").
 use mathlib.Core.Bool.{true}
-use mathlib.Core.Option.{Option, none}
+use mathlib.Core.Option.{Option, none, some}
 use mathlib.Core.List.{List, [], _∷_}
 use Prim.Native.Nat.{ℕ}
 use lib.Dec.{leb, eqb}
 use lib.ListN.{length, getD}
 use Rattle.units.specs.Choice.{_and_, if_then_else_, someIf, onOption}
-use Rattle.plan_text.specs.Fields.{tab, parts, same, numbersOf}
+use Rattle.text.specs.Words.{wordPlan, wordCal, wordTask}
+use Rattle.text.specs.Fields.{tab, parts, same}
+use Rattle.text.specs.Numbers.{numbersOf}
 
 -- `plan`, H, capacity; `cal` and the symbols; `task` and three or nine numbers: calendar, p, height, and all six bounds or none
 pub data Record : Type 0 where
@@ -14,19 +16,13 @@ pub data Record : Type 0 where
   calRecord : List ℕ → Record
   taskRecord : List ℕ → Record
 
--- the words that open a record
-abbrev pub wordPlan : List ℕ
-wordPlan = 112 ∷ 108 ∷ 97 ∷ 110 ∷ []
-
-abbrev pub wordCal : List ℕ
-wordCal = 99 ∷ 97 ∷ 108 ∷ []
-
-abbrev pub wordTask : List ℕ
-wordTask = 116 ∷ 97 ∷ 115 ∷ 107 ∷ []
+-- the fields' numbers, if there are a or b of them
+unfoldable pub numbersIf : ℕ → ℕ → List (List ℕ) → Option (List ℕ)
+numbersIf a b fields = onOption (numbersOf fields) none (λ ns. someIf (if eqb (length ns) a then true else eqb (length ns) b) ns)
 
 -- two numbers
 unfoldable pub planOf : List (List ℕ) → Option Record
-planOf fields = onOption (numbersOf fields) none (λ ns. someIf (eqb (length ns) 2) (planRecord (getD ns 0 0) (getD ns 1 0)))
+planOf fields = onOption (numbersIf 2 2 fields) none (λ ns. some (planRecord (getD ns 0 0) (getD ns 1 0)))
 
 -- one field of symbols, not empty; what they are is left to refusal 4
 unfoldable pub calOf : List (List ℕ) → Option Record
@@ -34,8 +30,7 @@ calOf fields = someIf (eqb (length fields) 1 and leb 1 (length (getD fields 0 []
 
 -- three or nine numbers
 unfoldable pub taskOf : List (List ℕ) → Option Record
-taskOf fields =
-    onOption (numbersOf fields) none (λ ns. someIf (if eqb (length ns) 3 then true else eqb (length ns) 9) (taskRecord ns))
+taskOf fields = onOption (numbersIf 3 9 fields) none (λ ns. some (taskRecord ns))
 
 -- by the first field, and the fields after it
 unfoldable pub byWord : List (List ℕ) → Option Record

@@ -1,49 +1,42 @@
 // Plan text: reading a plan.
 use plan::Refusal;
 use plan::Tested;
+use text::put::put_bytes;
+use text::put::put_cells;
 use units::Bounds;
 use units::CalendarNumber;
 use units::Duration;
 use units::MaybeDuration;
 ghost use mathlib.Core.Bool.{true};
+ghost use mathlib.Core.List.{List};
 ghost use mathlib.Core.Path.{_≡_};
-ghost use Prim.Native.Nat.{_≤_};
+ghost use Prim.Native.Nat.{ℕ, _≤_};
 ghost use lib.ListN.{length};
 ghost use Rattle.units.specs.Cells.{written};
+ghost use Rattle.units.specs.Limits.{mostTasks};
 ghost use Rattle.plan.specs.Refusals.{testedFault};
 ghost use Rattle.plan.specs.Lent.{old, left};
+ghost use Rattle.plan.specs.Faults.{planFault};
 ghost use Rattle.plan_text.specs.Text.{Read, mostBytes};
-ghost use Rattle.plan_text.specs.Entry.{isEnough, readFault, readPlan, Leaves, readingAnswer};
-ghost use Rattle.plan_text.specs.Scanning.{Holds, Stored, tested};
+ghost use Rattle.plan_text.specs.Entry.{isEnough, lineFault, readFault, endWith, readTested, readPlan, readingAnswer};
+ghost use Rattle.plan_text.specs.inner.Scanning.{symbolRoom, calendarsAt, workTimesAt, heightsAt, storeSize, section, storedPlan, storedBoxes};
+ghost use Rattle.plan_text.specs.inner.Scanning.{Holds, Stored};
 
-mod fields;
 mod lines;
 mod records;
-
-// A field as a number, if it is one.
-enum MaybeNumber {
-    NotANumber,
-    Number(u16),
-}
-
-// Fields as numbers: how many there are, if each is a number and there are no more than there is room for.
-enum MaybeNumbers {
-    NotNumbers,
-    Count(usize),
-}
 
 // A line's record: where a `cal` line's symbols begin, how many numbers a `task` line has.
 enum LineRecord {
     Other,
-    Plan { hours: u16, capacity: u16 },
+    Plan,
     Cal(usize),
     Task(usize),
 }
 
-// What has been read of a text: whether the plan line was, how many calendars and tasks, whether each calendar line has H symbols, and how many
-// symbols there are.
+// What has been read of a text: the section reached, H, the capacity, how many calendars, whether each calendar line has H symbols, how many symbols
+// and how many tasks.
 struct Scan {
-    started: bool,
+    reached: usize,
     hours: u16,
     capacity: u16,
     calendars: usize,
@@ -106,19 +99,19 @@ fn is_enough(
     BOUNDS <= boxes.len()
 }
 
-// 2 and 3, each calendar line by itself, then the plan's own tests. Of more tasks than are stored, it asks for the symbols alone.
-fn test_read(
-    scan: Scan,
-    symbols: &[u8],
-    task_calendars: &[u16],
-    work_times: &[u16],
-    heights: &[u16],
-    boxes: &[u16],
-) -> Tested
-    requires { ⌜ Stored scan (now symbols) (now «task_calendars») (now «work_times») (now heights) (now boxes) ⌝ }
-    ensures { λ x. ⌜ ((r : Read)
-        → Holds r scan mostBytes (old symbols) (old «task_calendars») (old «work_times») (old heights) (old boxes)
-        → testedFault x ≡ readFault true r) ⌝ }
+// Where each section of the store of numbers begins, after the tasks' calendars: work times, heights, boxes. Each has room for the most tasks.
+const WORK_TIMES: usize = Bounds::MOST;
+
+const HEIGHTS: usize = 2 * Bounds::MOST;
+
+const BOXES: usize = 3 * Bounds::MOST;
+
+// The store's cells: three numbers and a box a task.
+const CELLS: usize = 9 * Bounds::MOST;
+
+// 2 and 3, each calendar line by itself.
+fn test_lines(scan: Scan) -> Tested
+    ensures { λ x. ⌜ ((r : Read) (symbols cells : List ℕ) → Holds r scan mostBytes symbols cells → testedFault x ≡ lineFault r) ⌝ }
 {
     let MaybeDuration::Within(_) = Duration::of_plan(scan.hours as usize) else {
         return Tested::Refused(Refusal::Hours);
@@ -129,27 +122,39 @@ fn test_read(
     if !scan.even {
         return Tested::Refused(Refusal::Calendars);
     }
+    Tested::Passed
+}
+
+// The plan's own tests, of as many tasks as are stored.
+fn test_stored(hours: u16, capacity: u16, tasks: usize, symbols: &[u8], cells: &[u16]) -> Tested
+    requires { ⌜ (tasks ≤ mostTasks) × (length (now cells) ≡ storeSize) ⌝ }
+    ensures { λ x. ⌜ testedFault x ≡ planFault (storedPlan hours capacity tasks (old symbols) (old cells)) (storedBoxes tasks (old cells)) ⌝ }
+{
+    plan::test_plan(
+        hours,
+        capacity,
+        symbols,
+        &cells[..tasks],
+        &cells[WORK_TIMES..WORK_TIMES + tasks],
+        &cells[HEIGHTS..HEIGHTS + tasks],
+        &cells[BOXES..BOXES + 6 * tasks],
+    )
+}
+
+// The tests of a whole text. Of more tasks than are stored, it asks for the symbols alone.
+fn test_read(scan: Scan, symbols: &[u8], cells: &[u16]) -> Tested
+    requires { ⌜ Stored scan (now symbols) (now cells) ⌝ }
+    ensures { λ x. ⌜ ((r : Read) → Holds r scan mostBytes (old symbols) (old cells) → testedFault x ≡ readFault true r) ⌝ }
+{
+    let lines = test_lines(scan);
+    let Tested::Passed = lines else {
+        return lines;
+    };
     let calendars = &symbols[..scan.symbols];
     if Bounds::is_count(scan.tasks) {
-        return plan::test_plan(
-            scan.hours,
-            scan.capacity,
-            calendars,
-            &task_calendars[..scan.tasks],
-            &work_times[..scan.tasks],
-            &heights[..scan.tasks],
-            &boxes[..6 * scan.tasks],
-        );
+        return test_stored(scan.hours, scan.capacity, scan.tasks, calendars, cells);
     }
-    let tested = plan::test_plan(
-        scan.hours,
-        0,
-        calendars,
-        &task_calendars[..0],
-        &work_times[..0],
-        &heights[..0],
-        &boxes[..0],
-    );
+    let tested = test_stored(scan.hours, 0, 0, calendars, cells);
     let Tested::Passed = tested else {
         return tested;
     };
@@ -158,76 +163,59 @@ fn test_read(
 
 // Stores a plan in the memory lent. Cells past the plan's own are untouched.
 fn store_plan(
+    tasks: usize,
     symbols: &[u8],
-    read_calendars: &[u16],
-    read_work_times: &[u16],
-    read_heights: &[u16],
-    read_boxes: &[u16],
+    cells: &[u16],
     calendars: &mut [u8],
     task_calendars: &mut [u16],
     work_times: &mut [u16],
     heights: &mut [u16],
     boxes: &mut [u16],
 )
-    requires { ⌜ (length (now symbols) ≤ length (now calendars))
-        × (length (now «read_calendars») ≤ length (now «task_calendars»))
-        × (length (now «read_work_times») ≤ length (now «work_times»))
-        × (length (now «read_heights») ≤ length (now heights))
-        × (length (now «read_boxes») ≤ length (now boxes)) ⌝ }
+    requires { ⌜ (tasks ≤ mostTasks)
+        × (length (now cells) ≡ storeSize)
+        × (length (now symbols) ≤ symbolRoom)
+        × (isEnough (now calendars) (now «task_calendars») (now «work_times») (now heights) (now boxes) ≡ true) ⌝ }
     ensures { λ _. ⌜ (left calendars ≡ written (old symbols) (old calendars))
-        × (left «task_calendars» ≡ written (old «read_calendars») (old «task_calendars»))
-        × (left «work_times» ≡ written (old «read_work_times») (old «work_times»))
-        × (left heights ≡ written (old «read_heights») (old heights))
-        × (left boxes ≡ written (old «read_boxes») (old boxes)) ⌝ }
+        × (left «task_calendars» ≡ written (section calendarsAt tasks (old cells)) (old «task_calendars»))
+        × (left «work_times» ≡ written (section workTimesAt tasks (old cells)) (old «work_times»))
+        × (left heights ≡ written (section heightsAt tasks (old cells)) (old heights))
+        × (left boxes ≡ written (storedBoxes tasks (old cells)) (old boxes)) ⌝ }
 {
-    lines::store_symbols(calendars, 0, symbols);
-    lines::store_numbers(task_calendars, 0, read_calendars);
-    lines::store_numbers(work_times, 0, read_work_times);
-    lines::store_numbers(heights, 0, read_heights);
-    lines::store_numbers(boxes, 0, read_boxes);
+    put_bytes(calendars, 0, symbols);
+    put_cells(task_calendars, 0, &cells[..tasks]);
+    put_cells(work_times, 0, &cells[WORK_TIMES..WORK_TIMES + tasks]);
+    put_cells(heights, 0, &cells[HEIGHTS..HEIGHTS + tasks]);
+    put_cells(boxes, 0, &cells[BOXES..BOXES + 6 * tasks]);
 }
 
 // The tests of a whole text, and its plan in the memory lent if they pass.
 fn keep_plan(
     scan: Scan,
     symbols: &[u8],
-    read_calendars: &[u16],
-    read_work_times: &[u16],
-    read_heights: &[u16],
-    read_boxes: &[u16],
+    cells: &[u16],
     calendars: &mut [u8],
     task_calendars: &mut [u16],
     work_times: &mut [u16],
     heights: &mut [u16],
     boxes: &mut [u16],
 ) -> PlanReading
-    requires { ⌜ Stored scan (now symbols) (now «read_calendars») (now «read_work_times») (now «read_heights») (now «read_boxes») ⌝ }
-    ensures { λ x. ⌜ ((r : Read)
-        → Holds r scan mostBytes (old symbols) (old «read_calendars») (old «read_work_times») (old «read_heights») (old «read_boxes»)
-        → Leaves (tested (old calendars) (old «task_calendars») (old «work_times») (old heights) (old boxes) r)
-        (readingAnswer x)
-        (left calendars) (left «task_calendars») (left «work_times») (left heights) (left boxes)) ⌝ }
+    requires { ⌜ Stored scan (now symbols) (now cells) ⌝ }
+    ensures { λ x. ⌜ ((r : Read) → Holds r scan mostBytes (old symbols) (old cells)
+        → endWith (readingAnswer x) (left calendars) (left «task_calendars») (left «work_times») (left heights) (left boxes)
+        ≡ readTested (old calendars) (old «task_calendars») (old «work_times») (old heights) (old boxes) r) ⌝ }
 {
     if !is_enough(calendars, task_calendars, work_times, heights, boxes) {
         return PlanReading::Refused(Refusal::MemorySize);
     }
-    let tested = test_read(
-        scan,
-        symbols,
-        read_calendars,
-        read_work_times,
-        read_heights,
-        read_boxes,
-    );
+    let tested = test_read(scan, symbols, cells);
     match tested {
         Tested::Refused(refusal) => PlanReading::Refused(refusal),
         Tested::Passed => {
             store_plan(
+                scan.tasks,
                 &symbols[..scan.symbols],
-                &read_calendars[..scan.tasks],
-                &read_work_times[..scan.tasks],
-                &read_heights[..scan.tasks],
-                &read_boxes[..6 * scan.tasks],
+                cells,
                 calendars,
                 task_calendars,
                 work_times,
@@ -253,33 +241,18 @@ pub fn read_plan(
     heights: &mut [u16],
     boxes: &mut [u16],
 ) -> PlanReading
-    ensures { λ x. ⌜ Leaves
-        (readPlan (old calendars) (old «task_calendars») (old «work_times») (old heights) (old boxes) (old text))
-        (readingAnswer x)
-        (left calendars) (left «task_calendars») (left «work_times») (left heights) (left boxes) ⌝ }
+    ensures { λ x. ⌜ endWith (readingAnswer x) (left calendars) (left «task_calendars») (left «work_times») (left heights) (left boxes)
+        ≡ readPlan (old calendars) (old «task_calendars») (old «work_times») (old heights) (old boxes) (old text) ⌝ }
 {
     let mut symbols = [0u8; SYMBOLS];
-    let mut read_calendars = [0u16; Bounds::MOST];
-    let mut read_work_times = [0u16; Bounds::MOST];
-    let mut read_heights = [0u16; Bounds::MOST];
-    let mut read_boxes = [0u16; BOUNDS];
-    let scanned = lines::read_text(
-        text,
-        &mut symbols,
-        &mut read_calendars,
-        &mut read_work_times,
-        &mut read_heights,
-        &mut read_boxes,
-    );
+    let mut cells = [0u16; CELLS];
+    let scanned = lines::read_text(text, &mut symbols, &mut cells);
     match scanned {
         Scanned::Malformed(line) => PlanReading::Refused(Refusal::Malformed(line)),
         Scanned::Whole(scan) => keep_plan(
             scan,
             &symbols,
-            &read_calendars,
-            &read_work_times,
-            &read_heights,
-            &read_boxes,
+            &cells,
             calendars,
             task_calendars,
             work_times,

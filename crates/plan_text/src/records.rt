@@ -1,42 +1,61 @@
 // The records of plan text, one a line.
 use crate::LineRecord;
-use crate::MaybeNumbers;
-use crate::fields;
+use text::MaybeNumbers;
+use text::TAB;
+use text::fields::end_of;
+use text::fields::is_word;
+use text::fields::numbers_of;
 ghost use mathlib.Core.List.{List};
 ghost use mathlib.Core.Path.{_≡_};
 ghost use Prim.Native.Nat.{ℕ, _≤_};
 ghost use lib.ListN.{length, drop};
 ghost use Rattle.plan.specs.Lent.{old, left};
-ghost use Rattle.plan_text.specs.Fields.{tab, parts};
-ghost use Rattle.plan_text.specs.Records.{planOf, calOf, taskOf, recordOf};
-ghost use Rattle.plan_text.specs.Lines.{mostFields, lineRecord, Inside};
+ghost use Rattle.text.specs.Fields.{tab, parts};
+ghost use Rattle.text.specs.Reading.{NumbersMade};
+ghost use Rattle.plan_text.specs.Records.{numbersIf, planOf, calOf, taskOf, recordOf};
+ghost use Rattle.plan_text.specs.inner.Lines.{mostFields, Finds};
+
+// The numbers in the fields from an index of the line on, if there are `least` or `most` of them.
+fn numbers_from(
+    line: &[u8],
+    from: usize,
+    least: usize,
+    most: usize,
+    numbers: &mut [u16],
+) -> MaybeNumbers
+    requires { ⌜ from ≤ length (now line) ⌝ }
+    ensures { λ r. ⌜ NumbersMade (numbersIf least most (parts tab (drop from (old line)))) r (left numbers) ⌝ }
+{
+    let MaybeNumbers::Count(count) = numbers_of(&line[from..], numbers) else {
+        return MaybeNumbers::NotNumbers;
+    };
+    if count == least {
+        return MaybeNumbers::Count(count);
+    }
+    if count == most {
+        return MaybeNumbers::Count(count);
+    }
+    MaybeNumbers::NotNumbers
+}
 
 // `plan`: two numbers, in the fields from an index of the line on.
 fn plan_of(line: &[u8], from: usize, numbers: &mut [u16]) -> LineRecord
     requires { ⌜ (from ≤ length (now line)) × (length (now numbers) ≡ mostFields) ⌝ }
-    ensures { λ r. ⌜ lineRecord r (old line) (left numbers) ≡ planOf (parts tab (drop from (old line))) ⌝ }
-    ensures inside { λ r. ⌜ Inside r (length (old line)) ⌝ }
+    ensures { λ r. ⌜ Finds (planOf (parts tab (drop from (old line)))) r (old line) (left numbers) ⌝ }
 {
-    let MaybeNumbers::Count(count) = fields::numbers_of(&line[from..], numbers) else {
+    let MaybeNumbers::Count(_) = numbers_from(line, from, 2, 2, numbers) else {
         return LineRecord::Other;
     };
-    if count != 2 {
-        return LineRecord::Other;
-    }
-    LineRecord::Plan {
-        hours: numbers[0],
-        capacity: numbers[1],
-    }
+    LineRecord::Plan
 }
 
 // `cal`: one field of symbols, from an index of the line on. It stores no numbers, so the contract takes any.
 fn cal_of(line: &[u8], from: usize) -> LineRecord
     requires { ⌜ from ≤ length (now line) ⌝ }
-    ensures { λ r. ⌜ ((ns : List ℕ) → lineRecord r (old line) ns ≡ calOf (parts tab (drop from (old line)))) ⌝ }
-    ensures inside { λ r. ⌜ Inside r (length (old line)) ⌝ }
+    ensures { λ r. ⌜ ((cells : List ℕ) → Finds (calOf (parts tab (drop from (old line)))) r (old line) cells) ⌝ }
 {
     let fields = &line[from..];
-    if fields::end_of(fields, fields::TAB) != fields.len() {
+    if end_of(fields, TAB) != fields.len() {
         return LineRecord::Other;
     }
     if fields.len() < 1 {
@@ -48,40 +67,32 @@ fn cal_of(line: &[u8], from: usize) -> LineRecord
 // `task`: three numbers or nine, in the fields from an index of the line on.
 fn task_of(line: &[u8], from: usize, numbers: &mut [u16]) -> LineRecord
     requires { ⌜ (from ≤ length (now line)) × (length (now numbers) ≡ mostFields) ⌝ }
-    ensures { λ r. ⌜ lineRecord r (old line) (left numbers) ≡ taskOf (parts tab (drop from (old line))) ⌝ }
-    ensures inside { λ r. ⌜ Inside r (length (old line)) ⌝ }
+    ensures { λ r. ⌜ Finds (taskOf (parts tab (drop from (old line)))) r (old line) (left numbers) ⌝ }
 {
-    let MaybeNumbers::Count(count) = fields::numbers_of(&line[from..], numbers) else {
+    let MaybeNumbers::Count(count) = numbers_from(line, from, 3, 9, numbers) else {
         return LineRecord::Other;
     };
-    if count == 3 {
-        return LineRecord::Task(count);
-    }
-    if count == 9 {
-        return LineRecord::Task(count);
-    }
-    LineRecord::Other
+    LineRecord::Task(count)
 }
 
 // A line's record, by its first field.
 pub fn record_of(line: &[u8], numbers: &mut [u16]) -> LineRecord
     requires { ⌜ length (now numbers) ≡ mostFields ⌝ }
-    ensures { λ r. ⌜ lineRecord r (old line) (left numbers) ≡ recordOf (old line) ⌝ }
-    ensures inside { λ r. ⌜ Inside r (length (old line)) ⌝ }
+    ensures { λ r. ⌜ Finds (recordOf (old line)) r (old line) (left numbers) ⌝ }
 {
-    let end = fields::end_of(line, fields::TAB);
+    let end = end_of(line, TAB);
     if end == line.len() {
         return LineRecord::Other;
     }
     let word = &line[..end];
     let from = end + 1;
-    if fields::is_word(word, b"plan") {
+    if is_word(word, b"plan") {
         return plan_of(line, from, numbers);
     }
-    if fields::is_word(word, b"cal") {
+    if is_word(word, b"cal") {
         return cal_of(line, from);
     }
-    if fields::is_word(word, b"task") {
+    if is_word(word, b"task") {
         return task_of(line, from, numbers);
     }
     LineRecord::Other

@@ -9,6 +9,6 @@ fn main() {
     let mut text = [0u8; BYTES];
     let mut out = [0u8; listing::ROOM];
     let n = io::read_full(STDIN_FILENO, &mut text);
-    let k = listing::text::list_text(&text[..n], &mut out);
+    let k = text_listing::list_text(&text[..n], &mut out);
     io::write_all(STDOUT_FILENO, &out[..k]);
 }

@@ -5,3 +5,4 @@ pub mod Summing
 pub mod Extremes
 pub mod Multiples
 pub mod Ranges
+pub mod Cells

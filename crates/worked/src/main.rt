@@ -133,7 +133,7 @@ fn print_listing(name: &[u8]) {
     let file = os::open_read(name);
     let n = io::read_full(file, &mut text);
     libc::close(file);
-    let k = listing::text::list_text(&text[..n], &mut out);
+    let k = text_listing::list_text(&text[..n], &mut out);
     io::write_all(STDOUT_FILENO, &out[..k]);
 }
 

@@ -1,22 +1,33 @@
 use native.Mathlib.Omega.{arith}
-use Rattle.listing.proofs.Parts.{put-both}
-use Rattle.listing.proofs.Lines.{line-length}
-use mathlib.Core.List.{[], _∷_}
 use borrow.Author.Needs.{needs}
+use Rattle.text.proofs.Puts.{put-both}
+use Rattle.listing.proofs.Lines.{count-length}
 use Rattle.listing.proofs.list_tasks.Statement.{statement}
 use Rattle.listing.proofs.list_tasks.Tie as tie
 
-put-count-requires : tie.Need-put-count-requires
-put-count-requires c κs = search needs
+-- The places that answers look back to: the entry, and the first line once put.
+abbrev entry : tie.After-numbers → tie.Start
+entry c = c .before .before .before .before .before
+
+abbrev first : tie.After-put-tasks-arg → tie.After-put-line
+first c = c .before .before .before
+
+put-line-requires : tie.Need-put-line-requires
+put-line-requires c κs =
+    let s = entry c in
+    omega (arith, s .pre, count-length (s .args .word .now) (s .args .n) (omega (arith, s .fits)))
 
 put-tasks-requires : tie.Need-put-tasks-requires
-put-tasks-requires c κs = (omega (arith, c .before .before .before .put-count .ensures .place, line-length (c .before .before .before .before .before .before .before .before .args .word .now) (c .before .before .before .before .before .before .before .before .args .n ∷ [])), omega arith)
-
-same-length : tie.Need-same-length
-same-length c = search needs
+put-tasks-requires c κs =
+    let p = first c in
+    let s = entry (p .before) in
+    let short = count-length (s .args .word .now) (s .args .n) (omega (arith, s .fits)) in
+    (omega (arith, s .pre, short, p .put-line .ensures .place, p .put-line .kept .0), s .pre .1, s .pre .2)
 
 returns : tie.Need-returns
-returns c = put-both (omega arith) (c .before .before .before .before .before .before .put-count .ensures) (c .before .before .put-tasks .ensures)
+returns c =
+    let t = c .before .before in
+    put-both (omega arith) (first (t .before) .put-line .ensures) (t .put-tasks .ensures)
 
 pub list-tasks-spec : {M : Type 1} → statement M
-list-tasks-spec = tie.close (tie.spec put-count-requires put-tasks-requires same-length returns)
+list-tasks-spec = tie.close (tie.spec (λ c. search needs) put-line-requires put-tasks-requires (λ c. search needs) returns)

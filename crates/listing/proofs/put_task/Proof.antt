@@ -1,51 +1,57 @@
+use mathlib.Core.List.{List, [], _∷_}
+use mathlib.Core.Path.{refl}
+use Prim.Native.Nat.{ℕ}
 use native.Mathlib.Omega.{arith}
-use Rattle.listing.proofs.Digits.{number-length}
-use Rattle.listing.proofs.Lines.{put-task-line, range-end}
 use borrow.Author.Needs.{needs}
+use Rattle.text.proofs.Decimals.{reach}
+use Rattle.text.proofs.Lines.{Below}
+use Rattle.listing.specs.Listing.{taskLine}
+use Rattle.listing.proofs.Lines.{task-length}
 use Rattle.listing.proofs.put_task.Statement.{statement}
 use Rattle.listing.proofs.put_task.Tie as tie
 
-bounds-at-requires : tie.Need-bounds-at-requires
-bounds-at-requires c κs = search needs
+-- The places that answers look back to: the entry, the task's bounds and its numbers.
+abbrev entry : tie.After-bounds-at → tie.Start
+entry c = c .before .before .before
 
-slice-aggregate-put-word : tie.Need-slice-aggregate-put-word
-slice-aggregate-put-word c = search needs
+abbrev bounded : tie.After-numbers → tie.After-bounds-at
+bounded c = c .before .before .before .before .before .before .before .before .before
 
-put-word-requires : tie.Need-put-word-requires
-put-word-requires c κs = search needs
+abbrev numbers : tie.After-numbers → List ℕ
+numbers c =
+    let b = bounded c .bounds-at .result in
+    entry (bounded c) .args .i ∷ b .earliest .0 ∷ b .latest .0 ∷ b .shortest .0 ∷ b .longest .0 ∷ b .fewest .0 ∷ b .most .0 ∷ []
 
-put-field-requires : tie.Need-put-field-requires
-put-field-requires c κs = search needs
+few-digits : (c : tie.After-numbers) → Below (reach 5) (numbers c)
+unfolding Below
+few-digits c =
+    let i = entry (bounded c) .pre .1 in
+    (omega (arith, i), (omega arith, (omega arith, (omega arith, (omega arith, (omega arith, (omega arith, tt)))))))
 
-put-range-requires : tie.Need-put-range-requires
-put-range-requires c κs = omega (arith, number-length (c .before .before .before .before .before .before .before .before .before .before .before .before .before .args .i), c .before .before .before .put-field .ensures .place)
-
-put-range-requires-2 : tie.Need-put-range-requires-2
-put-range-requires-2 c κs = omega (arith, number-length (c .before .before .before .before .before .before .before .before .before .before .before .before .before .before .before .before .before .args .i), c .before .before .before .before .before .before .before .put-field .ensures .place, range-end _ _ (c .before .before .before .put-range .ensures))
-
-put-range-requires-3 : tie.Need-put-range-requires-3
-put-range-requires-3 c κs = omega (arith, number-length (c .before .before .before .before .before .before .before .before .before .before .before .before .before .before .before .before .before .before .before .before .before .args .i), c .before .before .before .before .before .before .before .before .before .before .before .put-field .ensures .place, range-end _ _ (c .before .before .before .before .before .before .before .put-range .ensures), range-end _ _ (c .before .before .before .put-range2 .ensures))
-
-put-byte-requires : tie.Need-put-byte-requires
-put-byte-requires c κs = omega (arith, number-length (c .before .before .before .before .before .before .before .before .before .before .before .before .before .before .before .before .before .before .before .before .before .before .before .before .before .args .i), c .before .before .before .before .before .before .before .before .before .before .before .before .before .before .before .put-field .ensures .place, range-end _ _ (c .before .before .before .before .before .before .before .before .before .before .before .put-range .ensures), range-end _ _ (c .before .before .before .before .before .before .before .put-range2 .ensures), range-end _ _ (c .before .before .before .put-range3 .ensures))
-
-same-length : tie.Need-same-length
-same-length c = search needs
+put-line-requires : tie.Need-put-line-requires
+put-line-requires c κs = omega (arith, entry (bounded c) .pre .0, task-length (numbers c) refl (few-digits c))
 
 returns : tie.Need-returns
-returns c = put-task-line (c .before .before .before .before .before .before .before .before .before .before .before .before .before .before .before .before .before .before .before .before .before .before .before .before .before .before .before .before .args .boxes .now) (c .before .before .before .before .before .before .before .before .before .before .before .before .before .before .before .before .before .before .before .before .before .before .before .before .before .before .before .before .args .i) (c .before .before .before .before .before .before .before .before .before .before .before .before .before .before .before .before .before .before .before .before .before .before .before .before .before .bounds-at .result) (omega (arith, c .before .before .before .before .before .before .before .before .before .before .before .before .before .before .before .before .before .before .before .before .before .before .before .before .before .before .before .before .pre .0)) (c .before .before .before .before .before .before .before .before .before .before .before .before .before .before .before .before .before .before .before .before .before .before .before .before .before .bounds-at .ensures) (c .before .before .before .before .before .before .before .before .before .before .before .before .before .before .before .before .before .before .before .before .before .before .put-word .ensures) (c .before .before .before .before .before .before .before .before .before .before .before .before .before .before .before .before .before .before .put-field .ensures) (c .before .before .before .before .before .before .before .before .before .before .before .before .before .before .put-range .ensures) (c .before .before .before .before .before .before .before .before .before .before .put-range2 .ensures) (c .before .before .before .before .before .before .put-range3 .ensures) (c .before .before .put-byte .ensures)
+unfolding taskLine
+returns c =
+    let p = c .before .before in
+    let s = bounded (p .before) in
+    let short = task-length (numbers (p .before)) refl (few-digits (p .before)) in
+    (rw (← (s .bounds-at .ensures)) (p .put-line .ensures), omega (arith, p .put-line .ensures .place, short))
 
 pub put-task-spec : {M : Type 1} → statement M
 put-task-spec =
     tie.close
     (tie.spec
-    bounds-at-requires
-    slice-aggregate-put-word
-    put-word-requires
-    put-field-requires
-    put-range-requires
-    put-range-requires-2
-    put-range-requires-3
-    put-byte-requires
-    same-length
+    (λ c κs. search needs)
+    (λ c. search needs)
+    (λ c. search needs)
+    (λ c. search needs)
+    (λ c. search needs)
+    (λ c. search needs)
+    (λ c. search needs)
+    (λ c. search needs)
+    (λ c. search needs)
+    put-line-requires
+    (λ c. search needs)
     returns)

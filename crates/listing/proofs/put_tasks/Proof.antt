@@ -1,41 +1,40 @@
-use Prim.Native.Nat.{_-_, _≤_}
 use mathlib.Core.Path.{_≡_, refl, _∙_}
+use Prim.Native.Nat.{_+_, _-_, _*_, _≤_}
 use native.Mathlib.Omega.{arith}
 use lib.ListN.{length}
 use Rattle.listing.specs.Listing.{taskLines}
-use Rattle.listing.specs.Putting.{Put}
-use Rattle.listing.proofs.Parts.{put-none}
-use Rattle.listing.proofs.Lines.{task-lines-length, put-task-next}
+use Rattle.text.specs.Putting.{Put}
+use Rattle.text.proofs.Puts.{put-none}
+use Rattle.listing.proofs.Lines.{put-task-next}
 use Rattle.listing.proofs.put_tasks.Statement.{statement}
 use Rattle.listing.proofs.put_tasks.Tie as tie
 
 abbrev Inv-loop : tie.InvT-loop
-Inv-loop out₀ at boxes tasks end₀ i₀ out end i = (i ≤ tasks) × (length out ≡ length out₀) × (Put (taskLines boxes i) at out₀ end out)
+Inv-loop out₀ at boxes tasks end₀ i₀ out end i =
+    (i ≤ tasks) × (length out ≡ length out₀) × (end ≤ at + 47 * i) × (Put (taskLines boxes i) at out₀ end out)
 
 abbrev μ-loop : tie.MeasureT-loop
 μ-loop out₀ at boxes tasks end₀ i₀ out end i = tasks - i
 
+abbrev entry : tie.At-loop Inv-loop μ-loop → tie.Start Inv-loop μ-loop
+entry c = c .before .before .before
+
 loop-holds : tie.Need-loop-holds Inv-loop μ-loop
 unfolding taskLines
-loop-holds c = (omega arith, refl, put-none _ _)
-
-put-task-requires : tie.Need-put-task-requires Inv-loop μ-loop
-put-task-requires c κs = (omega (arith, c .before .before .loop .inv .2 .place, task-lines-length (c .before .before .before .before .before .args .boxes .now) (c .before .before .loop .i)), omega arith)
-
-add-i : tie.Need-add-i Inv-loop μ-loop
-add-i c = omega arith
-
-loop-less : tie.Need-loop-less Inv-loop μ-loop
-loop-less c = omega arith
+loop-holds c = (omega arith, refl, omega arith, put-none _ _)
 
 loop-again : tie.Need-loop-again Inv-loop μ-loop
-loop-again c = (omega arith, c .before .before .put-task .kept .0 ∙ c .before .before .before .before .before .loop .inv .1, put-task-next (c .before .before .before .before .before .before .before .before .args .boxes .now) (c .before .before .before .before .before .loop .i) (omega arith) (c .before .before .before .before .before .loop .inv .2) (c .before .before .put-task .ensures))
-
-same-length : tie.Need-same-length Inv-loop μ-loop
-same-length c = c .before .loop .inv .1
+loop-again c =
+    let p = c .before .before in
+    let h = p .before .before .before in (
+      omega arith,
+      p .put-task .kept .0 ∙ h .loop .inv .1,
+      omega (arith, p .put-task .ensures .1),
+      put-task-next (entry h .args .boxes .now) (h .loop .i) (omega (arith, entry h .pre .0)) (h .loop .inv .3) (p .put-task .ensures .0),
+    )
 
 returns : tie.Need-returns Inv-loop μ-loop
-returns c = let all : c .before .loop .i ≡ c .before .before .before .before .args .tasks = omega arith in rw all at (c .before .loop .inv .2)
+returns c = let all : c .before .loop .i ≡ entry (c .before) .args .tasks = omega arith in rw all at (c .before .loop .inv .3)
 
 pub put-tasks-spec : {M : Type 1} → statement M
 put-tasks-spec =
@@ -44,9 +43,9 @@ put-tasks-spec =
     Inv-loop
     μ-loop
     loop-holds
-    put-task-requires
-    add-i
-    loop-less
+    (λ c κs. omega (arith, entry (c .before .before) .pre))
+    (λ c. omega arith)
+    (λ c. omega arith)
     loop-again
-    same-length
+    (λ c. c .before .loop .inv .1)
     returns)

@@ -23,7 +23,11 @@ returns-4 c = sym (not-right _ _ (not-right _ _ (not-right _ _ (not-left _ _ (lt
 
 returns-5 : tie.Need-returns-5
 unfolding isEnough
-returns-5 c = sym (and-rest _ _ (le-leb _ _ (c .before .before .before .if1 .left)) ∙ and-rest _ _ (le-leb _ _ (c .before .before .if2 .left)) ∙ and-rest _ _ (le-leb _ _ (c .before .if3 .left)) ∙ and-rest _ _ (le-leb _ _ (c .if4 .left)))
+returns-5 c =
+    sym (and-rest _ _ (le-leb _ _ (c .before .before .before .if1 .left))
+    ∙ and-rest _ _ (le-leb _ _ (c .before .before .if2 .left))
+    ∙ and-rest _ _ (le-leb _ _ (c .before .if3 .left))
+    ∙ and-rest _ _ (le-leb _ _ (c .if4 .left)))
 
 pub is-enough-spec : {M : Type 1} → statement M
 is-enough-spec = tie.close (tie.spec returns returns-2 returns-3 returns-4 returns-5)

@@ -1,6 +1,6 @@
 use native.Mathlib.Omega.{arith}
 use mathlib.Core.Path.{refl}
-use Rattle.listing.proofs.Room.{within-room, part-length}
+use Rattle.text_listing.proofs.Room.{within-room, part-length}
 use borrow.Author.Needs.{needs}
 use Rattle.worked.proofs.print_listing.Statement.{statement}
 use Rattle.worked.proofs.print_listing.Tie as tie

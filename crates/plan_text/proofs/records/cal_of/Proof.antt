@@ -1,53 +1,54 @@
-use mathlib.Core.Path.{sym, ap, _∙_}
-use Prim.Native.Nat.{_-_}
+use mathlib.Core.Path.{_≡_, ap, _∙_}
+use mathlib.Core.List.{List}
+use Prim.Native.Nat.{ℕ, _-_}
 use native.Mathlib.Omega.{arith}
-use lib.ListN.{drop, length-drop}
-use Rattle.plan_text.specs.Fields.{tab}
-use Rattle.plan_text.specs.Lines.{firstAt}
-use Rattle.plan_text.proofs.Parting.{to-end}
+use lib.ListN.{length, drop, length-drop}
+use Rattle.text.specs.Fields.{tab, firstAt}
+use Rattle.plan_text.specs.inner.Lines.{Finds}
+use Rattle.text.proofs.Parts.{to-end}
 use Rattle.plan_text.proofs.Recording.{cal-more, cal-empty, cal-is}
 use borrow.Author.Needs.{needs}
 use Rattle.plan_text.proofs.records.cal_of.Statement.{statement}
 use Rattle.plan_text.proofs.records.cal_of.Tie as tie
 
-sub-fields : tie.Need-sub-fields
-sub-fields c = search needs
+-- The places that answers look back to: the entry, and the end of the first field.
+abbrev entry : tie.After-end-of → tie.Start
+entry c = c .before .before .before
 
-part-fields-start : tie.Need-part-fields-start
-part-fields-start c = search needs
+-- the fields from the index on, and their length
+abbrev fields : tie.After-end-of → List ℕ
+fields c = drop (entry c .args .from) (entry c .args .line .now)
 
-part-fields-end : tie.Need-part-fields-end
-part-fields-end c = search needs
+size : (c : tie.After-end-of) → length (fields c) ≡ length (entry c .args .line .now) - entry c .args .from
+size c = length-drop (entry c .args .from) (entry c .args .line .now)
 
-end-of-requires : tie.Need-end-of-requires
-end-of-requires c κs = search needs
+ends : (c : tie.After-end-of) → c .end-of .result ≡ firstAt tab (fields c)
+ends c = c .end-of .ensures ∙ ap (firstAt tab) (to-end (entry c .args .line .now) (entry c .args .from))
 
 returns : tie.Need-returns
-returns c =
-    let l = c .before .before .before .before .args .line .now in
-    let e = c .before .end-of .ensures ∙ ap (firstAt tab) (to-end l (c .before .before .before .before .args .from)) in
-    (λ ns. sym (cal-more _ (λ q. c .if1 .taken (omega (arith, e, q, length-drop (c .before .before .before .before .args .from) l)))), tt)
+unfolding Finds
+returns c = λ cells. cal-more (fields (c .before)) (λ q. c .if1 .taken (omega (arith, ends (c .before), q, size (c .before))))
 
 returns-2 : tie.Need-returns-2
+unfolding Finds
 returns-2 c =
-    let l = c .before .before .before .before .before .args .line .now in
-    let e = c .before .before .end-of .ensures ∙ ap (firstAt tab) (to-end l (c .before .before .before .before .before .args .from)) in
-    (λ ns. sym (cal-empty (drop (c .before .before .before .before .before .args .from) l) (omega (arith, e, length-drop (c .before .before .before .before .before .args .from) l)) (omega (arith, length-drop (c .before .before .before .before .before .args .from) l))), tt)
+    let e = c .before .before in
+    λ cells. cal-empty (fields e) (omega (arith, ends e, size e)) (omega (arith, size e))
 
 returns-3 : tie.Need-returns-3
+unfolding Finds
 returns-3 c =
-    let l = c .before .before .before .before .before .args .line .now in
-    let e = c .before .before .end-of .ensures ∙ ap (firstAt tab) (to-end l (c .before .before .before .before .before .args .from)) in
-    (λ ns. sym (cal-is (drop (c .before .before .before .before .before .args .from) l) (omega (arith, e, length-drop (c .before .before .before .before .before .args .from) l)) (omega (arith, length-drop (c .before .before .before .before .before .args .from) l))), omega arith)
+    let e = c .before .before in
+    λ cells. (cal-is (fields e) (omega (arith, ends e, size e)) (omega (arith, size e)), entry e .pre)
 
 pub cal-of-spec : {M : Type 1} → statement M
 cal-of-spec =
     tie.close
     (tie.spec
-    sub-fields
-    part-fields-start
-    part-fields-end
-    end-of-requires
+    (λ c. search needs)
+    (λ c. search needs)
+    (λ c. search needs)
+    (λ c κs. search needs)
     returns
     returns-2
     returns-3)

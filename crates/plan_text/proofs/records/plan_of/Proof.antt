@@ -1,76 +1,36 @@
-use mathlib.Core.Path.{sym, ap, ap₂, _∙_}
-use Rattle.plan_text.specs.Fields.{tab, parts, numbersOf}
-use Rattle.plan_text.specs.Lines.{numbersMade, atMost}
-use Rattle.plan_text.specs.declared.MaybeNumbers.{MaybeNumbers}
-use Rattle.plan_text.proofs.Parting.{to-end}
-use Rattle.plan_text.proofs.Recording.{plan-none, plan-not, plan-is}
+use native.Mathlib.Omega.{arith}
 use borrow.Author.Needs.{needs}
+use Rattle.text.proofs.Gathering.{made-none, made-count}
+use Rattle.plan_text.specs.inner.Lines.{Finds}
+use Rattle.plan_text.proofs.Recording.{plan-none, plan-is}
 use Rattle.plan_text.proofs.records.plan_of.Statement.{statement}
 use Rattle.plan_text.proofs.records.plan_of.Tie as tie
 
-sub-numbers-of : tie.Need-sub-numbers-of
-sub-numbers-of c = search needs
+-- The places that answers look back to: the entry, and the numbers once read.
+abbrev entry : tie.After-numbers-from → tie.Start
+entry c = c .before .before .before .before
 
-part-numbers-of-start : tie.Need-part-numbers-of-start
-part-numbers-of-start c = search needs
-
-part-numbers-of-end : tie.Need-part-numbers-of-end
-part-numbers-of-end c = search needs
-
-numbers-of-requires : tie.Need-numbers-of-requires
-numbers-of-requires c κs = search needs
-
-enum-known-count : tie.Need-enum-known-count
-enum-known-count c = search needs
-
-enum-told : tie.Need-enum-told
-enum-told c = search needs
-
-same-length : tie.Need-same-length
-same-length c = search needs
+abbrev called : tie.After-slice-known2 → tie.After-numbers-from
+called c = c .before .before
 
 returns : tie.Need-returns
-returns c =
-    let e = c .before .before .before .before .numbers-of .ensures ∙ ap₂ (λ m k. atMost m (numbersOf (parts tab k))) (c .before .before .before .before .before .before .before .before .before .pre .1) (to-end _ (c .before .before .before .before .before .before .before .before .before .args .from)) in
-    (sym (plan-none _ (sym (ap (λ (r : MaybeNumbers). numbersMade r (c .before .before .before .before .numbers-of .last .1 .0)) (c .enum-told .given .1)) ∙ e)), tt)
-
-same-length-2 : tie.Need-same-length-2
-same-length-2 c = search needs
+unfolding Finds
+returns c = plan-none _ (made-none _ _ _ (called (c .before .before) .numbers-from .ensures) (c .enum-told2 .given .1))
 
 returns-2 : tie.Need-returns-2
+unfolding Finds
 returns-2 c =
-    let e = c .before .before .before .before .before .before .numbers-of .ensures ∙ ap₂ (λ m k. atMost m (numbersOf (parts tab k))) (c .before .before .before .before .before .before .before .before .before .before .before .pre .1) (to-end _ (c .before .before .before .before .before .before .before .before .before .before .before .args .from)) in
-    (sym (plan-not (c .before .before .before .before .before .before .numbers-of .last .1 .0) _ _ (c .before .before .before .before .before .before .numbers-of .kept .1 .0 ∙ c .before .before .before .before .before .before .before .before .before .before .before .pre .1) (sym (ap (λ (r : MaybeNumbers). numbersMade r (c .before .before .before .before .before .before .numbers-of .last .1 .0)) (c .before .before .count .given .1)) ∙ e) (c .if1 .taken)), tt)
-
-slice-read-t14 : tie.Need-slice-read-t14
-slice-read-t14 c = search needs
-
-slice-read-t16 : tie.Need-slice-read-t16
-slice-read-t16 c = search needs
-
-same-length-3 : tie.Need-same-length-3
-same-length-3 c = search needs
-
-returns-3 : tie.Need-returns-3
-returns-3 c =
-    let e = c .before .before .before .before .before .before .before .before .numbers-of .ensures ∙ ap₂ (λ m k. atMost m (numbersOf (parts tab k))) (c .before .before .before .before .before .before .before .before .before .before .before .before .before .pre .1) (to-end _ (c .before .before .before .before .before .before .before .before .before .before .before .before .before .args .from)) in
-    (sym (plan-is (c .before .before .before .before .before .before .before .before .numbers-of .last .1 .0) _ _ (c .before .before .before .before .before .before .before .before .numbers-of .kept .1 .0 ∙ c .before .before .before .before .before .before .before .before .before .before .before .before .before .pre .1) (sym (ap (λ (r : MaybeNumbers). numbersMade r (c .before .before .before .before .before .before .before .before .numbers-of .last .1 .0)) (c .before .before .before .before .count .given .1)) ∙ e) (c .before .before .if1 .left)), tt)
+    let n = called (c .before .before) in
+    plan-is _ (made-count _ _ _ (n .numbers-from .ensures) (c .enum-told .given .1)) (omega (arith, n .numbers-from .kept, entry n .pre))
 
 pub plan-of-spec : {M : Type 1} → statement M
 plan-of-spec =
     tie.close
     (tie.spec
-    sub-numbers-of
-    part-numbers-of-start
-    part-numbers-of-end
-    numbers-of-requires
-    enum-known-count
-    enum-told
-    same-length
+    (λ c κs. search needs)
+    (λ c. search needs)
+    (λ c. search needs)
+    (λ c. search needs)
     returns
-    same-length-2
-    returns-2
-    slice-read-t14
-    slice-read-t16
-    same-length-3
-    returns-3)
+    (λ c. search needs)
+    returns-2)

@@ -1,0 +1,101 @@
+// From plan text to the listing: reads the plan, filters it with room for 2,048 steps, and lists the run.
+use listing::list_refusal;
+use listing::list_run;
+use plan_text::PlanReading;
+use units::Bounds;
+use units::CalendarNumber;
+use units::Duration;
+ghost use mathlib.Core.Path.{_≡_};
+ghost use Prim.Native.Nat.{_*_, _≤_};
+ghost use lib.ListN.{length};
+ghost use Rattle.units.specs.Limits.{mostTasks};
+ghost use Rattle.units.specs.Cells.{written};
+ghost use Rattle.plan.specs.Lent.{old, left, oldPlan};
+ghost use Rattle.listing.specs.Listing.{mostListing};
+ghost use Rattle.text_listing.specs.Program.{planListing, textListing};
+
+// The most symbols of a plan, calendars joined.
+const SYMBOLS: usize = CalendarNumber::MOST * Duration::MOST as usize;
+
+// The most bounds of a plan, six a task.
+const BOUNDS: usize = 6 * Bounds::MOST;
+
+// The steps that the log has room for.
+const STEPS: usize = 2048;
+
+// The listing of a plan that was read: its run, with an empty log.
+fn list_plan(
+    hours: u16,
+    capacity: u16,
+    calendars: &[u8],
+    task_calendars: &[u16],
+    work_times: &[u16],
+    heights: &[u16],
+    boxes: &mut [u16],
+    out: &mut [u8],
+) -> usize
+    requires { ⌜ (length (now «task_calendars») ≤ mostTasks)
+        × (length (now boxes) ≡ 6 * length (now «task_calendars»))
+        × (mostListing ≤ length (now out)) ⌝ }
+    ensures { λ r. let L = planListing (oldPlan hours capacity calendars «task_calendars» «work_times» heights) (old boxes) in
+        ⌜ (r ≡ length L) × (left out ≡ written L (old out)) ⌝ }
+{
+    let mut log_kinds = [0u8; STEPS];
+    let mut log_tasks = [0u16; STEPS];
+    let mut log_hours = [0u16; STEPS];
+    let answer = propagation::filter::filter(
+        hours,
+        capacity,
+        calendars,
+        task_calendars,
+        work_times,
+        heights,
+        boxes,
+        &mut log_kinds,
+        &mut log_tasks,
+        &mut log_hours,
+    );
+    list_run(answer, boxes, task_calendars.len(), out)
+}
+
+// The listing of a text.
+pub fn list_text(text: &[u8], out: &mut [u8]) -> usize
+    requires { ⌜ mostListing ≤ length (now out) ⌝ }
+    ensures { λ r. let L = textListing (old text) in ⌜ (r ≡ length L) × (left out ≡ written L (old out)) ⌝ }
+{
+    let mut symbols = [0u8; SYMBOLS];
+    let mut task_calendars = [0u16; Bounds::MOST];
+    let mut work_times = [0u16; Bounds::MOST];
+    let mut heights = [0u16; Bounds::MOST];
+    let mut boxes = [0u16; BOUNDS];
+    let reading = plan_text::read_plan(
+        text,
+        &mut symbols,
+        &mut task_calendars,
+        &mut work_times,
+        &mut heights,
+        &mut boxes,
+    );
+    match reading {
+        PlanReading::Refused(refusal) => list_refusal(refusal, out),
+        PlanReading::Read {
+            hours,
+            capacity,
+            calendars,
+            tasks,
+        } => {
+            let all = calendars * hours as usize;
+            let cells = 6 * tasks;
+            list_plan(
+                hours,
+                capacity,
+                &symbols[..all],
+                &task_calendars[..tasks],
+                &work_times[..tasks],
+                &heights[..tasks],
+                &mut boxes[..cells],
+                out,
+            )
+        }
+    }
+}
