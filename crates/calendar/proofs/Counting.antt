@@ -8,8 +8,7 @@ use native.Mathlib.Decide.{le-ind}
 use native.Mathlib.Omega.{arith}
 use Rattle.units.specs.Sums.{sumTo, oneIf, countWhere}
 use Rattle.units.proofs.Summing.{one-le}
-use Rattle.plan.specs.Plan.{regular, overtime}
-use Rattle.plan.specs.HourKinds.{isKind}
+use Rattle.plan.specs.HourKinds.{isKind, regular, overtime}
 use Rattle.calendar.specs.Valid.{hoursOf}
 use Rattle.calendar.specs.inner.Stretches.{countsOf, withHour}
 use Rattle.calendar.specs.declared.Counts.{Counts}

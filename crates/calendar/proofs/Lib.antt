@@ -1,7 +1,7 @@
 pub mod Counting
 pub mod Stretches
 pub mod Validity
-pub mod Answers
+pub mod Windows
 pub mod Members
 pub mod Starts
-pub mod Testing
+pub mod Entry

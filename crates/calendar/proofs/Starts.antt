@@ -12,8 +12,7 @@ use Rattle.units.specs.Choice.{if_then_else_}
 use Rattle.units.specs.Sums.{oneIf}
 use Rattle.units.specs.declared.Bounds.{Bounds}
 use Rattle.units.proofs.Choices.{if-true, if-false, true≢false, untrue}
-use Rattle.plan.specs.Plan.{regular, closed, overtime}
-use Rattle.plan.specs.HourKinds.{isKind}
+use Rattle.plan.specs.HourKinds.{isKind, regular, closed, overtime}
 use Rattle.plan.proofs.HourKinds.{open-works}
 use Rattle.calendar.specs.declared.Stretch.{Stretch}
 use Rattle.calendar.specs.declared.Triple.{Triple}

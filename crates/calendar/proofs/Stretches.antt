@@ -15,10 +15,9 @@ use Rattle.units.specs.Sums.{oneIf, countWhere, sumTo}
 use Rattle.units.specs.declared.Bounds.{Bounds}
 use Rattle.units.specs.declared.Duration.{Duration}
 use Rattle.units.proofs.Choices.{true≢false, untrue, same-leb, and-both, and-left, and-right, not-left, not-right, if-true, if-false, if-case, if-all}
-use Rattle.plan.specs.Plan.{regular, closed, overtime}
 use Rattle.calendar.specs.declared.Counts.{Counts}
 use Rattle.calendar.specs.declared.Stretch.{Stretch}
-use Rattle.plan.specs.HourKinds.{isKind}
+use Rattle.plan.specs.HourKinds.{isKind, regular, closed, overtime}
 use Rattle.plan.proofs.HourKinds.{closed-rests}
 use Rattle.calendar.specs.Valid.{hoursOf}
 use Rattle.units.specs.inner.First.{firstFrom}

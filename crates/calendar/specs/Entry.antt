@@ -5,6 +5,7 @@ use Prim.Native.Nat.{ℕ}
 use lib.ListN.{length}
 use Rattle.units.specs.declared.Bounds.{Bounds}
 use Rattle.plan.specs.Plan.{Plan, plan}
+use Rattle.plan.specs.Boxes.{boxCells}
 use Rattle.plan.specs.Refusals.{Answer, refused, answered, faultOf, answerUnless}
 use Rattle.plan.specs.Faults.{inputFault}
 use Rattle.calendar.specs.declared.Fit.{Fit}
@@ -17,12 +18,8 @@ use Rattle.calendar.specs.Rule.{ruleOf}
 unfoldable pub oneTask : List ℕ → ℕ → Plan
 oneTask cal p = plan (length cal) 0 cal (0 ∷ []) (p ∷ []) (0 ∷ [])
 
--- its box, as lent memory holds it
-unfoldable pub oneBox : Bounds → List ℕ
-oneBox b = b .earliest .0 ∷ b .latest .0 ∷ b .shortest .0 ∷ b .longest .0 ∷ b .fewest .0 ∷ b .most .0 ∷ []
-
 unfoldable pub calendarRule : List ℕ → ℕ → Bounds → Answer Fit
-calendarRule cal p b = answerUnless (inputFault (oneTask cal p) (oneBox b)) (ruleOf cal p b)
+calendarRule cal p b = answerUnless (inputFault (oneTask cal p) (boxCells b)) (ruleOf cal p b)
 
 -- the number and the values of each case of the answer
 abbrev pub ruleAnswer : RuleAnswer → Answer Fit

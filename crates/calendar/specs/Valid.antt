@@ -6,8 +6,7 @@ use lib.ListN.{length}
 use lib.Dec.{leb, eqb}
 use Rattle.units.specs.Choice.{_and_, if_then_else_}
 use Rattle.units.specs.Sums.{oneIf, countWhere}
-use Rattle.plan.specs.Plan.{regular, closed, overtime}
-use Rattle.plan.specs.HourKinds.{isKind}
+use Rattle.plan.specs.HourKinds.{isKind, regular, closed, overtime}
 
 -- how many hours of [s, s + e) are of the kind
 unfoldable pub hoursOf : ℕ → List ℕ → ℕ → ℕ → ℕ

@@ -15,8 +15,7 @@ ghost use Prim.Native.Nat.{_+_, _-_, _≤_, _<_};
 ghost use lib.ListN.{length};
 ghost use Rattle.units.specs.Choice.{if_then_else_};
 ghost use Rattle.units.specs.Limits.{mostHours, duration};
-ghost use Rattle.plan.specs.Plan.{closed};
-ghost use Rattle.plan.specs.HourKinds.{isKind};
+ghost use Rattle.plan.specs.HourKinds.{isKind, closed};
 ghost use Rattle.plan.specs.Lent.{old};
 ghost use Rattle.calendar.specs.inner.Stretches.{HasHour, IsStretch, HasRoom, withoutHour, noHours, stretchOf, mayEnd, mayLast, stopsAt, lengthened};
 

@@ -47,7 +47,8 @@ unfolding checkAnswer answerUnless
 accepted-end e k said q = go (e .refusal) q
   where
     go : (o : Option Fault)
-        → _≡_ {A = Answer Accepted} (answered (record { steps = k; impossible = said })) (answerUnless o (record { steps = e .steps; impossible = e .impossible }))
+        → _≡_ {A = Answer Accepted} (answered (record { steps = k; impossible = said }))
+        (answerUnless o (record { steps = e .steps; impossible = e .impossible }))
         → (o ≡ none) × (k ≡ e .steps) × (said ≡ e .impossible)
     go none r =
         let z : _≡_ {A = Accepted} (record { steps = k; impossible = said }) (record { steps = e .steps; impossible = e .impossible }) = cc in
@@ -131,7 +132,11 @@ module _ (P : Plan) (boxes : List ℕ) (from : ℕ) (said : Bool) (part : Part) 
       let l : part .count ≤ length (part .kinds) = omega (arith, size .all-kinds) in
       let m : part .count ≤ length (part .tasks) = omega (arith, size .all-tasks) in
       let o : part .count ≤ length (part .hours) = omega (arith, size .all-hours) in
-      rw (lent-fault P boxes (part .kinds) (part .tasks) (part .hours) (part .count) l m o, steps-lent (part .kinds) (part .tasks) (part .hours) (part .count) l)
+      rw (
+        lent-fault P boxes (part .kinds) (part .tasks) (part .hours) (part .count) l m o,
+        steps-lent (part .kinds) (part .tasks) (part .hours)
+            (part .count) l,
+      )
 
   pub core-checked : (a : LogChecked) (left : List ℕ) → (logAnswer a ≡ checkAnswer core) × (left ≡ core .boxes)
       → (r : PartChecked) → r ≡ checkedPart a (part .count) → CheckedAs (checkStepsFrom P from said boxes (partSteps part)) (part .count) r left
@@ -180,7 +185,8 @@ module _ (P : Plan) (k : ℕ) (said : Bool) (boxes : List ℕ) (xs ys : List Ste
       go none e =
           let is = from-passed P boxes k said xs e in
           let some-refused : replayFrom P k said boxes xs .refusal ≡ some f = ap (λ (l : LogEnd). l .refusal) (sym is) ∙ a in
-          is ∙ sym (from-passed P boxes k said (xs ++ ys) e ∙ replay-append P k said boxes xs ys ∙ ends-there P (replayFrom P k said boxes xs) ys f some-refused)
+          is ∙ sym (from-passed P boxes k said (xs ++ ys) e ∙ replay-append P k said boxes xs ys ∙ ends-there P (replayFrom P k said boxes xs) ys f
+          some-refused)
 
 -- What holds at each turn of the loop over the parts: the end from here is the log's end.
 pub record Going (P : Plan) (opening : List ℕ) (log : List Step) (from : ℕ) (said : Bool) (boxes : List ℕ) : Type 0 where

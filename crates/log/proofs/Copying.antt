@@ -120,7 +120,8 @@ module _ (log : List Step) (from : ℕ) where
         order = omega (arith, c .order);
         steps = s
             ∙ ap (λ (l : List Step). l ++ (x ∷ [])) (c .steps)
-            ∙ ap (λ (y : Step). take (i - from) (drop from log) ++ (y ∷ [])) (e ∙ ap (λ (k : ℕ). getD log k noStep) (sym at) ∙ sym (getD-drop from log (i - from) noStep))
+            ∙ ap (λ (y : Step). take (i - from) (drop from log) ++ (y ∷ []))
+            (e ∙ ap (λ (k : ℕ). getD log k noStep) (sym at) ∙ sym (getD-drop from log (i - from) noStep))
             ∙ sym (take-suc (drop from log) (i - from) noStep inside)
             ∙ ap (λ (k : ℕ). take k (drop from log)) (sym next);
         number = omega (arith, n, c .number, c .order);

@@ -286,8 +286,10 @@ module _ (P : Plan) (opening : List ℕ) (cells : List Step) (taken : ℕ) (boxe
       unfolding written
       logs-more l e =
           is
-          ∙ ap (λ (s : List Step). s ++ written (partSteps (f .steps)) (drop taken log)) (ap (take taken) (t .logs) ∙ take-at (t .steps) (drop taken cells) taken (t .number))
-          ∙ ap (λ (s : List Step). t .steps ++ written (partSteps (f .steps)) s) (ap (drop taken) (t .logs) ∙ drop-at (t .steps) (drop taken cells) taken (t .number))
+          ∙ ap (λ (s : List Step). s ++ written (partSteps (f .steps)) (drop taken log))
+          (ap (take taken) (t .logs) ∙ take-at (t .steps) (drop taken cells) taken (t .number))
+          ∙ ap (λ (s : List Step). t .steps ++ written (partSteps (f .steps)) s)
+          (ap (drop taken) (t .logs) ∙ drop-at (t .steps) (drop taken cells) taken (t .number))
           ∙ ap (λ (s : List Step). t .steps ++ (s ++ drop (length s) (drop taken cells))) e
           ∙ ap (λ (s : List Step). t .steps ++ (l ++ s)) (drop-drop (length l) taken cells)
           ∙ sym (append-assoc (t .steps) l (drop (taken + length l) cells))

@@ -9,8 +9,7 @@ use lib.Seq.{getD-take, getD-drop}
 use borrow.Author.Tests.{eqb-true}
 use Rattle.units.specs.Sums.{oneIf}
 use Rattle.units.proofs.Choices.{if-false}
-use Rattle.plan.specs.Plan.{regular, closed, overtime}
-use Rattle.plan.specs.HourKinds.{isKind, isSymbol}
+use Rattle.plan.specs.HourKinds.{isKind, isSymbol, regular, closed, overtime}
 
 module _ (cal : List ℕ) (t : ℕ) where
   -- a closed hour is no regular hour

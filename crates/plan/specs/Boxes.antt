@@ -1,7 +1,8 @@
 -- The boxes in lent memory: six numbers a task, the bounds of S, E and O, the lower first (01, "Plan text and listing", has the same order).
-use mathlib.Core.List.{List}
+use mathlib.Core.List.{List, [], _∷_}
 use Prim.Native.Nat.{ℕ, _+_, _*_}
-use lib.ListN.{getD, set}
+use lib.ListN.{getD}
+use lib.Seq.{sets}
 use Rattle.units.specs.Limits.{boxNumbers, hour, duration}
 use Rattle.units.specs.declared.Bounds.{Bounds}
 
@@ -17,16 +18,9 @@ boundsAt boxes i =
       most = duration (getD boxes (boxNumbers * i + 5) 0);
     }
 
--- the boxes with another box for task i
+-- the numbers of a box as memory holds them, and the boxes with another box for task i
+abbrev pub boxCells : Bounds → List ℕ
+boxCells b = b .earliest .0 ∷ b .latest .0 ∷ b .shortest .0 ∷ b .longest .0 ∷ b .fewest .0 ∷ b .most .0 ∷ []
+
 unfoldable pub withBounds : List ℕ → ℕ → Bounds → List ℕ
-withBounds boxes i b =
-    set
-    (set
-    (set
-    (set (set (set boxes (boxNumbers * i) (b .earliest .0)) (boxNumbers * i + 1) (b .latest .0)) (boxNumbers * i + 2) (b .shortest .0))
-    (boxNumbers * i + 3)
-    (b .longest .0))
-    (boxNumbers * i + 4)
-    (b .fewest .0))
-    (boxNumbers * i + 5)
-    (b .most .0)
+withBounds boxes i b = sets boxes (boxNumbers * i) (boxCells b)

@@ -5,7 +5,15 @@ use Prim.Native.Nat.{ℕ}
 use lib.Dec.{eqb}
 use lib.ListN.{getD}
 use Rattle.units.specs.Choice.{if_then_else_}
-use Rattle.plan.specs.Plan.{regular, closed, overtime}
+
+abbrev pub regular : ℕ
+regular = 114
+
+abbrev pub closed : ℕ
+closed = 99
+
+abbrev pub overtime : ℕ
+overtime = 111
 
 -- hour t is of the kind
 unfoldable pub isKind : ℕ → List ℕ → ℕ → Bool

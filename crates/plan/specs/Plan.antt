@@ -27,16 +27,6 @@ abbrev pub plan : ℕ → ℕ → List ℕ → List ℕ → List ℕ → List �
 plan hours capacity calendars taskCalendars workTimes heights =
     record { shifts = shifts hours calendars taskCalendars workTimes; capacity = capacity; heights = heights }
 
--- The symbols: `r` regular, `c` closed, `o` overtime.
-abbrev pub regular : ℕ
-regular = 114
-
-abbrev pub closed : ℕ
-closed = 99
-
-abbrev pub overtime : ℕ
-overtime = 111
-
 -- how many tasks there are
 unfoldable pub taskCount : Plan → ℕ
 taskCount P = length (P .shifts .taskCalendars)

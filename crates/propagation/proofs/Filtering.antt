@@ -95,8 +95,10 @@ module _ (P : Plan) (opening kinds₀ tasks₀ hours₀ : List ℕ) (count : ℕ
       record {
         number = length-append (t .steps) (x ∷ []) ∙ (omega (arith, t .logs .number));
         kinds = ap (λ (c : List ℕ). set c count (x .kind)) (t .logs .kinds) ∙ write-next (λ y. y .kind) (t .steps) x kinds₀ count (t .logs .number) l;
-        tasks = ap (λ (c : List ℕ). set c count (x .task)) (t .logs .tasks) ∙ write-next (λ y. y .task) (t .steps) x tasks₀ count (t .logs .number) (omega arith);
-        hours = ap (λ (c : List ℕ). set c count (x .hour)) (t .logs .hours) ∙ write-next (λ y. y .hour) (t .steps) x hours₀ count (t .logs .number) (omega arith);
+        tasks = ap (λ (c : List ℕ). set c count (x .task)) (t .logs .tasks) ∙ write-next (λ y. y .task) (t .steps) x tasks₀ count (t .logs .number)
+            (omega arith);
+        hours = ap (λ (c : List ℕ). set c count (x .hour)) (t .logs .hours) ∙ write-next (λ y. y .hour) (t .steps) x hours₀ count (t .logs .number)
+            (omega arith);
       }
 
   some-room : count < length kinds₀ → length kinds₀ - count ≡ suc (length kinds₀ - (count + 1))
@@ -115,7 +117,8 @@ module _ (P : Plan) (opening kinds₀ tasks₀ hours₀ : List ℕ) (count : ℕ
         goes-on = t .goes-on
             ∙ ap (λ (k : ℕ). resumed (t .steps) (run P boxes k)) (some-room l)
             ∙ ap (resumed (t .steps)) (run-moves (next P) boxes room x left e)
-            ∙ ap (λ (log : List Step). ended (run P left room .ending) log (run P left room .boxes)) (sym (append-assoc (t .steps) (x ∷ []) (run P left room .log)));
+            ∙ ap (λ (log : List Step). ended (run P left room .ending) log (run P left room .boxes))
+            (sym (append-assoc (t .steps) (x ∷ []) (run P left room .log)));
         logs = one-more x l a b;
       }
 

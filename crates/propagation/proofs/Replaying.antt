@@ -103,7 +103,8 @@ answers-accepted e q = rw q
 -- ---- each turn
 
 -- What holds at each turn of the log checker: the end from here is the log's end.
-pub record Replaying (P : Plan) (n : ℕ) (said₀ : Bool) (opening kinds tasks hours : List ℕ) (k : ℕ) (said : Bool) (boxes : List ℕ) (fits : List Fit) : Type 0 where
+pub record Replaying (P : Plan) (n : ℕ) (said₀ : Bool) (opening kinds tasks hours : List ℕ) (k : ℕ) (said : Bool) (boxes : List ℕ) (fits : List Fit) :
+    Type 0 where
   pub keeps : Keeping P boxes fits
   pub same : length boxes ≡ length opening
   pub ends : endFrom P n kinds tasks hours k said boxes ≡ replayFrom P n said₀ opening (stepsIn kinds tasks hours)
@@ -118,7 +119,8 @@ abbrev Replayed : Plan → ℕ → Bool → List ℕ → List ℕ → List ℕ �
 Replayed P n said₀ opening kinds tasks hours answer left =
     (answer ≡ checkAnswer (replayFrom P n said₀ opening (stepsIn kinds tasks hours))) × (left ≡ replayFrom P n said₀ opening (stepsIn kinds tasks hours) .boxes)
 
-pub replay-opens : {P : Plan} {n : ℕ} {said₀ : Bool} {opening kinds tasks hours : List ℕ} {fits : List Fit} → Passed P opening × (oneForEachStep kinds tasks hours ≡ true)
+pub replay-opens : {P : Plan} {n : ℕ} {said₀ : Bool} {opening kinds tasks hours : List ℕ} {fits : List Fit} → Passed P opening ×
+    (oneForEachStep kinds tasks hours ≡ true)
     → ((i : ℕ) → i < taskCount P → getD fits i Never ≡ fitAt (P .shifts) opening i) → length fits ≡ mostTasks
     → Replaying P n said₀ opening kinds tasks hours 0 said₀ opening fits
 replay-opens {P} {n} {said₀} {opening} {kinds} {tasks} {hours} (p, e) q r =

@@ -1,4 +1,4 @@
 pub mod Feasibility
-pub mod Testing
+pub mod Entry
 pub mod Readiness
 pub mod Decision

@@ -11,7 +11,7 @@ use Rattle.plan.specs.Faults.{oneForEachTask, isCalendars, symbolFault, calenda
 use Rattle.calendar.specs.Valid.{hoursOf, overtimeEnds, valid}
 use Rattle.calendar.specs.Triples.{each, over, lasting, starting, validTriples}
 use Rattle.calendar.specs.Rule.{spread, fitOf, ruleOf}
-use Rattle.calendar.specs.Entry.{oneTask, oneBox, calendarRule}
+use Rattle.calendar.specs.Entry.{oneTask, calendarRule}
 use Rattle.steps.specs.Load.{fitAt, mustRun, load, othersLoad, excess}
 use Rattle.steps.specs.Steps.{kindOf, isStep, onJudgement, onFit, sameBounds, withEarliest, withLatest, judgeC, judgeO, judgeL, judgeU, judgeKind, judge}
 use Rattle.steps.specs.Filter.{onAdmitted, ifAdmitted, firstOfKind, firstBy, filterOrder, nextBy, after, runBy}
@@ -20,5 +20,5 @@ use Rattle.plan.specs.HourKinds.{isSymbol, isKind}
 use Rattle.steps.specs.Weeks.{weeks, outcomeOf, hoursHeld}
 
 pub weeks-come-out : map (λ w. outcomeOf (w .week)) weeks ≡ map (λ w. w .outcome) weeks
-unfolding _and_ if_then_else_ someIf onOption _orElse_ firstOf sumTo sumWhere countWhere within isPlanLength isHour isWorkTime isHeight isCapacity isCalendarCount isCalendarNumber isTaskCount isOvertime isRange isBox taskCount calendarCount firstSymbol calendarAt calendarOf workTimeOf heightOf heightsWhere boundsAt withBounds unless answerUnless oneForEachTask isCalendars isSymbol symbolFault calendarsFault countsFault oneTaskFault taskFault tasksFault planFault inputFault isKind hoursOf overtimeEnds valid each over lasting starting validTriples least greatest spread fitOf ruleOf oneTask oneBox calendarRule fitAt mustRun load othersLoad excess kindOf isStep onJudgement onFit sameBounds withEarliest withLatest judgeC judgeO judgeL judgeU judgeKind judge onAdmitted ifAdmitted firstOfKind firstBy filterOrder nextBy after runBy weeks outcomeOf hoursHeld
+unfolding _and_ if_then_else_ someIf onOption _orElse_ firstOf sumTo sumWhere countWhere within isPlanLength isHour isWorkTime isHeight isCapacity isCalendarCount isCalendarNumber isTaskCount isOvertime isRange isBox taskCount calendarCount firstSymbol calendarAt calendarOf workTimeOf heightOf heightsWhere boundsAt withBounds unless answerUnless oneForEachTask isCalendars isSymbol symbolFault calendarsFault countsFault oneTaskFault taskFault tasksFault planFault inputFault isKind hoursOf overtimeEnds valid each over lasting starting validTriples least greatest spread fitOf ruleOf oneTask calendarRule fitAt mustRun load othersLoad excess kindOf isStep onJudgement onFit sameBounds withEarliest withLatest judgeC judgeO judgeL judgeU judgeKind judge onAdmitted ifAdmitted firstOfKind firstBy filterOrder nextBy after runBy weeks outcomeOf hoursHeld
 weeks-come-out = refl

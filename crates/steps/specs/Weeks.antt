@@ -6,7 +6,7 @@ use lib.ListN.{length}
 use Rattle.units.specs.Choice.{if_then_else_}
 use Rattle.units.specs.Limits.{hour, duration}
 use Rattle.units.specs.declared.Bounds.{Bounds}
-use Rattle.plan.specs.Plan.{Plan, plan, regular, closed, overtime}
+use Rattle.plan.specs.Plan.{Plan, plan}
 use Rattle.plan.specs.Refusals.{Answer, answered, answerUnless}
 use Rattle.plan.specs.Faults.{inputFault}
 use Rattle.calendar.specs.declared.Triple.{Triple}
@@ -17,6 +17,7 @@ use Rattle.calendar.specs.Rule.{ruleOf}
 use Rattle.calendar.specs.Entry.{calendarRule}
 use Rattle.steps.specs.Load.{mustRun}
 use Rattle.steps.specs.Steps.{step, letterC, letterO, letterL, letterU}
+use Rattle.plan.specs.HourKinds.{regular, closed, overtime}
 use Rattle.steps.specs.Filter.{Run, settled, impossible, noRoom, ended, run}
 
 abbrev pub bounds : ℕ → ℕ → ℕ → ℕ → ℕ → ℕ → Bounds

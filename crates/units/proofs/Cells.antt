@@ -1,12 +1,14 @@
--- Laws of cells that were written: what stands before and past them, one part after the other, and a loop that writes them. Assumes nothing.
+-- Laws of cells that were written: what stands before and past them, one part after the other, a loop that writes them, and a run of
+-- single stores. Assumes nothing.
 use mathlib.Core.Path.{_≡_, refl, sym, ap, _∙_}
+use mathlib.Core.Logic.{_⊎_, inl, inr}
 use mathlib.Core.List.{List, [], _∷_, _++_, append-assoc}
-use Prim.Native.Nat.{ℕ, suc, _+_, _≤_, _<_}
-use native.Mathlib.Nat.{zero-add}
+use Prim.Native.Nat.{ℕ, zero, suc, _+_, _≤_, _<_}
+use native.Mathlib.Nat.{add-zero, zero-add}
 use native.Mathlib.Numerals.{add-one}
 use native.Mathlib.Omega.{arith}
-use lib.ListN.{length, take, drop, set, getD, length-append}
-use lib.Seq.{paste, paste-suc, length-paste, take-paste, drop-paste, drop-drop, take-length, set-split}
+use lib.ListN.{length, take, drop, set, getD, length-append, length-set}
+use lib.Seq.{paste, paste-suc, length-paste, take-paste, drop-paste, drop-drop, take-length, set-split, sets, getD-set-same, getD-set-other}
 use Rattle.units.specs.Cells.{written, writtenAt}
 
 -- a loop that writes cell by cell
@@ -55,3 +57,24 @@ written-one at x cells l = set-split cells at x l ∙ rw add-one (sym (append-as
 pub written-start : {A : Type 0} (xs cells : List A) → writtenAt 0 xs cells ≡ written xs cells
 unfolding writtenAt written
 written-start xs cells = rw zero-add
+
+-- ---- a run of single stores
+
+module _ {A : Type 0} (d : A) where
+  -- a cell before those stored or after them
+  pub sets-other : (vs l : List A) (i m : ℕ) → (m < i) ⊎ (i + length vs ≤ m) → getD (sets l i vs) m d ≡ getD l m d
+  sets-other [] l i m h = refl
+  sets-other (a ∷ vs) l i m (inl h) = sets-other vs (set l i a) (suc i) m (inl (omega arith)) ∙ getD-set-other l i m a d (λ q. omega arith)
+  sets-other (a ∷ vs) l i m (inr h) = sets-other vs (set l i a) (suc i) m (inr (omega arith)) ∙ getD-set-other l i m a d (λ q. omega arith)
+
+  -- the k-th of those stored
+  pub sets-own : (vs l : List A) (i k : ℕ) → k < length vs → i + length vs ≤ length l → getD (sets l i vs) (i + k) d ≡ getD vs k d
+  sets-own [] l i k h r = absurd (omega arith)
+  sets-own (a ∷ vs) l i zero h r =
+      ap (λ (m : ℕ). getD (sets (set l i a) (suc i) vs) m d) (add-zero i)
+      ∙ sets-other vs (set l i a) (suc i) i (inl (omega arith))
+      ∙ getD-set-same l i a d (omega arith)
+  sets-own (a ∷ vs) l i (suc k) h r =
+      let q : i + suc k ≡ suc i + k = omega arith in
+      ap (λ (m : ℕ). getD (sets (set l i a) (suc i) vs) m d) q
+      ∙ sets-own vs (set l i a) (suc i) k (omega arith) (omega (arith, length-set l i a))

@@ -3,10 +3,11 @@ use mathlib.Core.Option.{none}
 use borrow.Author.Needs.{needs}
 use Rattle.units.specs.Limits.{durationMade}
 use Rattle.units.proofs.Choices.{if-none, if-some}
+use Rattle.plan.specs.Boxes.{boxCells}
 use Rattle.plan.specs.Refusals.{answered, testedFault}
 use Rattle.plan.specs.Faults.{inputFault}
-use Rattle.calendar.specs.Entry.{oneTask, oneBox, calendarRule}
-use Rattle.calendar.proofs.Testing.{one-test, refused-by, answered-by, no-length, ready}
+use Rattle.calendar.specs.Entry.{oneTask, calendarRule}
+use Rattle.calendar.proofs.Entry.{one-test, refused-by, answered-by, no-length, ready}
 use Rattle.calendar.proofs.calendar_rule.Statement.{statement}
 use Rattle.calendar.proofs.calendar_rule.Tie as tie
 
@@ -15,14 +16,14 @@ entry c = c .before .before .before .before .before .before .before .before .bef
 
 -- the code's test is that of a plan of one calendar and one task
 own-test : (c : tie.After-test-input)
-    → let a = entry c .args in testedFault (c .test-input .result) ≡ inputFault (oneTask (a .calendar .now) (a .work-time .0)) (oneBox (a .b))
+    → let a = entry c .args in testedFault (c .test-input .result) ≡ inputFault (oneTask (a .calendar .now) (a .work-time .0)) (boxCells (a .b))
 own-test c =
     let made = c .before .before .before .before .before .before in
     let hours = if-some _ _ _ (sym (made .before .before .of-plan .ensures) ∙ ap durationMade (made .hours .given .1)) in
     c .test-input .ensures ∙ one-test _ _ _ _ (hours .1)
 
 passes : (c : tie.After-enum-told2)
-    → let a = entry (c .before .before) .args in inputFault (oneTask (a .calendar .now) (a .work-time .0)) (oneBox (a .b)) ≡ none
+    → let a = entry (c .before .before) .args in inputFault (oneTask (a .calendar .now) (a .work-time .0)) (boxCells (a .b)) ≡ none
 passes c = sym (own-test (c .before .before)) ∙ ap testedFault (c .enum-told2 .given .1)
 
 -- so that the core answers

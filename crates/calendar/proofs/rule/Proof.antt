@@ -6,7 +6,7 @@ use Rattle.calendar.specs.Triples.{over, starting, validTriples}
 use Rattle.calendar.specs.Rule.{ruleOf}
 use Rattle.calendar.specs.inner.Stretches.{Reaches}
 use Rattle.calendar.specs.inner.Windows.{withTriples}
-use Rattle.calendar.proofs.Answers.{unmoved, over-none, with-step}
+use Rattle.calendar.proofs.Windows.{unmoved, over-none, with-step}
 use Rattle.calendar.proofs.Starts.{Carried, carried-first, shortest-stretch, longest-stretch, carried-on, carried-next}
 use Rattle.calendar.proofs.rule.Statement.{statement}
 use Rattle.calendar.proofs.rule.Tie as tie

@@ -1,49 +1,49 @@
 use mathlib.Core.Path.{_≡_, sym, ap, _∙_}
 use mathlib.Core.Bool.{true, false}
 use borrow.Author.Tests.{not-true, not-false}
-use Rattle.plan.specs.Plan.{closed}
-use Rattle.plan.specs.HourKinds.{isKind}
+use Rattle.plan.specs.HourKinds.{isKind, closed}
 use Rattle.calendar.specs.inner.Stretches.{mayEnd}
 use Rattle.calendar.specs.inner.Windows.{withWindow}
-use Rattle.calendar.proofs.Answers.{unmoved, with-window-of}
+use Rattle.calendar.proofs.Windows.{unmoved, with-window-of}
 use Rattle.calendar.proofs.Stretches.{counts-small}
 use Rattle.calendar.proofs.Starts.{none-closed, none-between, none-ends, window-ready, window-is}
 use borrow.Author.Needs.{needs}
 use Rattle.calendar.proofs.with_start.Statement.{statement}
 use Rattle.calendar.proofs.with_start.Tie as tie
 
--- what is known at the start, once the shortest stretch was found to be an end
-abbrev entry : tie.Else3 → tie.Start
-entry c = c .before .before .before .before .before .before .before .before .before
+-- the places once the first hour is open, and once the shortest stretch is an end
+abbrev entry : tie.Else1 → tie.Start
+entry c = c .before .before .before .before
 
-open-start : (c : tie.Else3) → isKind closed (entry c .args .calendar .now) (entry c .args .s .0) ≡ false
-open-start c = let open-hour = c .before .before .before .before .before in sym (open-hour .before .is-kind .ensures) ∙ open-hour .if1 .left
+abbrev opened : tie.Else3 → tie.Else1
+opened c = c .before .before .before .before .before
 
-ends : (c : tie.Else3) → mayEnd (entry c .args .work-time .0) (entry c .args .b) (entry c .args .shortest) ≡ true
+open-start : (c : tie.Else1) → isKind closed (entry c .args .calendar .now) (entry c .args .s .0) ≡ false
+open-start c = sym (c .before .is-kind .ensures) ∙ c .if1 .left
+
+ends : (c : tie.Else3) → let a = entry (opened c) .args in mayEnd (a .work-time .0) (a .b) (a .shortest) ≡ true
 ends c = sym (c .before .may-end .ensures) ∙ not-false _ (c .if3 .left)
 
 returns : tie.Need-returns
 returns c = unmoved _ (none-closed _ _ _ _ (sym (c .before .is-kind .ensures) ∙ c .if1 .taken))
 
 returns-2 : tie.Need-returns-2
-returns-2 c = unmoved _ (none-between (c .before .before .before .before .before .before .before .pre) (c .if2 .taken))
-
-may-end-requires : tie.Need-may-end-requires
-may-end-requires c κs = counts-small (c .before .before .before .before .before .before .before .pre .is-shortest)
+returns-2 c = unmoved _ (none-between (entry (c .before .before .before) .pre) (c .if2 .taken))
 
 returns-3 : tie.Need-returns-3
 returns-3 c =
-    let known = c .before .before .before .before .before .before .before .before .before .pre in
+    let known = entry (c .before .before .before .before .before) .pre in
     unmoved _ (none-ends known (sym (c .before .may-end .ensures) ∙ not-true _ (c .if3 .taken)))
 
 window-from-requires : tie.Need-window-from-requires
-window-from-requires c κs = window-ready (entry c .pre) (open-start c) (ends c) (c .before .before .if2 .left)
+window-from-requires c κs = window-ready (entry (opened c) .pre) (open-start (opened c)) (ends c) (c .before .before .if2 .left)
 
 returns-4 : tie.Need-returns-4
 returns-4 c =
     let place = c .before .before in
-    let window = window-is (entry place .pre) (open-start place) (ends place) (place .before .before .if2 .left) in
-    c .with-window .ensures ∙ ap (withWindow (entry place .args .fit)) (c .before .window-from .ensures) ∙ sym (with-window-of _ _ _ window)
+    let start = entry (opened place) in
+    let window = window-is (start .pre) (open-start (opened place)) (ends place) (place .before .before .if2 .left) in
+    c .with-window .ensures ∙ ap (withWindow (start .args .fit)) (c .before .window-from .ensures) ∙ sym (with-window-of _ _ _ window)
 
 pub with-start-spec : {M : Type 1} → statement M
 with-start-spec =
@@ -53,7 +53,7 @@ with-start-spec =
     (λ c κs. search needs)
     returns
     returns-2
-    may-end-requires
+    (λ c κs. counts-small (entry (c .before .before .before) .pre .is-shortest))
     returns-3
     window-from-requires
     (λ c κs. search needs)

@@ -10,8 +10,7 @@ use Rattle.units.specs.Limits.{mostHours, duration}
 use Rattle.units.specs.Sums.{oneIf}
 use Rattle.units.specs.inner.First.{firstFrom}
 use Rattle.units.specs.declared.Bounds.{Bounds}
-use Rattle.plan.specs.Plan.{regular, closed, overtime}
-use Rattle.plan.specs.HourKinds.{isKind, isSymbol}
+use Rattle.plan.specs.HourKinds.{isKind, isSymbol, regular, closed, overtime}
 use Rattle.calendar.specs.declared.Counts.{Counts}
 use Rattle.calendar.specs.declared.Stretch.{Stretch}
 use Rattle.calendar.specs.declared.Triple.{Triple}

@@ -1,14 +1,12 @@
-use mathlib.Core.Path.{refl}
 use native.Mathlib.Omega.{arith}
 use lib.ListN.{length-set}
 use borrow.Author.Needs.{needs}
-use Rattle.plan.specs.Boxes.{withBounds}
+use Rattle.plan.proofs.Boxes.{stored}
 use Rattle.plan.proofs.put_bounds.Statement.{statement}
 use Rattle.plan.proofs.put_bounds.Tie as tie
 
 returns : tie.Need-returns
-unfolding withBounds
-returns c = refl
+returns c = stored _ _ _
 
 pub put-bounds-spec : {M : Type 1} → statement M
 put-bounds-spec =

@@ -9,9 +9,11 @@ use Rattle.plan.proofs.Passed.{sized, calendars-passed}
 use Rattle.plan.proofs.test_plan.Statement.{statement}
 use Rattle.plan.proofs.test_plan.Tie as tie
 
--- H and the calendars pass, and then the counts
-calendars-pass : (c : tie.After-enum-told)
-    → let a = c .before .before .before .before .before .before .before .before .args in calendarsFault (a .hours) (a .calendars .now) ≡ none
+abbrev asked : tie.After-enum-told → tie.Start
+asked c = c .before .before .before .before .before .before .before .before
+
+-- H and the calendars pass
+calendars-pass : (c : tie.After-enum-told) → calendarsFault (asked c .args .hours) (asked c .args .calendars .now) ≡ none
 calendars-pass c = sym (c .before .before .test-calendars .ensures) ∙ ap testedFault (c .enum-told .given .1)
 
 returns : tie.Need-returns
@@ -27,7 +29,7 @@ returns-2 c =
 test-tasks-requires : tie.Need-test-tasks-requires
 test-tasks-requires c κs =
     let place = c .before .before .before in
-    let size = sized _ _ _ _ (place .before .before .before .before .before .before .before .before .pre) in
+    let size = sized _ _ _ _ (asked place .pre) in
     record {
       some-hours = calendars-passed (calendars-pass place) .some-hours;
       work-times = size .work-times;

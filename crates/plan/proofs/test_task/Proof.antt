@@ -10,35 +10,39 @@ use Rattle.plan.proofs.Refusing.{go-on, refuse, unless-true, unless-fal
 use Rattle.plan.proofs.test_task.Statement.{statement}
 use Rattle.plan.proofs.test_task.Tie as tie
 
+-- the places once 7 and then 8 does not apply
+abbrev asked : tie.After-known-told → tie.Start
+asked c = c .before .before .before .before .before .before .before
+
+abbrev worked : tie.After-enum-told4 → tie.After-known-told
+worked c = c .before .before .before
+
 -- what holds once 6, 7 or 8 does not apply
 numbered : (c : tie.After-enum-told) → let a = c .before .before .before .args in isCalendarNumber (a .calendars) (a .calendar) ≡ true
 numbered c = if-some _ _ _ (sym (c .before .before .of-plan .ensures) ∙ ap calendarNumberMade (c .enum-told .given .1)) .0
 
-works : (c : tie.After-known-told)
-    → let a = c .before .before .before .before .before .before .before .args in isWorkTime (a .hours .0) (a .work-time) ≡ true
+works : (c : tie.After-known-told) → let a = asked c .args in isWorkTime (a .hours .0) (a .work-time) ≡ true
 works c = if-some _ _ _ (sym (c .before .before .before .of-work .ensures) ∙ ap durationMade (c .before .work .given .1)) .0
 
-takes : (c : tie.After-enum-told4)
-    → let a = c .before .before .before .before .before .before .before .before .before .before .args in isHeight (a .height) ≡ true
+takes : (c : tie.After-enum-told4) → let a = asked (worked c) .args in isHeight (a .height) ≡ true
 takes c = if-some _ _ _ (sym (c .before .before .of-task .ensures) ∙ ap heightMade (c .enum-told4 .given .1)) .0
 
 -- so that 9 decides
 by-box : (c : tie.After-enum-told4)
-    → let a = c .before .before .before .before .before .before .before .before .before .before .args in
+    → let a = asked (worked c) .args in
     oneTaskFault (a .hours .0) (a .calendars) (a .task) (a .calendar) (a .work-time) (a .height) (a .bounds)
     ≡ unless (isBox (a .hours .0) (a .work-time) (a .bounds)) 9 (a .task)
 unfolding oneTaskFault
 by-box c =
-    let worked = c .before .before .before in
-    go-on _ 6 _ _ (numbered (worked .before .before .before .before)) ∙ go-on _ 7 _ _ (works worked) ∙ go-on _ 8 _ _ (takes c)
+    go-on _ 6 _ _ (numbered (worked c .before .before .before .before)) ∙ go-on _ 7 _ _ (works (worked c)) ∙ go-on _ 8 _ _ (takes c)
 
 -- the box is tested with the work time that its constructor made
 same-box : (c : tie.After-enum-told4)
-    → let a = c .before .before .before .before .before .before .before .before .before .before .args in
-    isBox (a .hours .0) (a .work-time) (a .bounds) ≡ isBox (a .hours .0) (c .before .before .before .before .work .given .0 .0 .0) (a .bounds)
+    → let a = asked (worked c) .args in
+    isBox (a .hours .0) (a .work-time) (a .bounds) ≡ isBox (a .hours .0) (worked c .before .work .given .0 .0 .0) (a .bounds)
 same-box c =
-    let made = c .before .before .before .before in
-    let a = made .before .before .before .before .before .before .args in
+    let a = asked (worked c) .args in
+    let made = worked c .before in
     let work = if-some _ _ _ (sym (made .before .before .of-work .ensures) ∙ ap durationMade (made .work .given .1)) in
     ap (λ (d : Duration). isBox (a .hours .0) (d .0) (a .bounds)) (work .1)
 
@@ -56,10 +60,10 @@ returns-2 c =
 returns-3 : tie.Need-returns-3
 unfolding oneTaskFault
 returns-3 c =
-    let worked = c .before .before .before in
+    let place = c .before .before .before in
     sym
-    (go-on _ 6 _ _ (numbered (worked .before .before .before .before))
-    ∙ go-on _ 7 _ _ (works worked)
+    (go-on _ 6 _ _ (numbered (place .before .before .before .before))
+    ∙ go-on _ 7 _ _ (works place)
     ∙ refuse _ 8 _ _ (if-none _ _ (sym (c .before .before .of-task .ensures) ∙ ap heightMade (c .enum-told5 .given .1))))
 
 returns-4 : tie.Need-returns-4

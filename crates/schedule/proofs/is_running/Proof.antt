@@ -1,5 +1,5 @@
 use mathlib.Core.Path.{sym}
-use Rattle.schedule.proofs.Testing.{not-started, started}
+use Rattle.schedule.proofs.Entry.{not-started, started}
 use borrow.Author.Needs.{needs}
 use Rattle.schedule.proofs.is_running.Statement.{statement}
 use Rattle.schedule.proofs.is_running.Tie as tie

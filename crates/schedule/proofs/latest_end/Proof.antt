@@ -7,7 +7,7 @@ use Rattle.units.specs.Sums.{maxTo}
 use Rattle.units.proofs.Summing.{max-with}
 use Rattle.calendar.specs.Triples.{endOf}
 use Rattle.schedule.specs.Schedule.{tripleAt}
-use Rattle.schedule.proofs.Testing.{ends-as, end-as}
+use Rattle.schedule.proofs.Entry.{ends-as, end-as}
 use Rattle.schedule.proofs.latest_end.Statement.{statement}
 use Rattle.schedule.proofs.latest_end.Tie as tie
 

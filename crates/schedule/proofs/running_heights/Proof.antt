@@ -8,7 +8,7 @@ use Rattle.units.specs.Limits.{mostHeight}
 use Rattle.units.specs.Sums.{sumTo, sumWhere}
 use Rattle.units.proofs.Summing.{where-more, where-skip, where-most}
 use Rattle.schedule.specs.Schedule.{tripleAt, runs}
-use Rattle.schedule.proofs.Testing.{runs-as}
+use Rattle.schedule.proofs.Entry.{runs-as}
 use Rattle.schedule.proofs.running_heights.Statement.{statement}
 use Rattle.schedule.proofs.running_heights.Tie as tie
 

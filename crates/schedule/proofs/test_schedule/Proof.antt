@@ -8,7 +8,7 @@ use Rattle.plan.proofs.Refusing.{go-on, refuse}
 use Rattle.schedule.specs.Schedule.{tripleAt}
 use Rattle.schedule.specs.Entry.{scheduleFault, checkFault}
 use Rattle.schedule.specs.Decision.{RightSize}
-use Rattle.schedule.proofs.Testing.{hours-are}
+use Rattle.schedule.proofs.Entry.{hours-are}
 use Rattle.schedule.proofs.Readiness.{InputPasses, same-heights, triples-ready, hours-ready}
 use Rattle.schedule.proofs.test_schedule.Statement.{statement}
 use Rattle.schedule.proofs.test_schedule.Tie as tie

@@ -9,7 +9,7 @@ use Rattle.plan.specs.Plan.{shifts}
 use Rattle.plan.specs.Refusals.{testedFault}
 use Rattle.schedule.specs.Schedule.{tripleAt}
 use Rattle.schedule.specs.Entry.{tripleFault}
-use Rattle.schedule.proofs.Testing.{triple-is, taken-small}
+use Rattle.schedule.proofs.Entry.{triple-is, taken-small}
 use Rattle.schedule.proofs.test_triples.Statement.{statement}
 use Rattle.schedule.proofs.test_triples.Tie as tie
 

@@ -1,7 +1,7 @@
 use mathlib.Core.Path.{_≡_, sym}
 use Prim.Native.Nat.{_+_}
 use native.Mathlib.Omega.{arith}
-use Rattle.plan.specs.Plan.{regular}
+use Rattle.plan.specs.HourKinds.{regular}
 use Rattle.calendar.specs.Valid.{hoursOf}
 use Rattle.calendar.proofs.Stretches.{has-first, counts-below, work-next, work-le, too-long, too-worked, first-works, ends-work}
 use borrow.Author.Needs.{needs}

@@ -7,7 +7,8 @@ use Rattle.capi.proofs.numbers.rule_numbers.Tie as tie
 
 returns : tie.Need-returns
 unfolding ruleNumbers
-returns c = rw (c .before .before .before .answer .given .1) (λ i. c .before .fault-of .ensures .0 i ∷ c .before .fault-of .ensures .1 i ∷ 0 ∷ 0 ∷ 0 ∷ 0 ∷ 0 ∷ 0 ∷ 0 ∷ 0 ∷ 0 ∷ [])
+returns c = rw (c .before .before .before .answer .given .1) (λ i. c .before .fault-of .ensures .0 i ∷ c .before .fault-of .ensures .1 i ∷ 0 ∷ 0 ∷ 0 ∷
+    0 ∷ 0 ∷ 0 ∷ 0 ∷ 0 ∷ 0 ∷ [])
 
 returns-2 : tie.Need-returns-2
 unfolding ruleNumbers

@@ -9,7 +9,8 @@ use Rattle.log.proofs.part.with_step.Tie as tie
 returns : tie.Need-returns
 unfolding partSteps
 returns c = (
-  steps-more (c .args .part .kinds) (c .args .part .tasks) (c .args .part .hours) (c .args .part .count) (c .args .x) (omega (arith, c .pre .0, c .pre .1 .all-kinds)) (omega (arith, c .pre .0, c .pre .1 .all-tasks)) (omega (arith, c .pre .0, c .pre .1 .all-hours)),
+  steps-more (c .args .part .kinds) (c .args .part .tasks) (c .args .part .hours) (c .args .part .count) (c .args .x)
+      (omega (arith, c .pre .0, c .pre .1 .all-kinds)) (omega (arith, c .pre .0, c .pre .1 .all-tasks)) (omega (arith, c .pre .0, c .pre .1 .all-hours)),
   refl,
   sized-more (c .args .part) _ (c .args .part .count) (c .args .x .kind) (c .args .x .task) (c .args .x .hour) refl refl refl (c .pre .1),
 )

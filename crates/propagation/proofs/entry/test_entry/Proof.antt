@@ -18,7 +18,8 @@ returns-3 : tie.Need-returns-3
 returns-3 c =
     c .test-plan .ensures
     ∙ sym
-    (right-size _ _ _ _ _ (sym (c .before .before .before .before .has-one-for-each-task .ensures) ∙ not-false _ (c .before .before .before .if1 .left)) (sym (c .before .before .has-one-for-each-step .ensures) ∙ not-false _ (c .before .if2 .left)))
+    (right-size _ _ _ _ _ (sym (c .before .before .before .before .has-one-for-each-task .ensures) ∙ not-false _
+    (c .before .before .before .if1 .left)) (sym (c .before .before .has-one-for-each-step .ensures) ∙ not-false _ (c .before .if2 .left)))
 
 pub test-entry-spec : {M : Type 1} → statement M
 test-entry-spec =

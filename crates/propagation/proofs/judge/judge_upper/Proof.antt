@@ -16,11 +16,13 @@ returns-3 : tie.Need-returns-3
 returns-3 c = sym (upper-room _ _ _ _ _ (not-true _ (c .if3 .taken)))
 
 returns-4 : tie.Need-returns-4
-returns-4 c = sym (upper-stops _ _ _ _ _ (c .before .before .before .before .before .if1 .left) (c .before .before .before .if2 .left) (not-false _ (c .before .before .if3 .left)) (c .if4 .taken))
+returns-4 c = sym (upper-stops _ _ _ _ _ (c .before .before .before .before .before .if1 .left) (c .before .before .before .if2 .left)
+    (not-false _ (c .before .before .if3 .left)) (c .if4 .taken))
 
 returns-5 : tie.Need-returns-5
 unfolding withLatest
-returns-5 c = sym (upper-moves _ _ _ _ _ (c .before .before .before .before .before .before .if1 .left) (c .before .before .before .before .if2 .left) (not-false _ (c .before .before .before .if3 .left)) (c .before .if4 .left))
+returns-5 c = sym (upper-moves _ _ _ _ _ (c .before .before .before .before .before .before .if1 .left) (c .before .before .before .before .if2 .left)
+    (not-false _ (c .before .before .before .if3 .left)) (c .before .if4 .left))
 
 pub judge-upper-spec : {M : Type 1} → statement M
 judge-upper-spec =

@@ -29,7 +29,13 @@ fit-of-requires : tie.Need-fit-of-requires Inv-loop μ-loop
 fit-of-requires c κs = c .before .before .before .before .before .before .pre .1 _ (omega arith)
 
 loop-again : tie.Need-loop-again Inv-loop μ-loop
-loop-again c = (omega arith, omega arith, simp length-set (c .before .before .loop .inv .2), filled-more _ (c .before .before .loop .fits) _ (c .before .before .loop .i) _ (c .before .before .loop .inv .3) (c .fit-of .ensures) (omega arith))
+loop-again c = (
+  omega arith,
+  omega arith,
+  simp length-set (c .before .before .loop .inv .2),
+  filled-more _ (c .before .before .loop .fits) _
+      (c .before .before .loop .i) _ (c .before .before .loop .inv .3) (c .fit-of .ensures) (omega arith),
+)
 
 returns : tie.Need-returns Inv-loop μ-loop
 returns c = (c .before .loop .inv .2, λ i l. c .before .loop .inv .3 i (omega arith))

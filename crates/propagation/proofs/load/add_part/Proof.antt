@@ -15,7 +15,12 @@ loop-holds : tie.Need-loop-holds Inv-loop μ-loop
 loop-holds c = raised-none _ _ _ _
 
 add-loads : tie.Need-add-loads Inv-loop μ-loop
-add-loads c = omega (arith, c .before .before .before .before .before .pre .1 (c .before .before .loop .t) (omega (arith, c .before .before .before .clipped .ensures)), c .before .before .loop .inv .rest (c .before .before .loop .t) (omega arith))
+add-loads c = omega (
+  arith,
+  c .before .before .before .before .before .pre .1 (c .before .before .loop .t)
+      (omega (arith, c .before .before .before .clipped .ensures)),
+  c .before .before .loop .inv .rest (c .before .before .loop .t) (omega arith),
+)
 
 loop-again : tie.Need-loop-again Inv-loop μ-loop
 loop-again c = raised-next (c .before .loop-test .taken) (omega (arith, c .before .before .before .clipped .ensures)) (c .before .before .loop .inv)

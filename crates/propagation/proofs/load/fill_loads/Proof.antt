@@ -13,6 +13,13 @@ Inv-loop loads₀ heights fits j₀ j-end loads j = (j ≤ length heights) × Fi
 abbrev μ-loop : tie.MeasureT-loop
 μ-loop loads₀ heights fits j₀ j-end loads j = j-end - j
 
+-- the turn of a task with a window, its head, and what the loop began with
+abbrev turn : tie.After-shared-slice-known2 Inv-loop μ-loop → tie.In-loop Inv-loop μ-loop
+turn c = c .before .before .before .before .before .before
+
+abbrev cleared : tie.At-loop Inv-loop μ-loop → tie.After-clear Inv-loop μ-loop
+cleared c = c .before .before .before
+
 loop-holds : tie.Need-loop-holds Inv-loop μ-loop
 loop-holds c = (omega arith, filled-none (c .before .before .clear .ensures .0) (c .before .before .clear .ensures .1))
 
@@ -20,16 +27,28 @@ loop-again : tie.Need-loop-again Inv-loop μ-loop
 loop-again c = (omega arith, filled-never (c .before .before .before .before .loop .inv .1) (c .enum-told .given .1))
 
 add-part-requires : tie.Need-add-part-requires Inv-loop μ-loop
-add-part-requires c κs = (omega (arith, c .before .before .before .before .before .before .before .loop .inv .1 .same, c .before .before .before .before .before .before .before .before .before .before .before .before .before .before .pre .0), filled-room (c .before .before .before .before .before .before .before .loop .inv .1) (c .before .before .before .before .before .before .before .before .before .before .before .before .before .before .pre .1) (c .before .before .before .before .before .before .before .before .before .before .before .before .before .before .pre .2) (c .before .before .before .before .before .before .loop-test .taken))
+add-part-requires c κs =
+    let head = turn c .before in
+    let filled = head .loop .inv .1 in
+    let pre = cleared head .before .before .before .before .pre in
+    (omega (arith, filled .same, pre .0, cleared head .clear .ensures .0), filled-room filled (pre .1) (pre .2) (turn c .loop-test .taken))
 
 loop-again-2 : tie.Need-loop-again-2 Inv-loop μ-loop
-loop-again-2 c = (omega arith, filled-next (c .before .before .before .before .before .before .before .before .before .before .loop .inv .1) _ _ (c .before .before .before .before .before .before .fit2 .given .1) (c .before .before .add-part .ensures .0) (c .before .before .add-part .ensures .1))
+loop-again-2 c =
+    let added = c .before .before in
+    let at = added .before in (
+      omega arith,
+      filled-next (turn at .before .loop .inv .1) _ _ (at .before .before .before .fit2 .given .1) (added .add-part .ensures .0) (added .add-part .ensures .1),
+    )
 
 same-length : tie.Need-same-length Inv-loop μ-loop
-same-length c = c .before .loop .inv .1 .same ∙ c .before .before .before .before .clear .ensures .0
+same-length c = c .before .loop .inv .1 .same ∙ cleared (c .before) .clear .ensures .0
 
 returns : tie.Need-returns Inv-loop μ-loop
-returns c = (c .before .loop .inv .1 .same ∙ c .before .before .before .before .clear .ensures .0, filled-all (c .before .loop .inv .1) (c .before .before .before .before .clear .ensures .0) (c .before .loop .inv .0) (c .loop-test .left))
+returns c =
+    let filled = c .before .loop .inv .1 in
+    let same = cleared (c .before) .clear .ensures .0 in
+    (filled .same ∙ same, filled-all filled same (c .before .loop .inv .0) (c .loop-test .left))
 
 pub fill-loads-spec : {M : Type 1} → statement M
 fill-loads-spec =

@@ -26,7 +26,12 @@ loop-again c = (omega arith, load-never _ _ _ _ _ (c .before .before .before .be
 add-sum : tie.Need-add-sum Inv-loop μ-loop
 add-sum c =
     let small = c .before .before .before .before .before .before .before .before .before .before .pre .1 in
-    omega (arith, small (c .before .before .before .before .before .before .before .before .loop .i), load-small _ _ _ small _ _ (c .before .before .before .before .before .before .before .before .loop .inv .1))
+    omega (
+      arith,
+      small (c .before .before .before .before .before .before .before .before .loop .i),
+      load-small _ _ _ small _ _
+          (c .before .before .before .before .before .before .before .before .loop .inv .1),
+    )
 
 loop-again-2 : tie.Need-loop-again-2 Inv-loop μ-loop
 loop-again-2 c =

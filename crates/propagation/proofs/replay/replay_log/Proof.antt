@@ -85,7 +85,8 @@ loop-again c =
     let g = going (c .before .before) in (
       omega (arith, g .before .loop-test .taken),
       head g .loop .inv .1,
-      replay-stops (head g .loop .inv .2) (below (g .before .loop-test .taken) (head g .loop .inv .1)) (g .if1 .left) (c .before .before .judge-step .ensures) (c .enum-told3 .given .1),
+      replay-stops (head g .loop .inv .2) (below (g .before .loop-test .taken) (head g .loop .inv .1)) (g .if1 .left)
+          (c .before .before .judge-step .ensures) (c .enum-told3 .given .1),
     )
 
 move-bounds-requires : tie.Need-move-bounds-requires Inv-loop μ-loop
@@ -108,7 +109,8 @@ loop-again-2 c =
     let g = going (judged k) in (
       omega (arith, g .before .loop-test .taken),
       head g .loop .inv .1,
-      replay-moves (head g .loop .inv .2) (below (g .before .loop-test .taken) (head g .loop .inv .1)) (g .if1 .left) (judged k .judge-step .ensures) (k .before .judged .given .1)
+      replay-moves (head g .loop .inv .2) (below (g .before .loop-test .taken) (head g .loop .inv .1)) (g .if1 .left) (judged k .judge-step .ensures)
+          (k .before .judged .given .1)
           (c .before .before .move-bounds .ensures),
     )
 

@@ -111,7 +111,8 @@ loop-again c =
       first-next _ _ (inv .2)
           ∙ test-hour _ _ _ _ _ _ _ _ _ (opened from .before .fit2 .given .1) (from .before .before .before .bounds-at .ensures) _ _ _ _ _ _
           (from .first-hour .ensures) (from .before .before .end-hour .ensures) end (inv .1) (at .loop-test .taken)
-          (task (opened from) .outer-test .taken) (entry (task (opened from)) .pre .2 (at .before .loop .t) (omega (arith, end, at .loop-test .taken))) (c .before .exceeds .ensures)
+          (task (opened from) .outer-test .taken) (entry (task (opened from)) .pre .2 (at .before .loop .t)
+          (omega (arith, end, at .loop-test .taken))) (c .before .exceeds .ensures)
           ∙ none-if _ _ (c .if1 .left),
     )
 
@@ -138,11 +139,13 @@ returns-2 c =
     let inv = at .before .loop .inv in
     let from = first at in
     let end = from .before .clipped .ensures in
-    found-at _ _ _ _ _ _ _ _ _ (task (opened from) .before .before .letter .ensures) (task (opened from) .outer-test .taken) (omega (arith, end, at .loop-test .taken))
+    found-at _ _ _ _ _ _ _ _ _ (task (opened from) .before .before .letter .ensures) (task (opened from) .outer-test .taken)
+    (omega (arith, end, at .loop-test .taken))
     (task (opened from) .before .outer .inv .2) (inv .2)
     (test-hour _ _ _ _ _ _ _ _ _ (opened from .before .fit2 .given .1) (from .before .before .before .bounds-at .ensures) _ _ _ _ _ _
     (from .first-hour .ensures) (from .before .before .end-hour .ensures) end (inv .1) (at .loop-test .taken)
-    (task (opened from) .outer-test .taken) (entry (task (opened from)) .pre .2 (at .before .loop .t) (omega (arith, end, at .loop-test .taken))) (c .before .exceeds .ensures)
+    (task (opened from) .outer-test .taken) (entry (task (opened from)) .pre .2 (at .before .loop .t) (omega (arith, end, at .loop-test .taken)))
+    (c .before .exceeds .ensures)
     ∙ some-if _ _ (c .if1 .taken))
 
 pub first-excess-spec : {M : Type 1} → statement M

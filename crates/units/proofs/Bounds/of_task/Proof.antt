@@ -8,22 +8,31 @@ use Rattle.units.proofs.Ranges.{starts, lengths, overtimes, made-range,
 use Rattle.units.proofs.Bounds.of_task.Statement.{statement}
 use Rattle.units.proofs.Bounds.of_task.Tie as tie
 
--- what the tests of S, E and O answer
-in-starts : (c : tie.After-are-in-order) → let a = c .before .before .before .args in c .are-in-order .result ≡ starts (a .hours .0) (a .work-time .0) (a .b)
+-- the places of the tests of S, E and O, and what each answers
+abbrev asked : tie.After-are-in-order → tie.Start
+asked c = c .before .before .before
+
+abbrev at-starts : tie.After-are-in-order2 → tie.After-are-in-order
+at-starts c = c .before .before .before .before
+
+abbrev at-lengths : tie.After-are-in-order3 → tie.After-are-in-order2
+at-lengths c = c .before .before .before .before
+
+in-starts : (c : tie.After-are-in-order) → let a = asked c .args in c .are-in-order .result ≡ starts (a .hours .0) (a .work-time .0) (a .b)
 in-starts c =
     c .are-in-order .ensures
     ∙ ap₂ (inOrder _) (c .before .before .of-plan .ensures) (c .before .of-plan2 .ensures)
     ∙ made-range (isHour _) _ hour (λ n. refl) _ _
 
 in-lengths : (c : tie.After-are-in-order2)
-    → let a = c .before .before .before .before .before .before .before .args in c .are-in-order2 .result ≡ lengths (a .hours .0) (a .work-time .0) (a .b)
+    → let a = asked (at-starts c) .args in c .are-in-order2 .result ≡ lengths (a .hours .0) (a .work-time .0) (a .b)
 in-lengths c =
     c .are-in-order2 .ensures
     ∙ ap₂ (inOrder _) (c .before .before .of-work .ensures) (c .before .of-work2 .ensures)
     ∙ made-range (isWorkTime _) _ duration (λ n. refl) _ _
 
 in-overtimes : (c : tie.After-are-in-order3)
-    → let a = c .before .before .before .before .before .before .before .before .before .before .before .args in
+    → let a = asked (at-starts (at-lengths c)) .args in
     c .are-in-order3 .result ≡ overtimes (a .hours .0) (a .work-time .0) (a .b)
 in-overtimes c =
     c .are-in-order3 .ensures
@@ -41,12 +50,13 @@ returns-3 c = sym (none-if _ _ (not-overtimes _ _ _ (sym (in-overtimes (c .befor
 
 returns-4 : tie.Need-returns-4
 returns-4 c =
-    let ends = c .before .before .before .before in
+    let lengths-pass = c .before .before .before .before in
+    let starts-pass = lengths-pass .before .before .before .before in
     sym
     (some-if _ _
     (is-box _ _ _
-    (sym (in-starts (ends .before .before .before .before .before)) ∙ not-false _ (ends .before .before .before .before .if1 .left))
-    (sym (in-lengths (ends .before)) ∙ not-false _ (ends .if2 .left))
+    (sym (in-starts (starts-pass .before)) ∙ not-false _ (starts-pass .if1 .left))
+    (sym (in-lengths (lengths-pass .before)) ∙ not-false _ (lengths-pass .if2 .left))
     (sym (in-overtimes (c .before)) ∙ not-false _ (c .if3 .left))))
 
 pub of-task-spec : {M : Type 1} → statement M

@@ -12,34 +12,34 @@ use Rattle.units.specs.declared.Duration.{Duration}
 use Rattle.units.specs.declared.Bounds.{Bounds}
 use Rattle.units.proofs.Choices.{else-none, else-some, neither}
 use Rattle.plan.specs.Plan.{plan, taskCount}
-use Rattle.plan.specs.Boxes.{boundsAt}
+use Rattle.plan.specs.Boxes.{boundsAt, boxCells}
 use Rattle.plan.specs.Refusals.{Fault, fault, refused, answered, answerUnless}
 use Rattle.plan.specs.Faults.{oneForEachTask, calendarsFault, planFault, inputFault}
 use Rattle.plan.proofs.Refusing.{unless-true, unless-false}
 use Rattle.plan.proofs.Passed.{passed}
 use Rattle.calendar.specs.Rule.{ruleOf}
 use Rattle.calendar.specs.inner.Stretches.{RuleReady}
-use Rattle.calendar.specs.Entry.{oneTask, oneBox, calendarRule}
+use Rattle.calendar.specs.Entry.{oneTask, calendarRule}
 
 module _ (cal : List ℕ) (p : ℕ) (b : Bounds) where
   -- the memory of one task is of the right size
-  one-each : oneForEachTask (0 ∷ []) (p ∷ []) (0 ∷ []) (oneBox b) ≡ true
-  unfolding oneForEachTask oneBox _and_
+  one-each : oneForEachTask (0 ∷ []) (p ∷ []) (0 ∷ []) (boxCells b) ≡ true
+  unfolding oneForEachTask _and_
   one-each = refl
 
   -- the test that the code asks for, with H from its constructor
   pub one-test : (h : Duration) → duration (length cal) ≡ h
       → inputFault (plan (h .0) 0 cal (0 ∷ []) (p ∷ []) (0 ∷ []))
       (b .earliest .0 ∷ b .latest .0 ∷ b .shortest .0 ∷ b .longest .0 ∷ b .fewest .0 ∷ b .most .0 ∷ [])
-      ≡ inputFault (oneTask cal p) (oneBox b)
-  unfolding oneTask oneBox
+      ≡ inputFault (oneTask cal p) (boxCells b)
+  unfolding oneTask
   one-test h e = rw (← e)
 
-  pub refused-by : (f : Fault) → inputFault (oneTask cal p) (oneBox b) ≡ some f → calendarRule cal p b ≡ refused f
+  pub refused-by : (f : Fault) → inputFault (oneTask cal p) (boxCells b) ≡ some f → calendarRule cal p b ≡ refused f
   unfolding calendarRule answerUnless
   refused-by f e = rw e
 
-  pub answered-by : inputFault (oneTask cal p) (oneBox b) ≡ none → calendarRule cal p b ≡ answered (ruleOf cal p b)
+  pub answered-by : inputFault (oneTask cal p) (boxCells b) ≡ none → calendarRule cal p b ≡ answered (ruleOf cal p b)
   unfolding calendarRule answerUnless
   answered-by e = rw e
 
@@ -51,10 +51,10 @@ module _ (cal : List ℕ) (p : ℕ) (b : Bounds) where
       (else-none _ _ (unless-true _ 31 0 one-each) ∙ else-some _ _ _ (else-some _ _ _ (unless-false _ 2 0 e))))
 
   -- what the core asks
-  pub ready : inputFault (oneTask cal p) (oneBox b) ≡ none → RuleReady cal b
-  unfolding inputFault oneTask oneBox boundsAt
+  pub ready : inputFault (oneTask cal p) (boxCells b) ≡ none → RuleReady cal b
+  unfolding inputFault oneTask boundsAt
   ready e =
       let faults = neither _ _ e in
-      let known = passed (oneTask cal p) (oneBox b) one-each (faults .1) in
+      let known = passed (oneTask cal p) (boxCells b) one-each (faults .1) in
       let box = known .task 0 (unfold taskCount in (omega arith)) .box in
       record { shortest = box .shortest; latest = box .latest; short = known .hours; symbols = known .symbols }
