@@ -11,9 +11,9 @@ use units::MaybeHeight;
 ghost use mathlib.Core.Bool.{true};
 ghost use mathlib.Core.Path.{_≡_};
 ghost use Prim.Native.Nat.{_+_, _*_, _/_, _≤_, _<_};
-ghost use lib.ListN.{length, take, drop};
+ghost use lib.ListN.{length, getD, take, drop};
 ghost use Rattle.units.specs.Choice.{firstOf};
-ghost use Rattle.units.specs.Limits.{boxNumbers};
+ghost use Rattle.units.specs.Limits.{boxNumbers, height};
 ghost use Rattle.plan.specs.Plan.{firstSymbol};
 ghost use Rattle.plan.specs.HourKinds.{isKind, isSymbol};
 ghost use Rattle.plan.specs.Boxes.{boundsAt, withBounds};
@@ -115,6 +115,14 @@ pub fn put_bounds(boxes: &mut [u16], i: usize, b: Bounds)
     boxes[first + 3] = b.longest.0;
     boxes[first + 4] = b.fewest.0;
     boxes[first + 5] = b.most.0;
+}
+
+// The height of task i.
+pub fn height_at(heights: &[u16], i: usize) -> Height
+    requires { ⌜ i < length (now heights) ⌝ }
+    ensures { λ r. ⌜ r ≡ height (getD (old heights) i 0) ⌝ }
+{
+    Height(heights[i])
 }
 
 // The kinds of an hour, by their symbols.

@@ -9,7 +9,7 @@ use lib.Dec.{leb, ltb, eqb}
 use lib.ListN.{length, getD}
 use borrow.Author.Tests.{ltb-true, lt-ltb, le-ltb, le-leb, lt-leb, ne-eqb}
 use Rattle.units.specs.Choice.{_and_, if_then_else_}
-use Rattle.units.specs.Limits.{isHour}
+use Rattle.units.specs.Limits.{isHour, withEarliest, withLatest}
 use Rattle.units.specs.declared.Bounds.{Bounds}
 use Rattle.units.proofs.Choices.{and-both, and-left, and-right, if-true, if-false, not-left, not-right}
 use Rattle.plan.specs.Boxes.{boundsAt}
@@ -21,7 +21,7 @@ use Rattle.steps.specs.declared.Step.{Step}
 use Rattle.steps.specs.declared.Judged.{Judged}
 use Rattle.steps.specs.declared.Judged.the-variants.{Unknown, NotAdmitted, Impossible, Moved}
 use Rattle.steps.specs.Load.{mustRun}
-use Rattle.steps.specs.Steps.{letterC, letterO, letterL, letterU, kindOf, isStep, onFit, sameBounds, withEarliest, withLatest}
+use Rattle.steps.specs.Steps.{letterC, letterO, letterL, letterU, kindOf, isStep, onFit, sameBounds}
 use Rattle.propagation.specs.inner.Ready.{Ready}
 use Rattle.propagation.specs.inner.Kept.{loadOf, exceeds, calendarBy, lowerBy, upperBy, moveBy, boundBy, judgeKindBy, judgeBy}
 

@@ -13,10 +13,10 @@ use lib.ListN.{length, getD, set, length-set, List·getD-eq-default}
 use lib.Seq.{getD-set-same, getD-set-other}
 use borrow.Author.Tests.{ltb-true, ltb-false}
 use Rattle.units.specs.Choice.{_and_, if_then_else_, onOption}
-use Rattle.units.specs.Limits.{mostTasks, mostHeight}
+use Rattle.units.specs.Limits.{mostTasks, mostHeight, withEarliest, withLatest}
 use Rattle.units.specs.declared.Bounds.{Bounds}
 use Rattle.units.proofs.Choices.{and-left, if-true, if-false, if-case, if-all, if-ap}
-use Rattle.units.specs.Limits.{Boxed}
+use Rattle.units.specs.Limits.{Boxed, withEarliest, withLatest}
 use Rattle.units.proofs.Summing.{where-eq, where-split}
 use Rattle.plan.specs.Plan.{Plan, taskCount, workTimeOf, heightOf, heightsWhere}
 use Rattle.plan.specs.Boxes.{boundsAt, withBounds}
@@ -30,7 +30,7 @@ use Rattle.steps.specs.declared.Step.{Step}
 use Rattle.steps.specs.declared.Judged.{Judged}
 use Rattle.steps.specs.declared.Judged.the-variants.{Unknown, NotAdmitted, Impossible, Moved}
 use Rattle.steps.specs.Load.{fitAt, mustRun, load, othersLoad, excess}
-use Rattle.steps.specs.Steps.{Kind, kindC, kindO, kindL, kindU, unknownKind, kindOf, isStep, Judgement, unknown, notAdmitted, impossible, moved, onJudgement, onFit, sameBounds, withEarliest, withLatest, judgeC, judgeO, judgeL, judgeU, judgeKind, judge}
+use Rattle.steps.specs.Steps.{Kind, kindC, kindO, kindL, kindU, unknownKind, kindOf, isStep, Judgement, unknown, notAdmitted, impossible, moved, onJudgement, onFit, sameBounds, judgeC, judgeO, judgeL, judgeU, judgeKind, judge}
 use Rattle.steps.specs.Filter.{stops, moves, stepOf, ifAdmitted, firstBy, nextBy}
 use Rattle.steps.proofs.Judgements.{fit-all}
 use Rattle.steps.proofs.Changes.{judge-change, change-passes}

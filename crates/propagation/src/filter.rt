@@ -9,6 +9,7 @@ use steps::Filtered;
 use steps::Judged;
 use units::Bounds;
 use units::Duration;
+use units::Height;
 ghost use mathlib.Core.Bool.{true};
 ghost use mathlib.Core.Path.{_≡_};
 ghost use Prim.Native.Nat.{_+_, _^_, _<_};
@@ -24,7 +25,7 @@ ghost use Rattle.steps.specs.Claim.{FilterHolds};
 // task's is worked out anew.
 fn run_filter(
     hours: Duration,
-    capacity: u16,
+    capacity: Height,
     calendars: &[u8],
     task_calendars: &[u16],
     work_times: &[u16],
@@ -35,11 +36,11 @@ fn run_filter(
     log_hours: &mut [u16],
     taken: usize,
 ) -> Filtered
-    requires { ⌜ Passed (planOf (hours .0) capacity calendars «task_calendars» «work_times» heights) (now boxes)
+    requires { ⌜ Passed (planOf (hours .0) (capacity .0) calendars «task_calendars» «work_times» heights) (now boxes)
         × (oneForEachStep (now «log_kinds») (now «log_tasks») (now «log_hours») ≡ true) ⌝ }
     requires { ⌜ taken + length (now «log_kinds») < 2 ^ 64 ⌝ }
     ensures { λ r.
-        let P = oldPlan (hours .0) capacity calendars «task_calendars» «work_times» heights in
+        let P = oldPlan (hours .0) (capacity .0) calendars «task_calendars» «work_times» heights in
         let run = run P (old boxes) (length (old «log_kinds»)) in
         ⌜ filterEnd (filterAnswer r) (left boxes) (left «log_kinds») (left «log_tasks») (left «log_hours»)
         ≡ loggedFrom taken run (old «log_kinds») (old «log_tasks») (old «log_hours») ⌝ }
@@ -113,7 +114,7 @@ pub fn filter_from(
     }
     run_filter(
         Duration(hours),
-        capacity,
+        Height(capacity),
         calendars,
         task_calendars,
         work_times,

@@ -7,7 +7,10 @@ use steps::Judged;
 use steps::Step;
 use units::Bounds;
 use units::Duration;
+use units::Height;
 use units::Hour;
+use units::MaybeBounds;
+use units::MaybeHour;
 ghost use mathlib.Core.Path.{_≡_};
 ghost use Prim.Native.Nat.{ℕ, _+_, _≤_, _<_};
 ghost use lib.Dec.{ltb};
@@ -21,14 +24,14 @@ ghost use Rattle.propagation.specs.inner.Kept.{exceeds, calendarBy, lowe
 
 // Whether a task of the height exceeds the capacity in the hour, with the other tasks' load. A task that must run in the hour is in its load
 // already.
-pub fn exceeds(w: Window, height: u16, load: u16, capacity: u16, t: u16) -> bool
-    requires { ⌜ height + load < 65536 ⌝ }
-    ensures { λ r. ⌜ r ≡ exceeds w height load capacity t ⌝ }
+pub fn exceeds(w: Window, height: Height, load: Height, capacity: Height, t: Hour) -> bool
+    requires { ⌜ height .0 + load .0 < 65536 ⌝ }
+    ensures { λ r. ⌜ r ≡ exceeds w (height .0) (load .0) (capacity .0) (t .0) ⌝ }
 {
     if load::must_run(w, t) {
-        return capacity < load;
+        return load.exceeds(capacity);
     }
-    capacity < height + load
+    height.plus(load).exceeds(capacity)
 }
 
 // Whether no bound differs.
@@ -68,74 +71,71 @@ fn judge_calendar(fit: Fit, task: u16, b: Bounds) -> Judged
 }
 
 // O of an hour with the load.
-fn judge_load(capacity: u16, load: u16) -> Judged
-    ensures { λ r. ⌜ r ≡ (if ltb capacity load then Judged.Impossible else Judged.NotAdmitted) ⌝ }
+fn judge_load(capacity: Height, load: Height) -> Judged
+    ensures { λ r. ⌜ r ≡ (if ltb (capacity .0) (load .0) then Judged.Impossible else Judged.NotAdmitted) ⌝ }
 {
-    if capacity < load {
+    if load.exceeds(capacity) {
         return Judged::Impossible;
     }
     Judged::NotAdmitted
 }
 
 // L of a task with the bounds and the window, in an hour with or without the excess.
-fn judge_lower(w: Window, task: u16, b: Bounds, excess: bool, t: u16) -> Judged
-    requires { ⌜ t < mostHours ⌝ }
-    ensures { λ r. ⌜ r ≡ lowerBy w task b excess t ⌝ }
+fn judge_lower(w: Window, task: u16, b: Bounds, excess: bool, t: Hour) -> Judged
+    requires { ⌜ t .0 < mostHours ⌝ }
+    ensures { λ r. ⌜ r ≡ lowerBy w task b excess (t .0) ⌝ }
 {
-    if w.ect.0 <= t {
+    if !t.is_before(w.ect) {
         return Judged::NotAdmitted;
     }
-    if t < b.earliest.0 {
+    if t.is_before(b.earliest) {
         return Judged::NotAdmitted;
     }
     if !excess {
         return Judged::NotAdmitted;
     }
-    if b.latest.0 <= t {
+    let MaybeBounds::Within(bounds) = b.starting_from(t.plus(Duration(1))) else {
         return Judged::Impossible;
-    }
-    let earliest = Hour(t + 1);
-    let mut bounds = b;
-    bounds.earliest = earliest;
+    };
     Judged::Moved { task, bounds }
 }
 
-// U of a task with the bounds and the window, in an hour with or without the excess. The tests add, so that the difference is taken only where
-// it is not negative.
-fn judge_upper(w: Window, task: u16, b: Bounds, excess: bool, t: u16) -> Judged
-    requires { ⌜ (b .earliest .0 + b .shortest .0 < 65536) × (b .latest .0 + b .shortest .0 < 65536) ⌝ }
-    ensures { λ r. ⌜ r ≡ upperBy w task b excess t ⌝ }
+// U of a task with the bounds and the window, in an hour with or without the excess. Where the hour minus the lower E would be before the plan,
+// it is below the lower S.
+fn judge_upper(w: Window, task: u16, b: Bounds, excess: bool, t: Hour) -> Judged
+    requires { ⌜ b .latest .0 + b .shortest .0 < 65536 ⌝ }
+    ensures { λ r. ⌜ r ≡ upperBy w task b excess (t .0) ⌝ }
 {
-    if t < w.bounds.latest.0 {
+    if t.is_before(w.bounds.latest) {
         return Judged::NotAdmitted;
     }
-    if b.latest.0 + b.shortest.0 <= t {
+    if !t.is_before(b.latest.plus(b.shortest)) {
         return Judged::NotAdmitted;
     }
     if !excess {
         return Judged::NotAdmitted;
     }
-    if t < b.earliest.0 + b.shortest.0 {
+    let MaybeHour::Within(latest) = t.minus(b.shortest) else {
         return Judged::Impossible;
-    }
-    let latest = Hour(t - b.shortest.0);
-    let mut bounds = b;
-    bounds.latest = latest;
+    };
+    let MaybeBounds::Within(bounds) = b.starting_by(latest) else {
+        return Judged::Impossible;
+    };
     Judged::Moved { task, bounds }
 }
 
 // L of a task, or U: which of the two bounds of its start moves.
 fn judge_bound(
     lower: bool,
-    capacity: u16,
+    capacity: Height,
     heights: &[u16],
     boxes: &[u16],
     fits: [Fit; Bounds::MOST],
     task: u16,
-    t: u16,
+    t: Hour,
 ) -> Judged
-    requires { ⌜ Ready (now heights) (now boxes) × (task < length (now heights)) × (t < mostHours) ⌝ }
-    ensures { λ r. ⌜ ((hours : ℕ) → r ≡ boundBy hours capacity (old heights) (old boxes) fits lower task t) ⌝ }
+    requires { ⌜ Ready (now heights) (now boxes) × (task < length (now heights)) × (t .0 < mostHours) ⌝ }
+    ensures { λ r. ⌜ ((hours : ℕ) → r ≡ boundBy hours (capacity .0) (old heights) (old boxes) fits lower task (t .0)) ⌝ }
 {
     let i = task as usize;
     let fit = fits[i];
@@ -143,7 +143,7 @@ fn judge_bound(
         return Judged::NotAdmitted;
     };
     let load = load::load_at(fits, heights, t);
-    let excess = exceeds(w, heights[i], load, capacity, t);
+    let excess = exceeds(w, plan::height_at(heights, i), load, capacity, t);
     let b = plan::bounds_at(boxes, i);
     if lower {
         return judge_lower(w, task, b, excess, t);
@@ -151,14 +151,24 @@ fn judge_bound(
     judge_upper(w, task, b, excess, t)
 }
 
-// Whether the task and the hour exist.
-fn is_task_hour(tasks: usize, hours: Duration, task: u16, t: u16) -> bool
-    ensures { λ r. ⌜ r ≡ (ltb task tasks and isHour (hours .0) t) ⌝ }
+// Whether the number is an hour of the plan.
+fn is_hour(hours: Duration, number: u16) -> bool
+    ensures { λ r. ⌜ r ≡ isHour (hours .0) number ⌝ }
 {
-    if tasks <= task as usize {
+    let MaybeHour::Within(_) = Hour::of_plan(number, hours) else {
+        return false;
+    };
+    true
+}
+
+// Whether the step's task and its hour exist.
+fn is_task_hour(tasks: usize, hours: Duration, x: Step) -> bool
+    ensures { λ r. ⌜ r ≡ (ltb (x .task) tasks and isHour (hours .0) (x .hour)) ⌝ }
+{
+    if tasks <= x.task as usize {
         return false;
     }
-    t < hours.0
+    is_hour(hours, x.hour)
 }
 
 // Whether 01's 11 does not apply to the step, in a plan of so many tasks and hours.
@@ -166,23 +176,21 @@ fn is_step(tasks: usize, hours: Duration, x: Step) -> bool
     ensures { λ r. ⌜ r ≡ isStep tasks (hours .0) (kindOf (x .kind)) (x .task) (x .hour) ⌝ }
 {
     let kind = x.kind;
-    let task = x.task;
-    let t = x.hour;
     match kind {
         b'C' => {
-            if tasks <= task as usize {
+            if tasks <= x.task as usize {
                 return false;
             }
-            t == 0
+            x.hour == 0
         }
         b'O' => {
-            if task != 0 {
+            if x.task != 0 {
                 return false;
             }
-            t < hours.0
+            is_hour(hours, x.hour)
         }
-        b'L' => is_task_hour(tasks, hours, task, t),
-        b'U' => is_task_hour(tasks, hours, task, t),
+        b'L' => is_task_hour(tasks, hours, x),
+        b'U' => is_task_hour(tasks, hours, x),
         _ => false,
     }
 }
@@ -190,14 +198,14 @@ fn is_step(tasks: usize, hours: Duration, x: Step) -> bool
 // What a step comes to at its turn.
 pub fn judge_step(
     hours: Duration,
-    capacity: u16,
+    capacity: Height,
     heights: &[u16],
     boxes: &[u16],
     fits: [Fit; Bounds::MOST],
     x: Step,
 ) -> Judged
     requires { ⌜ Ready (now heights) (now boxes) × (hours .0 ≤ mostHours) ⌝ }
-    ensures { λ r. ⌜ r ≡ judgeBy (hours .0) capacity (old heights) (old boxes) fits x ⌝ }
+    ensures { λ r. ⌜ r ≡ judgeBy (hours .0) (capacity .0) (old heights) (old boxes) fits x ⌝ }
 {
     if !is_step(heights.len(), hours, x) {
         return Judged::Unknown;
@@ -205,7 +213,7 @@ pub fn judge_step(
     let kind = x.kind;
     let task = x.task;
     let i = task as usize;
-    let t = x.hour;
+    let t = Hour(x.hour);
     match kind {
         b'C' => judge_calendar(fits[i], task, plan::bounds_at(boxes, i)),
         b'O' => judge_load(capacity, load::load_at(fits, heights, t)),

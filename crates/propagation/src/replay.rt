@@ -10,6 +10,7 @@ use steps::LogChecked;
 use steps::Step;
 use units::Bounds;
 use units::Duration;
+use units::Height;
 ghost use mathlib.Core.Bool.{true};
 ghost use mathlib.Core.Path.{_≡_};
 ghost use Prim.Native.Nat.{_+_, _^_, _<_};
@@ -25,7 +26,7 @@ ghost use Rattle.steps.specs.Claim.{CheckedHolds};
 // its first step has the number `from`. The answers of the calendar rule are kept, and only the moved task's is worked out anew.
 fn replay_log(
     hours: Duration,
-    capacity: u16,
+    capacity: Height,
     calendars: &[u8],
     task_calendars: &[u16],
     work_times: &[u16],
@@ -37,11 +38,11 @@ fn replay_log(
     from: usize,
     said: bool,
 ) -> LogChecked
-    requires { ⌜ Passed (planOf (hours .0) capacity calendars «task_calendars» «work_times» heights) (now boxes)
+    requires { ⌜ Passed (planOf (hours .0) (capacity .0) calendars «task_calendars» «work_times» heights) (now boxes)
         × (oneForEachStep (now «log_kinds») (now «log_tasks») (now «log_hours») ≡ true) ⌝ }
     requires { ⌜ from + length (now «log_kinds») < 2 ^ 64 ⌝ }
     ensures { λ r.
-        let P = oldPlan (hours .0) capacity calendars «task_calendars» «work_times» heights in
+        let P = oldPlan (hours .0) (capacity .0) calendars «task_calendars» «work_times» heights in
         let e = replayFrom P from said (old boxes) (stepsIn (old «log_kinds») (old «log_tasks») (old «log_hours»)) in
         ⌜ (logAnswer r ≡ checkAnswer e) × (left boxes ≡ e .boxes) ⌝ }
 {
@@ -128,7 +129,7 @@ pub fn check_from(
     }
     replay_log(
         Duration(hours),
-        capacity,
+        Height(capacity),
         calendars,
         task_calendars,
         work_times,

@@ -8,6 +8,8 @@ use steps::Found;
 use steps::Step;
 use units::Bounds;
 use units::Duration;
+use units::Height;
+use units::Hour;
 ghost use mathlib.Core.Bool.{true, false};
 ghost use mathlib.Core.Path.{_≡_};
 ghost use Prim.Native.Nat.{_+_, _*_, _≤_, _<_};
@@ -49,16 +51,16 @@ fn first_calendar(tasks: usize, boxes: &[u16], fits: [Fit; Bounds::MOST]) -> Fou
 }
 
 // The first O, by hour: the first hour whose load exceeds the capacity.
-fn first_overload(loads: &[u16], capacity: u16) -> Found
+fn first_overload(loads: &[u16], capacity: Height) -> Found
     requires { ⌜ length (now loads) ≤ mostHours ⌝ }
-    ensures { λ r. ⌜ foundStep r ≡ firstOverload (old loads) capacity ⌝ }
+    ensures { λ r. ⌜ foundStep r ≡ firstOverload (old loads) (capacity .0) ⌝ }
 {
-    for t in 0..loads.len() {
-        if capacity < loads[t] {
+    for at in 0..loads.len() {
+        if plan::height_at(loads, at).exceeds(capacity) {
             return Found::At(Step {
                 kind: b'O',
                 task: 0,
-                hour: t as u16,
+                hour: at as u16,
             });
         }
     }
@@ -75,38 +77,38 @@ fn letter(lower: bool) -> u8
 }
 
 // The first hour in which a step of a task with the window and the box can be admitted.
-fn first_hour(lower: bool, w: Window, b: Bounds) -> u16
-    ensures { λ r. ⌜ r ≡ firstHour lower w b ⌝ }
+fn first_hour(lower: bool, w: Window, b: Bounds) -> Hour
+    ensures { λ r. ⌜ r .0 ≡ firstHour lower w b ⌝ }
 {
     if lower {
-        return b.earliest.0;
+        return b.earliest;
     }
-    w.bounds.latest.0
+    w.bounds.latest
 }
 
 // The hour before which these end.
-fn end_hour(lower: bool, w: Window, b: Bounds) -> u16
+fn end_hour(lower: bool, w: Window, b: Bounds) -> Hour
     requires { ⌜ b .latest .0 + b .shortest .0 < 65536 ⌝ }
-    ensures { λ r. ⌜ r ≡ endHour lower w b ⌝ }
+    ensures { λ r. ⌜ r .0 ≡ endHour lower w b ⌝ }
 {
     if lower {
-        return w.ect.0;
+        return w.ect;
     }
-    b.latest.0 + b.shortest.0
+    b.latest.plus(b.shortest)
 }
 
 // The first L, or the first U, by task, then hour. A task with no valid triple is skipped, and so are the hours in which no step of its can be
 // admitted.
 fn first_excess(
     lower: bool,
-    capacity: u16,
+    capacity: Height,
     heights: &[u16],
     boxes: &[u16],
     fits: [Fit; Bounds::MOST],
     loads: &[u16],
 ) -> Found
     requires { ⌜ Ready (now heights) (now boxes) × (length (now loads) ≤ mostHours) × Loaded (now loads) fits (now heights) ⌝ }
-    ensures { λ r. ⌜ foundStep r ≡ firstExcess (length (old loads)) capacity (old heights) (old boxes) fits lower ⌝ }
+    ensures { λ r. ⌜ foundStep r ≡ firstExcess (length (old loads)) (capacity .0) (old heights) (old boxes) fits lower ⌝ }
 {
     let mut found = Found::Nothing;
     let kind = letter(lower);
@@ -116,16 +118,20 @@ fn first_excess(
             continue;
         };
         let b = plan::bounds_at(boxes, i);
+        let height = plan::height_at(heights, i);
         let end = load::clipped(end_hour(lower, w, b), loads.len());
-        for t in first_hour(lower, w, b)..end {
-            if judge::exceeds(w, heights[i], loads[t as usize], capacity, t) {
+        let mut t = first_hour(lower, w, b);
+        while t.is_before(end) {
+            let load = plan::height_at(loads, t.0 as usize);
+            if judge::exceeds(w, height, load, capacity, t) {
                 found = Found::At(Step {
                     kind,
                     task: i as u16,
-                    hour: t,
+                    hour: t.0,
                 });
                 break 'outer;
             }
+            t = t.plus(Duration(1));
         }
     }
     found
@@ -133,7 +139,7 @@ fn first_excess(
 
 // The first O, L or U, from the loads of the hours.
 fn first_by_load(
-    capacity: u16,
+    capacity: Height,
     heights: &[u16],
     boxes: &[u16],
     fits: [Fit; Bounds::MOST],
@@ -141,9 +147,9 @@ fn first_by_load(
 ) -> Found
     requires { ⌜ Ready (now heights) (now boxes) × (length (now loads) ≤ mostHours) × Loaded (now loads) fits (now heights) ⌝ }
     ensures { λ r. ⌜ foundStep r ≡
-        (firstOverload (old loads) capacity
-        orElse firstExcess (length (old loads)) capacity (old heights) (old boxes) fits true
-        orElse firstExcess (length (old loads)) capacity (old heights) (old boxes) fits false) ⌝ }
+        (firstOverload (old loads) (capacity .0)
+        orElse firstExcess (length (old loads)) (capacity .0) (old heights) (old boxes) fits true
+        orElse firstExcess (length (old loads)) (capacity .0) (old heights) (old boxes) fits false) ⌝ }
 {
     let overload = first_overload(loads, capacity);
     let Found::Nothing = overload else {
@@ -159,14 +165,14 @@ fn first_by_load(
 // The first admitted step: C by task; O by hour; L by task, then hour; U by task, then hour.
 pub fn next_step(
     hours: Duration,
-    capacity: u16,
+    capacity: Height,
     heights: &[u16],
     boxes: &[u16],
     fits: [Fit; Bounds::MOST],
 ) -> Found
     requires { ⌜ Ready (now heights) (now boxes) × (hours .0 ≤ mostHours) ⌝ }
     ensures { λ r. ⌜ foundStep r ≡ firstBy (length (old heights)) (hours .0)
-        (admittedBy (hours .0) capacity (old heights) (old boxes) fits) filterOrder ⌝ }
+        (admittedBy (hours .0) (capacity .0) (old heights) (old boxes) fits) filterOrder ⌝ }
 {
     let calendar = first_calendar(heights.len(), boxes, fits);
     let Found::Nothing = calendar else {

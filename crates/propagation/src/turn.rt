@@ -7,6 +7,7 @@ use steps::Judged;
 use steps::Step;
 use units::Bounds;
 use units::Duration;
+use units::Height;
 ghost use mathlib.Core.List.{List};
 ghost use mathlib.Core.Path.{_≡_};
 ghost use Prim.Native.Nat.{ℕ, _≤_, _<_};
@@ -27,14 +28,14 @@ pub enum Turn {
 // The turn, for every plan whose answers are kept so; a task whose bounds it moves is one of the plan's.
 pub fn next_turn(
     hours: Duration,
-    capacity: u16,
+    capacity: Height,
     heights: &[u16],
     boxes: &[u16],
     fits: [Fit; Bounds::MOST],
 ) -> Turn
     requires { ⌜ Ready (now heights) (now boxes) × (hours .0 ≤ mostHours) ⌝ }
     ensures { λ r. ⌜ ((calendars taskCalendars workTimes : List ℕ) →
-        let P = plan (hours .0) capacity calendars taskCalendars workTimes (old heights) in
+        let P = plan (hours .0) (capacity .0) calendars taskCalendars workTimes (old heights) in
         Keeping P (old boxes) fits → turnOf (old boxes) r ≡ next P (old boxes)) ⌝ }
     ensures there { λ r. ⌜ ((x : Step) (i : ℕ) (b : Bounds) → r ≡ Turn.At x (Judged.Moved i b) → i < length (old heights)) ⌝ }
 {

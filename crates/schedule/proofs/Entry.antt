@@ -47,19 +47,19 @@ module _ (x y : Triple) (is : x ≡ y) where
   pub runs-as : (t : ℕ) (r b : Bool) → r ≡ runs x t → r ≡ b → runs y t ≡ b
   runs-as t r b p q = rw (← is) (sym p ∙ q)
 
-  pub ends-as : (m : ℕ) → endOf y ≤ m → endOf x ≤ m
-  ends-as m l = rw is l
+  pub ends-as : endOf y < 65536 → endOf x < 65536
+  ends-as l = rw is l
 
   pub end-as : (h : Hour) → h ≡ hour (endOf x) → h .0 ≡ endOf y
   end-as h e = rw (← is) (ap (λ (k : Hour). k .0) e)
 
 -- the capacity, held against heights that were added
-module _ (n r capacity : ℕ) (is : r ≡ n) where
-  pub exceeds : capacity < r → leb n capacity ≡ false
-  exceeds l = lt-leb n capacity (omega arith)
+module _ (n r capacity : ℕ) (is : r ≡ n) (over : Bool) (found : over ≡ ltb capacity r) where
+  pub exceeds : over ≡ true → leb n capacity ≡ false
+  exceeds e = lt-leb n capacity (omega (arith, is, ltb-true capacity r (sym found ∙ e)))
 
-  pub allows : r ≤ capacity → leb n capacity ≡ true
-  allows l = le-leb n capacity (omega arith)
+  pub allows : over ≡ false → leb n capacity ≡ true
+  allows e = le-leb n capacity (omega (arith, is, ltb-false capacity r (sym found ∙ e)))
 
 -- the first so many of a list
 pub taken-small : (l all : List ℕ) (n m : ℕ) → l ≡ take n all → n ≤ m → length l ≤ m

@@ -122,14 +122,14 @@ fn is_running(t: Triple, hour: Hour) -> bool
 }
 
 // The heights of the tasks that run in the hour, added.
-fn running_heights(heights: &[u16], schedule: &[u16], hour: Hour) -> u16
+fn running_heights(heights: &[u16], schedule: &[u16], hour: Hour) -> Height
     requires { ⌜ HoursReady (now heights) (now schedule) ⌝ }
-    ensures { λ r. ⌜ r ≡ runningHeights (old heights) (old schedule) (hour .0) ⌝ }
+    ensures { λ r. ⌜ r .0 ≡ runningHeights (old heights) (old schedule) (hour .0) ⌝ }
 {
-    let mut sum = 0;
+    let mut sum = Height(0);
     for i in 0..heights.len() {
         if is_running(triple_at(schedule, i), hour) {
-            sum += heights[i];
+            sum = sum.plus(plan::height_at(heights, i));
         }
     }
     sum
@@ -141,7 +141,7 @@ fn test_hours(hours: Duration, capacity: Height, heights: &[u16], schedule: &[u1
     ensures { λ r. ⌜ testedFault r ≡ firstOf (heightsFault (capacity .0) (old heights) (old schedule)) (hours .0) ⌝ }
 {
     for hour in 0..hours.0 {
-        if capacity.0 < running_heights(heights, schedule, Hour(hour)) {
+        if running_heights(heights, schedule, Hour(hour)).exceeds(capacity) {
             return Tested::Refused(Refusal::OverCapacity(hour as usize));
         }
     }

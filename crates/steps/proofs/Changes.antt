@@ -11,7 +11,7 @@ use borrow.Author.Tests.{leb-true, leb-false, ltb-true, ltb-false, le-leb, lt-lt
 use Rattle.units.specs.declared.Hour.{Hour}
 use Rattle.units.specs.declared.Bounds.{Bounds}
 use Rattle.units.proofs.Choices.{and-both}
-use Rattle.units.specs.Limits.{Boxed}
+use Rattle.units.specs.Limits.{Boxed, withEarliest, withLatest}
 use Rattle.units.proofs.Summing.{sum-gap}
 use Rattle.plan.specs.Plan.{Plan, taskCount, workTimeOf}
 use Rattle.plan.specs.Boxes.{boundsAt, withBounds}
@@ -25,7 +25,7 @@ use Rattle.calendar.proofs.Members.{InBounds, in-bounds, bounds-in, Narrower, n
 use Rattle.schedule.specs.Schedule.{runs, Feasible}
 use Rattle.steps.specs.declared.Step.{Step}
 use Rattle.steps.specs.Load.{fitAt}
-use Rattle.steps.specs.Steps.{Kind, sameBounds, withEarliest, withLatest, impossible, moved, judge}
+use Rattle.steps.specs.Steps.{Kind, sameBounds, impossible, moved, judge}
 use Rattle.steps.specs.Widths.{width, widths}
 use Rattle.steps.proofs.Loads.{fit-held, load-runs, others-run}
 use Rattle.steps.proofs.Judgements.{Crowded, Moves, movesC, movesL, movesU, Stops, stopsC, stopsO, stopsL, stopsU, judged-moved, judged-impossible}

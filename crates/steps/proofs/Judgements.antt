@@ -4,7 +4,7 @@ use mathlib.Core.Bool.{true, false}
 use mathlib.Core.List.{List}
 use Prim.Native.Nat.{ℕ, _+_, _-_, _≤_, _<_}
 use borrow.Author.Tests.{leb-true, leb-false, ltb-true, ltb-false}
-use Rattle.units.specs.Limits.{isHour}
+use Rattle.units.specs.Limits.{isHour, withEarliest, withLatest}
 use Rattle.units.proofs.Choices.{and-left, and-right, if-all}
 use Rattle.plan.specs.Plan.{Plan, taskCount, heightOf}
 use Rattle.plan.specs.Boxes.{boundsAt, withBounds}
@@ -14,7 +14,7 @@ use Rattle.calendar.specs.declared.Fit.the-variants.{Never, Within}
 use Rattle.calendar.specs.Rule.{lst, ect}
 use Rattle.steps.specs.declared.Step.{Step}
 use Rattle.steps.specs.Load.{fitAt, load, othersLoad, excess}
-use Rattle.steps.specs.Steps.{Kind, kindC, kindO, kindL, kindU, unknownKind, kindOf, isStep, Judgement, unknown, notAdmitted, impossible, moved, onJudgement, onFit, sameBounds, withEarliest, withLatest, judgeC, judgeO, judgeL, judgeU, judgeKind, judge}
+use Rattle.steps.specs.Steps.{Kind, kindC, kindO, kindL, kindU, unknownKind, kindOf, isStep, Judgement, unknown, notAdmitted, impossible, moved, onJudgement, onFit, sameBounds, judgeC, judgeO, judgeL, judgeU, judgeKind, judge}
 
 -- a fact of what is made of a judgement, or of a fit, from the fact of each case
 pub judgement-all : {A : Type 0} (C : A → Type 0) (j : Judgement) (u n i : A) (m : List ℕ → A) → (j ≡ unknown → C u) → (j ≡ notAdmitted → C n)

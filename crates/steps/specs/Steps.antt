@@ -4,7 +4,7 @@ use mathlib.Core.List.{List}
 use Prim.Native.Nat.{ℕ, _+_, _-_}
 use lib.Dec.{leb, ltb, eqb}
 use Rattle.units.specs.Choice.{_and_, if_then_else_}
-use Rattle.units.specs.Limits.{hour, isHour}
+use Rattle.units.specs.Limits.{isHour, withEarliest, withLatest}
 use Rattle.units.specs.declared.Bounds.{Bounds}
 use Rattle.plan.specs.Plan.{Plan, taskCount}
 use Rattle.plan.specs.Boxes.{boundsAt, withBounds}
@@ -74,29 +74,6 @@ sameBounds a b =
     and eqb (a .longest .0) (b .longest .0)
     and eqb (a .fewest .0) (b .fewest .0)
     and eqb (a .most .0) (b .most .0)
-
--- bounds with another lower S, and with another upper S
-unfoldable pub withEarliest : Bounds → ℕ → Bounds
-withEarliest b s =
-    record {
-      earliest = hour s;
-      latest = b .latest;
-      shortest = b .shortest;
-      longest = b .longest;
-      fewest = b .fewest;
-      most = b .most;
-    }
-
-unfoldable pub withLatest : Bounds → ℕ → Bounds
-withLatest b s =
-    record {
-      earliest = b .earliest;
-      latest = hour s;
-      shortest = b .shortest;
-      longest = b .longest;
-      fewest = b .fewest;
-      most = b .most;
-    }
 
 -- C task: the six bounds become the least and greatest s, e and o over the valid triples in the box. Admitted if a bound changes, or if there
 -- is no valid triple, which is impossible

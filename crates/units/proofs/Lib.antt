@@ -6,3 +6,4 @@ pub mod Extremes
 pub mod Multiples
 pub mod Ranges
 pub mod Cells
+pub mod Heights

@@ -114,6 +114,29 @@ pub record Boxed (h p : ℕ) (b : Bounds) : Type 0 where
   pub overtimes : b .fewest .0 ≤ b .most .0
   pub most : b .most .0 ≤ p
 
+-- a box with another lower S, and with another upper S
+unfoldable pub withEarliest : Bounds → ℕ → Bounds
+withEarliest b s =
+    record {
+      earliest = hour s;
+      latest = b .latest;
+      shortest = b .shortest;
+      longest = b .longest;
+      fewest = b .fewest;
+      most = b .most;
+    }
+
+unfoldable pub withLatest : Bounds → ℕ → Bounds
+withLatest b s =
+    record {
+      earliest = b .earliest;
+      latest = hour s;
+      shortest = b .shortest;
+      longest = b .longest;
+      fewest = b .fewest;
+      most = b .most;
+    }
+
 -- what a constructor answers, for each kind of value
 abbrev pub hourMade : MaybeHour → Option Hour
 hourMade some-hour.Outside = none

@@ -1,8 +1,8 @@
 // The kinds of value that a plan is made of. Document 01's limits stand here, each once, at the kind of value that it limits.
 ghost use mathlib.Core.Path.{_≡_};
 ghost use Prim.Native.Nat.{_+_, _-_, _*_, _≤_, _<_};
-ghost use lib.Dec.{eqb};
-ghost use Rattle.units.specs.Limits.{hour, duration, height, calendarNumber, isPlanLength, isHour, isWorkTime, isHeight, isCapacity, isCalendarCount, isCalendarNumber, isTaskCount, isOvertime, isBox, hourMade, durationMade, heightMade, calendarNumberMade, boundsMade};
+ghost use lib.Dec.{leb, ltb, eqb};
+ghost use Rattle.units.specs.Limits.{hour, duration, height, calendarNumber, isPlanLength, isHour, isWorkTime, isHeight, isCapacity, isCalendarCount, isCalendarNumber, isTaskCount, isOvertime, isBox, withEarliest, withLatest, hourMade, durationMade, heightMade, calendarNumberMade, boundsMade};
 ghost use Rattle.units.specs.Choice.{someIf};
 ghost use Rattle.units.specs.inner.Order.{inOrder};
 
@@ -55,9 +55,6 @@ pub enum MaybeBounds {
 }
 
 impl Hour {
-    // The end of the longest plan: no task ends later.
-    pub const LATEST_END: u16 = Duration::MOST;
-
     // An hour of a plan of so many hours.
     pub fn of_plan(number: u16, hours: Duration) -> MaybeHour
         ensures { λ r. ⌜ hourMade r ≡ someIf (isHour (hours .0) number) (hour number) ⌝ }
@@ -70,10 +67,26 @@ impl Hour {
 
     // The hour so much later: where a task that starts here ends.
     pub fn plus(self, elapsed: Duration) -> Hour
-        requires { do ⌜ self .0 + elapsed .0 ≤ (← ⟦Hour::LATEST_END⟧) ⌝ }
+        requires { ⌜ self .0 + elapsed .0 < 65536 ⌝ }
         ensures { λ r. ⌜ r ≡ hour (self .0 + elapsed .0) ⌝ }
     {
         Hour(self.0 + elapsed.0)
+    }
+
+    // The hour so much earlier, where the plan's first is not later than that.
+    pub fn minus(self, elapsed: Duration) -> MaybeHour
+        ensures { λ r. ⌜ hourMade r ≡ someIf (leb (elapsed .0) (self .0)) (hour (self .0 - elapsed .0)) ⌝ }
+    {
+        if self.0 < elapsed.0 {
+            return MaybeHour::Outside;
+        }
+        MaybeHour::Within(Hour(self.0 - elapsed.0))
+    }
+
+    pub fn is_before(self, other: Hour) -> bool
+        ensures { λ r. ⌜ r ≡ ltb (self .0) (other .0) ⌝ }
+    {
+        self.0 < other.0
     }
 
     // The time from an earlier hour to this one.
@@ -169,6 +182,20 @@ impl Height {
         MaybeHeight::Within(Height(number))
     }
 
+    // With another height in the same hour.
+    pub fn plus(self, other: Height) -> Height
+        requires { ⌜ self .0 + other .0 < 65536 ⌝ }
+        ensures { λ r. ⌜ r ≡ height (self .0 + other .0) ⌝ }
+    {
+        Height(self.0 + other.0)
+    }
+
+    pub fn exceeds(self, capacity: Height) -> bool
+        ensures { λ r. ⌜ r ≡ ltb (capacity .0) (self .0) ⌝ }
+    {
+        capacity.0 < self.0
+    }
+
     // The capacity of a plan.
     pub fn of_plan(number: u16) -> MaybeHeight
         ensures { λ r. ⌜ heightMade r ≡ someIf (isCapacity number) (height number) ⌝ }
@@ -238,6 +265,30 @@ impl Bounds {
         if !Duration::are_in_order(fewest, most) {
             return MaybeBounds::Outside;
         }
+        MaybeBounds::Within(b)
+    }
+
+    // The box with another lower bound of S, where that is at most the upper.
+    pub fn starting_from(self, earliest: Hour) -> MaybeBounds
+        ensures { λ r. ⌜ boundsMade r ≡ someIf (leb (earliest .0) (self .latest .0)) (withEarliest self (earliest .0)) ⌝ }
+    {
+        if self.latest.0 < earliest.0 {
+            return MaybeBounds::Outside;
+        }
+        let mut b = self;
+        b.earliest = earliest;
+        MaybeBounds::Within(b)
+    }
+
+    // The box with another upper bound of S, where the lower is at most that.
+    pub fn starting_by(self, latest: Hour) -> MaybeBounds
+        ensures { λ r. ⌜ boundsMade r ≡ someIf (leb (self .earliest .0) (latest .0)) (withLatest self (latest .0)) ⌝ }
+    {
+        if latest.0 < self.earliest.0 {
+            return MaybeBounds::Outside;
+        }
+        let mut b = self;
+        b.latest = latest;
         MaybeBounds::Within(b)
     }
 }

@@ -8,7 +8,7 @@ use Prim.Native.Nat.{ℕ, _+_, _-_, _<_}
 use lib.Dec.{leb, ltb}
 use lib.ListN.{length, getD}
 use Rattle.units.specs.Choice.{_and_, if_then_else_}
-use Rattle.units.specs.Limits.{mostTasks}
+use Rattle.units.specs.Limits.{mostTasks, withEarliest, withLatest}
 use Rattle.units.specs.Sums.{sumWhere}
 use Rattle.units.specs.declared.Bounds.{Bounds}
 use Rattle.plan.specs.Plan.{Plan, taskCount}
@@ -25,7 +25,7 @@ use Rattle.steps.specs.declared.Found.{Found}
 use Rattle.steps.specs.declared.Found.the-variants.{Nothing, At}
 use Rattle.steps.specs.Load.{fitAt, mustRun}
 use Rattle.steps.specs.Steps as steps
-use Rattle.steps.specs.Steps.{Kind, kindC, kindO, kindL, kindU, unknownKind, kindOf, isStep, onFit, sameBounds, withEarliest, withLatest, Judgement}
+use Rattle.steps.specs.Steps.{Kind, kindC, kindO, kindL, kindU, unknownKind, kindOf, isStep, onFit, sameBounds, Judgement}
 use Rattle.steps.specs.Filter.{Admitted, stops, moves}
 use Rattle.propagation.specs.declared.turn.Turn.{Turn}
 use Rattle.propagation.specs.declared.turn.Turn.the-variants as turn

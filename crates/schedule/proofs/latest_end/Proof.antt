@@ -2,7 +2,6 @@ use mathlib.Core.Path.{_≡_, refl}
 use Prim.Native.Nat.{_-_, _≤_}
 use native.Mathlib.Omega.{arith}
 use borrow.Author.Needs.{needs}
-use Rattle.units.specs.Limits.{mostHours}
 use Rattle.units.specs.Sums.{maxTo}
 use Rattle.units.proofs.Summing.{max-with}
 use Rattle.calendar.specs.Triples.{endOf}
@@ -24,7 +23,8 @@ loop-holds c = (omega arith, refl)
 plus-requires : tie.Need-plus-requires Inv-loop μ-loop
 plus-requires c κs =
     let turn = c .before .before in
-    ends-as _ _ (c .before .triple-at .ensures) mostHours (turn .before .before .before .pre .ends _ (turn .loop-test .taken))
+    let end = turn .before .before .before .pre .ends _ (turn .loop-test .taken) in
+    ends-as _ _ (c .before .triple-at .ensures) (omega (arith, end))
 
 loop-again : tie.Need-loop-again Inv-loop μ-loop
 loop-again c =

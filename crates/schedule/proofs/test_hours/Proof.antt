@@ -18,14 +18,14 @@ returns : tie.Need-returns Inv-loop μ-loop
 unfolding heightsFault
 returns c =
     let turn = c .before .before .before in
-    let over = unless-false _ 16 _ (exceeds _ _ _ (c .before .before .running-heights .ensures) (c .if1 .taken)) in
+    let over = unless-false _ 16 _ (exceeds _ _ _ (c .before .before .running-heights .ensures) _ (c .before .exceeds .ensures) (c .if1 .taken)) in
     sym (unfound-hit (turn .before .loop .inv) (turn .loop-test .taken) over)
 
 loop-again : tie.Need-loop-again Inv-loop μ-loop
 unfolding heightsFault
 loop-again c =
     let turn = c .before .before .before in
-    let room = unless-true _ 16 _ (allows _ _ _ (c .before .before .running-heights .ensures) (c .if1 .left)) in
+    let room = unless-true _ 16 _ (allows _ _ _ (c .before .before .running-heights .ensures) _ (c .before .exceeds .ensures) (c .if1 .left)) in
     unfound-next (turn .before .loop .inv) (turn .loop-test .taken) room
 
 returns-2 : tie.Need-returns-2 Inv-loop μ-loop
@@ -38,6 +38,7 @@ test-hours-spec =
     Inv-loop
     μ-loop
     (λ c. unfound-first)
+    (λ c κs. search needs)
     (λ c κs. search needs)
     (λ c. search needs)
     returns

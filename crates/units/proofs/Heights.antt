@@ -1,0 +1,12 @@
+-- Laws of heights that are added. Assumes nothing.
+use mathlib.Core.Path.{_≡_, ap, _∙_}
+use Prim.Native.Nat.{ℕ, _+_}
+use Rattle.units.specs.Limits.{height}
+use Rattle.units.specs.declared.Height.{Height}
+
+pub number-of : {h k : Height} → h ≡ k → h .0 ≡ k .0
+number-of e = ap (λ (l : Height). l .0) e
+
+-- a height that is read and added, as the code hands it over
+pub added : (sum : Height) {own next : Height} {n : ℕ} → own ≡ height n → next ≡ height (sum .0 + own .0) → next .0 ≡ sum .0 + n
+added sum e q = number-of q ∙ ap (λ (k : Height). sum .0 + k .0) e
