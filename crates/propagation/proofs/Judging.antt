@@ -7,11 +7,17 @@ use Prim.Native.Nat.{ℕ, _+_, _-_, _≤_, _<_}
 use native.Mathlib.Omega.{arith}
 use lib.Dec.{leb, ltb, eqb}
 use lib.ListN.{length, getD}
-use borrow.Author.Tests.{ltb-true, lt-ltb, le-ltb, le-leb, lt-leb, ne-eqb}
-use Rattle.units.specs.Choice.{_and_, if_then_else_}
-use Rattle.units.specs.Limits.{isHour, withEarliest, withLatest}
+use borrow.Author.Tests.{ltb-true, lt-ltb, le-ltb, le-leb, lt-leb, leb-true, leb-false, ne-eqb}
+use Rattle.units.specs.Choice.{_and_, if_then_else_, someIf}
+use Rattle.units.specs.Limits.{hour, height, isHour, withEarliest, withLatest, hourMade, boundsMade}
+use Rattle.units.specs.declared.Hour.{Hour}
+use Rattle.units.specs.declared.Height.{Height}
 use Rattle.units.specs.declared.Bounds.{Bounds}
-use Rattle.units.proofs.Choices.{and-both, and-left, and-right, if-true, if-false, not-left, not-right}
+use Rattle.units.specs.declared.MaybeHour.{MaybeHour}
+use Rattle.units.specs.declared.MaybeBounds.{MaybeBounds}
+use Rattle.units.specs.declared.MaybeHour.the-variants as some-hour
+use Rattle.units.specs.declared.MaybeBounds.the-variants as some-bounds
+use Rattle.units.proofs.Choices.{and-both, and-left, and-right, if-true, if-false, if-none, if-some, not-left, not-right}
 use Rattle.plan.specs.Boxes.{boundsAt}
 use Rattle.calendar.specs.declared.Window.{Window}
 use Rattle.calendar.specs.declared.Fit.{Fit}
@@ -80,17 +86,28 @@ module _ (w : Window) (i : ℕ) (b : Bounds) (excess : Bool) (t : ℕ) where
   unfolding lowerBy
   lower-room e = if-false _ _ _ (not-right _ _ (not-right _ _ e))
 
-  module _ (ends : t < ect w) (from : b .earliest .0 ≤ t) (over : excess ≡ true) where
+  module _ (holds : (t < ect w) × (b .earliest .0 ≤ t) × (excess ≡ true)) where
     lower-holds : ltb t (ect w) and leb (b .earliest .0) t and excess ≡ true
-    lower-holds = and-both _ _ (lt-ltb _ _ ends) (and-both _ _ (le-leb _ _ from) over)
+    lower-holds = and-both _ _ (lt-ltb _ _ (holds .0)) (and-both _ _ (le-leb _ _ (holds .1)) (holds .2))
 
-    pub lower-stops : b .latest .0 ≤ t → lowerBy w i b excess t ≡ Impossible
-    unfolding lowerBy
-    lower-stops h = if-true _ _ _ lower-holds ∙ if-true _ _ _ (le-leb _ _ h)
+    -- the box with the next hour as its lower S, as its constructor makes it
+    module _ (next : Hour) (made : MaybeBounds) (is-next : next ≡ hour (t + 1))
+        (is : boundsMade made ≡ someIf (leb (next .0) (b .latest .0)) (withEarliest b (next .0))) where
+      at-next : boundsMade made ≡ someIf (leb (t + 1) (b .latest .0)) (withEarliest b (t + 1))
+      at-next = rw is-next at is
 
-    pub lower-moves : t < b .latest .0 → lowerBy w i b excess t ≡ Moved i (withEarliest b (t + 1))
-    unfolding lowerBy
-    lower-moves h = if-true _ _ _ lower-holds ∙ if-false _ _ _ (lt-leb _ _ h)
+      pub lower-stops : made ≡ some-bounds.Outside → lowerBy w i b excess t ≡ Impossible
+      unfolding lowerBy
+      lower-stops e =
+          let above : b .latest .0 < t + 1 = leb-false _ _ (if-none _ _ (sym at-next ∙ ap boundsMade e)) in
+          if-true _ _ _ lower-holds ∙ if-true _ _ _ (le-leb (b .latest .0) t (omega arith))
+
+      pub lower-moves : (v : Bounds) → made ≡ some-bounds.Within v → lowerBy w i b excess t ≡ Moved i v
+      unfolding lowerBy
+      lower-moves v e =
+          let (below, is-box) = if-some _ _ _ (sym at-next ∙ ap boundsMade e) in
+          let later : t < b .latest .0 = omega (arith, leb-true (t + 1) (b .latest .0) below) in
+          if-true _ _ _ lower-holds ∙ if-false _ _ _ (lt-leb (b .latest .0) t later) ∙ ap (Moved i) is-box
 
   pub upper-before : t < lst w → upperBy w i b excess t ≡ NotAdmitted
   unfolding upperBy
@@ -104,17 +121,41 @@ module _ (w : Window) (i : ℕ) (b : Bounds) (excess : Bool) (t : ℕ) where
   unfolding upperBy
   upper-room e = if-false _ _ _ (not-right _ _ (not-right _ _ e))
 
-  module _ (starts : lst w ≤ t) (to : t < b .latest .0 + b .shortest .0) (over : excess ≡ true) where
+  module _ (holds : (lst w ≤ t) × (t < b .latest .0 + b .shortest .0) × (excess ≡ true)) where
     upper-holds : leb (lst w) t and ltb t (b .latest .0 + b .shortest .0) and excess ≡ true
-    upper-holds = and-both _ _ (le-leb _ _ starts) (and-both _ _ (lt-ltb _ _ to) over)
+    upper-holds = and-both _ _ (le-leb _ _ (holds .0)) (and-both _ _ (lt-ltb _ _ (holds .1)) (holds .2))
 
-    pub upper-stops : t < b .earliest .0 + b .shortest .0 → upperBy w i b excess t ≡ Impossible
+    stops : t < b .earliest .0 + b .shortest .0 → upperBy w i b excess t ≡ Impossible
     unfolding upperBy
-    upper-stops h = if-true _ _ _ upper-holds ∙ if-true _ _ _ (lt-ltb _ _ h)
+    stops h = if-true _ _ _ upper-holds ∙ if-true _ _ _ (lt-ltb _ _ h)
 
-    pub upper-moves : b .earliest .0 + b .shortest .0 ≤ t → upperBy w i b excess t ≡ Moved i (withLatest b (t - b .shortest .0))
+    moves : b .earliest .0 + b .shortest .0 ≤ t → upperBy w i b excess t ≡ Moved i (withLatest b (t - b .shortest .0))
     unfolding upperBy
-    upper-moves h = if-true _ _ _ upper-holds ∙ if-false _ _ _ (le-ltb _ _ h)
+    moves h = if-true _ _ _ upper-holds ∙ if-false _ _ _ (le-ltb _ _ h)
+
+    -- the hour minus the lower E, and the box with it as its upper S, as their constructors make them
+    module _ (earlier : MaybeHour) (is-earlier : hourMade earlier ≡ someIf (leb (b .shortest .0) t) (hour (t - b .shortest .0))) where
+      pub upper-negative : earlier ≡ some-hour.Outside → upperBy w i b excess t ≡ Impossible
+      upper-negative e = stops (omega (arith, leb-false (b .shortest .0) t (if-none _ _ (sym is-earlier ∙ ap hourMade e))))
+
+      module _ (latest : Hour) (there : earlier ≡ some-hour.Within latest) (made : MaybeBounds)
+          (is : boundsMade made ≡ someIf (leb (b .earliest .0) (latest .0)) (withLatest b (latest .0))) where
+        from-start : (leb (b .shortest .0) t ≡ true) × (hour (t - b .shortest .0) ≡ latest)
+        from-start = if-some _ _ _ (sym is-earlier ∙ ap hourMade there)
+
+        shorter : b .shortest .0 ≤ t
+        shorter = leb-true (b .shortest .0) t (from-start .0)
+
+        at-latest : boundsMade made ≡ someIf (leb (b .earliest .0) (t - b .shortest .0)) (withLatest b (t - b .shortest .0))
+        at-latest = rw (sym (from-start .1)) at is
+
+        pub upper-stops : made ≡ some-bounds.Outside → upperBy w i b excess t ≡ Impossible
+        upper-stops e = stops (omega (arith, leb-false (b .earliest .0) (t - b .shortest .0) (if-none _ _ (sym at-latest ∙ ap boundsMade e)), shorter))
+
+        pub upper-moves : (v : Bounds) → made ≡ some-bounds.Within v → upperBy w i b excess t ≡ Moved i v
+        upper-moves v e =
+            let (above, is-box) = if-some _ _ _ (sym at-latest ∙ ap boundsMade e) in
+            moves (omega (arith, leb-true (b .earliest .0) (t - b .shortest .0) above, shorter)) ∙ ap (Moved i) is-box
 
 -- L or U, from what the code has found of the task
 module _ (hours capacity : ℕ) (heights boxes : List ℕ) (fits : List Fit) (i t : ℕ) (r : Judged) where
@@ -122,15 +163,16 @@ module _ (hours capacity : ℕ) (heights boxes : List ℕ) (fits : List Fit) (i 
   unfolding boundBy
   bound-never lower e q = q ∙ sym (on-never _ _ _ e)
 
-  module _ (lower : Bool) (w : Window) (load : ℕ) (excess : Bool) (b : Bounds) (told : getD fits i Never ≡ Within w) (is-load : load ≡ loadOf fits heights t)
-      (over : excess ≡ exceeds w (getD heights i 0) load capacity t) (is-box : b ≡ boundsAt boxes i) where
+  module _ (lower : Bool) (w : Window) (load : ℕ) (own : Height) (excess : Bool) (b : Bounds) (told : getD fits i Never ≡ Within w)
+      (is-load : load ≡ loadOf fits heights t) (is-own : own ≡ height (getD heights i 0)) (over : excess ≡ exceeds w (own .0) load capacity t)
+      (is-box : b ≡ boundsAt boxes i) where
     pub bound-lower : lower ≡ true → r ≡ lowerBy w i b excess t → r ≡ boundBy hours capacity heights boxes fits lower i t
     unfolding boundBy moveBy
-    bound-lower l q = rw (over, is-load, is-box) at q ∙ sym (on-within _ _ _ w told ∙ rw l)
+    bound-lower l q = rw (over, is-own, is-load, is-box) at q ∙ sym (on-within _ _ _ w told ∙ rw l)
 
     pub bound-upper : lower ≡ false → r ≡ upperBy w i b excess t → r ≡ boundBy hours capacity heights boxes fits lower i t
     unfolding boundBy moveBy
-    bound-upper l q = rw (over, is-load, is-box) at q ∙ sym (on-within _ _ _ w told ∙ rw l)
+    bound-upper l q = rw (over, is-own, is-load, is-box) at q ∙ sym (on-within _ _ _ w told ∙ rw l)
 
 -- ---- by the letter
 
@@ -191,8 +233,7 @@ module _ (hours capacity : ℕ) (heights boxes : List ℕ) (fits : List Fit) (x 
     unfolding judgeBy judgeKindBy kindOf if_then_else_
     by-U k q = q ∙ sym (if-true _ _ _ is ∙ rw k)
 
--- the sums of U's tests fit a u16
-pub sums-fit : {heights boxes : List ℕ} → Ready heights boxes → (i : ℕ) (b : Bounds) → i < length heights → b ≡ boundsAt boxes i
-    → (b .earliest .0 + b .shortest .0 < 65536) × (b .latest .0 + b .shortest .0 < 65536)
-sums-fit ready i b l e =
-    rw e (omega (arith, ready .starts i l, ready .latest i l, ready .shortest i l), omega (arith, ready .latest i l, ready .shortest i l))
+-- the sum of U's test fits a number of the code
+pub sum-fits : {heights boxes : List ℕ} → Ready heights boxes → (i : ℕ) (b : Bounds) → i < length heights → b ≡ boundsAt boxes i
+    → b .latest .0 + b .shortest .0 < 65536
+sum-fits ready i b l e = rw e (omega (arith, ready .latest i l, ready .shortest i l))

@@ -48,7 +48,6 @@ ready P boxes passed =
       tasks = omega (arith, passed .tasks, passed .heights);
       small = λ i. small i (ltb i (taskCount P)) refl;
       sized = omega (arith, passed .boxes, passed .heights);
-      starts = λ i l. box i l .starts;
       latest = λ i l. let b = box i l in omega (arith, passed .hours);
       shortest = λ i l. let b = box i l in omega (arith, passed .hours);
     }

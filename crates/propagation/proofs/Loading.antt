@@ -13,8 +13,10 @@ use lib.ListN.{length, getD, set, take, drop, replicate, length-set}
 use lib.Seq.{getD-set-same, getD-set-other, length-take-le, length-front, take-at}
 use borrow.Author.Tests.{lt-ltb, le-ltb, le-leb, lt-leb, ltb-true, ltb-false, eqb-true, eqb-false}
 use Rattle.units.specs.Sums.{sumTo, sumWhere}
-use Rattle.units.specs.Limits.{mostHours, mostTasks, mostHeight}
+use Rattle.units.specs.Limits.{mostHours, mostTasks, mostHeight, height}
+use Rattle.units.specs.declared.Height.{Height}
 use Rattle.units.proofs.Choices.{and-both, not-left, not-right, if-true, if-false}
+use Rattle.units.proofs.Heights.{number-of}
 use Rattle.units.proofs.Summing.{where-more, where-skip, where-most}
 use Rattle.units.proofs.Choices.{and-rest}
 use Rattle.calendar.specs.declared.Window.{Window}
@@ -75,10 +77,12 @@ module _ (fits : List Fit) (heights : List ℕ) (t : ℕ) where
     load-small sum i e = where-most _ _ sum i mostHeight e (λ j l. small j)
 
     -- with the height of a task, it fits a number of the code
-    pub load-most : length heights ≤ mostTasks → (i load : ℕ) → load ≡ loadOf fits heights t → getD heights i 0 + load < 65536
-    load-most l i load e =
+    pub load-most : length heights ≤ mostTasks → (i load : ℕ) {own : Height} → load ≡ loadOf fits heights t → own ≡ height (getD heights i 0)
+        → own .0 + load < 65536
+    load-most l i load e is =
         omega
-        (arith, small i, e, sym load-all, load-small _ (length heights) refl, mul-le-mul-right {m = length heights} {n = mostTasks} mostHeight l)
+        (arith, small i, number-of is, e, sym load-all, load-small _ (length heights) refl,
+        mul-le-mul-right {m = length heights} {n = mostTasks} mostHeight l)
 
 -- ---- numbers that are set to 0 one after the other
 
@@ -127,23 +131,23 @@ pub raised-none : (first end height : ℕ) (old : List ℕ) → Raised first end
 raised-none first end height old =
     record { same = refl; from = omega arith; before = λ u l. refl; passed = λ u l m. absurd (omega arith); rest = λ u l. refl }
 
-pub raised-next : {first end height : ℕ} {old new : List ℕ} {t : ℕ} → t < end → t < length old → Raised first end height old new t
-    → Raised first end height old (set new t (getD new t 0 + height)) (t + 1)
-raised-next {first} {end} {height} {old} {new} {t} k l r =
+pub raised-next : {first end height : ℕ} {old new : List ℕ} {t : ℕ} (n : ℕ) → n ≡ getD new t 0 + height → t < end → t < length old
+    → Raised first end height old new t → Raised first end height old (set new t n) (t + 1)
+raised-next {first} {end} {height} {old} {new} {t} n is k l r =
     record {
       same = length-set new t _ ∙ r .same;
       from = omega arith;
       before = λ u m. let ne : u ≢ t = omega arith in getD-set-other new t u _ 0 ne ∙ r .before u m;
-      passed = λ u m n. go u m n (eqb u t) refl;
+      passed = λ u m o. go u m o (eqb u t) refl;
       rest = λ u m. let ne : u ≢ t = omega arith in getD-set-other new t u _ 0 ne ∙ r .rest u (omega arith);
     }
   where
     go : (u : ℕ) → first ≤ u → u < t + 1 → (b : Bool) → eqb u t ≡ b
-        → (u < end) × (getD (set new t (getD new t 0 + height)) u 0 ≡ getD old u 0 + height)
-    go u m n true q =
+        → (u < end) × (getD (set new t n) u 0 ≡ getD old u 0 + height)
+    go u m o true q =
         let e : u ≡ t = eqb-true u t q in
-        (omega arith, rw e (getD-set-same new t _ 0 (omega arith) ∙ ap (λ (x : ℕ). x + height) (r .rest t (omega arith))))
-    go u m n false q =
+        (omega arith, rw e (getD-set-same new t n 0 (omega (arith, r .same)) ∙ is ∙ ap (λ (x : ℕ). x + height) (r .rest t (omega arith))))
+    go u m o false q =
         let ne : u ≢ t = eqb-false u t q in
         let p = r .passed u m (omega arith) in
         (p .0, getD-set-other new t u _ 0 ne ∙ p .1)
@@ -180,12 +184,12 @@ module _ {fits : List Fit} {heights old new : List ℕ} {n : ℕ} (r : Filled fi
         sums = λ t l. omega (arith, r .sums t l, load-next fits heights t n Never e, part-never (getD heights n 0) t);
       }
 
-  pub filled-next : (w : Window) (next : List ℕ) → getD fits n Never ≡ Within w → length next ≡ length new
-      → ((t : ℕ) → t < length new → getD next t 0 ≡ getD new t 0 + partAt (Within w) (getD heights n 0) t) → Filled fits heights old next (n + 1)
-  filled-next w next e q h =
+  pub filled-next : (w : Window) {own : Height} (next : List ℕ) → getD fits n Never ≡ Within w → own ≡ height (getD heights n 0) → length next ≡ length new
+      → ((t : ℕ) → t < length new → getD next t 0 ≡ getD new t 0 + partAt (Within w) (own .0) t) → Filled fits heights old next (n + 1)
+  filled-next w next e is q h =
       record {
         same = q ∙ r .same;
-        sums = λ t l. omega (arith, r .sums t l, load-next fits heights t n (Within w) e, h t (omega (arith, r .same)));
+        sums = λ t l. omega (arith, r .sums t l, load-next fits heights t n (Within w) e, rw is at h t (omega (arith, r .same)));
       }
 
   pub filled-room : length heights ≤ mostTasks → ((i : ℕ) → getD heights i 0 ≤ mostHeight) → n < length heights

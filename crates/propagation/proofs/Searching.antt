@@ -209,12 +209,6 @@ pub calendar-at : (boxes : List ℕ) (fits : List Fit) (i : ℕ) (b : Bounds) (r
     → someIf (admits (calendarBy (getD fits i Never) i (boundsAt boxes i))) (step letterC i 0) ≡ someIf r (step letterC i 0)
 calendar-at boxes fits i b r f q = rw (q, f)
 
--- ---- a box that is tested: upper S + lower E fits a number of the code
-
-pub ends-soon : (heights boxes : List ℕ) (i : ℕ) (b : Bounds) → Ready heights boxes → i < length heights → b ≡ boundsAt boxes i
-    → b .latest .0 + b .shortest .0 < 65536
-ends-soon heights boxes i b r l e = rw e (omega (arith, r .latest i l, r .shortest i l))
-
 -- ---- the first of all, from the searches for each kind
 
 module _ (hours capacity : ℕ) (heights boxes : List ℕ) (fits : List Fit) where

@@ -7,7 +7,7 @@ use units::Hour;
 ghost use mathlib.Core.Path.{_≡_};
 ghost use Prim.Native.Nat.{ℕ, _+_, _≤_, _<_, min};
 ghost use lib.ListN.{length, getD};
-ghost use Rattle.units.specs.Limits.{mostHours, mostTasks, mostHeight, height};
+ghost use Rattle.units.specs.Limits.{mostHours, mostTasks, mostHeight};
 ghost use Rattle.plan.specs.Lent.{old, left};
 ghost use Rattle.steps.specs.Load.{mustRun};
 ghost use Rattle.propagation.specs.inner.Kept.{loadOf};
@@ -26,7 +26,7 @@ pub fn must_run(w: Window, t: Hour) -> bool
 // The heights of the tasks whose compulsory part holds the hour, added. A task with no valid triple has none.
 pub fn load_at(fits: [Fit; Bounds::MOST], heights: &[u16], t: Hour) -> Height
     requires { ⌜ (length (now heights) ≤ mostTasks) × ((i : ℕ) → getD (now heights) i 0 ≤ mostHeight) ⌝ }
-    ensures { λ r. ⌜ r ≡ height (loadOf fits (old heights) (t .0)) ⌝ }
+    ensures { λ r. ⌜ r .0 ≡ loadOf fits (old heights) (t .0) ⌝ }
 {
     let mut sum = Height(0);
     for i in 0..heights.len() {

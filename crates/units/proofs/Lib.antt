@@ -6,4 +6,5 @@ pub mod Extremes
 pub mod Multiples
 pub mod Ranges
 pub mod Cells
+pub mod Hours
 pub mod Heights

@@ -11,6 +11,5 @@ pub record Ready (heights boxes : List ℕ) : Type 0 where
   pub tasks : length heights ≤ mostTasks
   pub small : (i : ℕ) → getD heights i 0 ≤ mostHeight
   pub sized : length boxes ≡ 6 * length heights
-  pub starts : (i : ℕ) → i < length heights → boundsAt boxes i .earliest .0 ≤ boundsAt boxes i .latest .0
   pub latest : (i : ℕ) → i < length heights → boundsAt boxes i .latest .0 < mostHours
   pub shortest : (i : ℕ) → i < length heights → boundsAt boxes i .shortest .0 ≤ mostHours

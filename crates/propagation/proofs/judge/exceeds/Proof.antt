@@ -1,14 +1,23 @@
-use mathlib.Core.Path.{sym, _∙_}
-use Rattle.propagation.proofs.Judging.{exceeds-in, exceeds-out}
+use mathlib.Core.Path.{sym, ap, _∙_}
+use lib.Dec.{ltb}
 use borrow.Author.Needs.{needs}
+use Rattle.units.specs.declared.Height.{Height}
+use Rattle.propagation.proofs.Judging.{exceeds-in, exceeds-out}
 use Rattle.propagation.proofs.judge.exceeds.Statement.{statement}
 use Rattle.propagation.proofs.judge.exceeds.Tie as tie
 
 returns : tie.Need-returns
-returns c = sym (exceeds-in _ _ _ _ _ (sym (c .before .must-run .ensures) ∙ c .if1 .taken))
+returns c =
+    let at = c .before in
+    c .exceeds .ensures ∙ sym (exceeds-in _ _ _ _ _ (sym (at .before .must-run .ensures) ∙ at .if1 .taken))
 
 returns-2 : tie.Need-returns-2
-returns-2 c = sym (exceeds-out _ _ _ _ _ (sym (c .before .must-run .ensures) ∙ c .if1 .left))
+returns-2 c =
+    let at = c .before .before in
+    let sum = ap (λ (h : Height). ltb (at .before .before .args .capacity .0) (h .0)) (c .before .plus .ensures) in
+    c .exceeds2 .ensures ∙ sum ∙ sym (exceeds-out _ _ _ _ _ (sym (at .before .must-run .ensures) ∙ at .if1 .left))
 
 pub exceeds-spec : {M : Type 1} → statement M
-exceeds-spec = tie.close (tie.spec (λ c κs. search needs) returns (λ c. search needs) returns-2)
+exceeds-spec =
+    tie.close
+    (tie.spec (λ c κs. search needs) (λ c κs. search needs) returns (λ c κs. search needs) (λ c κs. search needs) returns-2)

@@ -1,25 +1,22 @@
 use mathlib.Core.Path.{sym, _∙_}
 use borrow.Author.Tests.{lt-ltb, le-ltb, eq-eqb, ne-eqb}
-use Rattle.units.specs.Limits.{isHour}
-use Rattle.units.proofs.Choices.{not-left}
-use Rattle.units.proofs.Choices.{and-rest}
+use Rattle.units.proofs.Choices.{not-left, and-rest}
 use Rattle.propagation.proofs.Judging.{step-C, step-O, step-L, step-U, no-step}
 use borrow.Author.Needs.{needs}
 use Rattle.propagation.proofs.judge.is_step.Statement.{statement}
 use Rattle.propagation.proofs.judge.is_step.Tie as tie
 
 returns : tie.Need-returns
-returns c = sym (step-C _ _ _ _ _ (c .before .match .keys1) ∙ not-left _ _ (le-ltb _ _ (c .if1 .taken)))
+returns c = sym (step-C _ _ _ _ _ (c .before .before .match .keys1) ∙ not-left _ _ (le-ltb _ _ (c .if1 .taken)))
 
 returns-2 : tie.Need-returns-2
-returns-2 c = sym (step-O _ _ _ _ _ (c .before .match .keys2) ∙ not-left _ _ (ne-eqb _ _ (c .if2 .taken)))
+returns-2 c = sym (step-O _ _ _ _ _ (c .before .before .match .keys2) ∙ not-left _ _ (ne-eqb _ _ (c .if2 .taken)))
 
 returns-3 : tie.Need-returns-3
-returns-3 c = sym (step-C _ _ _ _ _ (c .before .match .keys1) ∙ and-rest _ _ (lt-ltb _ _ (c .if1 .left)))
+returns-3 c = sym (step-C _ _ _ _ _ (c .before .before .before .match .keys1) ∙ and-rest _ _ (lt-ltb _ _ (c .before .if1 .left)))
 
 returns-4 : tie.Need-returns-4
-unfolding isHour
-returns-4 c = sym (step-O _ _ _ _ _ (c .before .before .match .keys2) ∙ and-rest _ _ (eq-eqb _ _ (c .before .if2 .left)))
+returns-4 c = c .is-hour .ensures ∙ sym (step-O _ _ _ _ _ (c .before .before .before .match .keys2) ∙ and-rest _ _ (eq-eqb _ _ (c .before .if2 .left)))
 
 returns-5 : tie.Need-returns-5
 returns-5 c = c .is-task-hour .ensures ∙ sym (step-L _ _ _ _ _ (c .before .match .keys3))
@@ -37,6 +34,7 @@ is-step-spec =
     (λ c. search needs)
     returns
     returns-2
+    (λ c κs. search needs)
     (λ c κs. search needs)
     (λ c κs. search needs)
     returns-3

@@ -1,6 +1,6 @@
-use mathlib.Core.Path.{sym}
+use mathlib.Core.Path.{sym, _∙_}
+use borrow.Author.Needs.{needs}
 use borrow.Author.Tests.{lt-ltb, le-ltb}
-use Rattle.units.specs.Limits.{isHour}
 use Rattle.units.proofs.Choices.{not-left, and-rest}
 use Rattle.propagation.proofs.judge.is_task_hour.Statement.{statement}
 use Rattle.propagation.proofs.judge.is_task_hour.Tie as tie
@@ -9,8 +9,7 @@ returns : tie.Need-returns
 returns c = sym (not-left _ _ (le-ltb _ _ (c .if1 .taken)))
 
 returns-2 : tie.Need-returns-2
-unfolding isHour
-returns-2 c = sym (and-rest _ _ (lt-ltb _ _ (c .before .if1 .left)))
+returns-2 c = c .is-hour .ensures ∙ sym (and-rest _ _ (lt-ltb _ _ (c .before .if1 .left)))
 
 pub is-task-hour-spec : {M : Type 1} → statement M
-is-task-hour-spec = tie.close (tie.spec returns returns-2)
+is-task-hour-spec = tie.close (tie.spec (λ c. search needs) returns (λ c κs. search needs) returns-2)

@@ -3,6 +3,7 @@ use Prim.Native.Nat.{_≤_, _-_}
 use native.Mathlib.Omega.{arith}
 use lib.ListN.{length}
 use borrow.Author.Needs.{needs}
+use Rattle.units.proofs.Heights.{number-of}
 use Rattle.propagation.proofs.Loading.{Filled, filled-none, filled-never, filled-next, filled-room, filled-all}
 use Rattle.propagation.proofs.load.fill_loads.Statement.{statement}
 use Rattle.propagation.proofs.load.fill_loads.Tie as tie
@@ -14,7 +15,7 @@ abbrev μ-loop : tie.MeasureT-loop
 μ-loop loads₀ heights fits j₀ j-end loads j = j-end - j
 
 -- the turn of a task with a window, its head, and what the loop began with
-abbrev turn : tie.After-shared-slice-known2 Inv-loop μ-loop → tie.In-loop Inv-loop μ-loop
+abbrev turn : tie.After-height-at Inv-loop μ-loop → tie.In-loop Inv-loop μ-loop
 turn c = c .before .before .before .before .before .before
 
 abbrev cleared : tie.At-loop Inv-loop μ-loop → tie.After-clear Inv-loop μ-loop
@@ -31,14 +32,18 @@ add-part-requires c κs =
     let head = turn c .before in
     let filled = head .loop .inv .1 in
     let pre = cleared head .before .before .before .before .pre in
-    (omega (arith, filled .same, pre .0, cleared head .clear .ensures .0), filled-room filled (pre .1) (pre .2) (turn c .loop-test .taken))
+    (
+      omega (arith, filled .same, pre .0, cleared head .clear .ensures .0),
+      λ t l. omega (arith, filled-room filled (pre .1) (pre .2) (turn c .loop-test .taken) t l, number-of (c .height-at .ensures)),
+    )
 
 loop-again-2 : tie.Need-loop-again-2 Inv-loop μ-loop
 loop-again-2 c =
     let added = c .before .before in
     let at = added .before in (
       omega arith,
-      filled-next (turn at .before .loop .inv .1) _ _ (at .before .before .before .fit2 .given .1) (added .add-part .ensures .0) (added .add-part .ensures .1),
+      filled-next (turn at .before .loop .inv .1) _ _ (at .before .before .before .fit2 .given .1) (at .height-at .ensures)
+          (added .add-part .ensures .0) (added .add-part .ensures .1),
     )
 
 same-length : tie.Need-same-length Inv-loop μ-loop
@@ -65,8 +70,7 @@ fill-loads-spec =
     (λ c. search needs)
     (λ c. search needs)
     loop-again
-    (λ c. search needs)
-    (λ c. search needs)
+    (λ c κs. search needs)
     add-part-requires
     (λ c. search needs)
     (λ c. search needs)

@@ -5,13 +5,14 @@ use native.Mathlib.Omega.{arith}
 use lib.ListN.{length}
 use borrow.Author.Needs.{needs}
 use Rattle.units.specs.Sums.{sumTo, sumWhere}
+use Rattle.units.proofs.Heights.{number-of, added}
 use Rattle.propagation.specs.inner.Kept.{loadOf}
 use Rattle.propagation.proofs.Loading.{loadTo, load-never, load-rests, load-runs, load-small}
 use Rattle.propagation.proofs.load.load_at.Statement.{statement}
 use Rattle.propagation.proofs.load.load_at.Tie as tie
 
 abbrev Inv-loop : tie.InvT-loop
-Inv-loop heights t fits sum₀ i₀ i-end sum i = (i ≤ i-end) × (sum ≡ loadTo fits heights t i)
+Inv-loop heights t fits sum₀ i₀ i-end sum i = (i ≤ i-end) × (sum .0 ≡ loadTo fits heights (t .0) i)
 
 abbrev μ-loop : tie.MeasureT-loop
 μ-loop heights t fits sum₀ i₀ i-end sum i = i-end - i
@@ -23,15 +24,11 @@ loop-holds c = (omega arith, refl)
 loop-again : tie.Need-loop-again Inv-loop μ-loop
 loop-again c = (omega arith, load-never _ _ _ _ _ (c .before .before .before .before .loop .inv .1) (c .enum-told .given .1))
 
-add-sum : tie.Need-add-sum Inv-loop μ-loop
-add-sum c =
-    let small = c .before .before .before .before .before .before .before .before .before .before .pre .1 in
-    omega (
-      arith,
-      small (c .before .before .before .before .before .before .before .before .loop .i),
-      load-small _ _ _ small _ _
-          (c .before .before .before .before .before .before .before .before .loop .inv .1),
-    )
+plus-requires : tie.Need-plus-requires Inv-loop μ-loop
+plus-requires c κs =
+    let head = c .before .before .before .before .before .before .before .before in
+    let small = head .before .before .pre .1 in
+    omega (arith, small (head .loop .i), load-small _ _ _ small _ _ (head .loop .inv .1), number-of (c .height-at .ensures))
 
 loop-again-2 : tie.Need-loop-again-2 Inv-loop μ-loop
 loop-again-2 c =
@@ -40,8 +37,8 @@ loop-again-2 c =
     let runs = sym (c .before .must-run .ensures) in (
       omega arith,
       ⊎-elim
-          (λ w. w .2 ∙ load-runs _ _ _ _ _ sum _ told (runs ∙ w .0 .taken))
-          (λ w. w .1 ∙ load-rests _ _ _ _ _ sum _ told (runs ∙ w .0 .left))
+          (λ w. number-of (w .3) ∙ added _ (w .1 .ensures) (w .2 .ensures) ∙ load-runs _ _ _ _ _ sum _ told (runs ∙ w .0 .taken))
+          (λ w. number-of (w .1) ∙ load-rests _ _ _ _ _ sum _ told (runs ∙ w .0 .left))
           (c .if1 .came),
     )
 
@@ -66,9 +63,8 @@ load-at-spec =
     (λ c. search needs)
     loop-again
     (λ c κs. search needs)
-    (λ c. search needs)
-    (λ c. search needs)
-    add-sum
+    (λ c κs. search needs)
+    plus-requires
     (λ c. search needs)
     (λ c. search needs)
     loop-again-2
