@@ -80,9 +80,15 @@ module _ (fits : List Fit) (heights : List ℕ) (t : ℕ) where
     pub load-most : length heights ≤ mostTasks → (i load : ℕ) {own : Height} → load ≡ loadOf fits heights t → own ≡ height (getD heights i 0)
         → own .0 + load < 65536
     load-most l i load e is =
-        omega
-        (arith, small i, number-of is, e, sym load-all, load-small _ (length heights) refl,
-        mul-le-mul-right {m = length heights} {n = mostTasks} mostHeight l)
+        omega (
+          arith,
+          small i,
+          number-of is,
+          e,
+          sym load-all,
+          load-small _ (length heights) refl,
+          mul-le-mul-right {m = length heights} {n = mostTasks} mostHeight l,
+        )
 
 -- ---- numbers that are set to 0 one after the other
 

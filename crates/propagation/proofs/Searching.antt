@@ -10,7 +10,9 @@ use lib.Dec.{leb, ltb}
 use lib.ListN.{length, getD}
 use borrow.Author.Tests.{lt-ltb, le-ltb, le-leb, lt-leb, ltb-true, ltb-false}
 use Rattle.units.specs.Choice.{_and_, if_then_else_, someIf, _orElse_, firstOf}
-use Rattle.units.specs.Limits.{isHour}
+use Rattle.units.specs.Limits.{hour, height, isHour}
+use Rattle.units.specs.declared.Hour.{Hour}
+use Rattle.units.specs.declared.Height.{Height}
 use Rattle.units.specs.declared.Bounds.{Bounds}
 use Rattle.units.proofs.Choices.{and-both, not-left, not-right, if-true, if-all, none-if, else-none, else-some, first-none, first-all-none, first-next, first-hit}
 use Rattle.plan.specs.Boxes.{boundsAt}
@@ -178,6 +180,10 @@ module _ (hours capacity : ℕ) (heights boxes : List ℕ) (fits : List Fit) whe
     pub skip-never : (i : ℕ) → getD fits i Never ≡ Never → firstOf ofTask i ≡ none → firstOf ofTask (i + 1) ≡ none
     skip-never i e n = first-next ofTask i n ∙ first-all-none (atHour i) hours (λ t l. none-never i t lower e)
 
+    -- the hour after one in which the step is not admitted
+    pub next-hour : (i t : ℕ) {next : Hour} → next ≡ hour (t + 1) → firstOf (atHour i) t ≡ none → atHour i t ≡ none → firstOf (atHour i) (next .0) ≡ none
+    next-hour i t is n h = rw is (first-next (atHour i) t n ∙ h)
+
     module _ (i : ℕ) (w : Window) (b : Bounds) (e : getD fits i Never ≡ Within w) (f : b ≡ boundsAt boxes i) where
       -- the hours before the first, and those from the end on
       pub skip-before : (t : ℕ) → t ≡ firstHour lower w b → firstOf (atHour i) t ≡ none
@@ -189,11 +195,11 @@ module _ (hours capacity : ℕ) (heights boxes : List ℕ) (fits : List Fit) whe
           first-next ofTask i m ∙ first-rest (atHour i) t hours n (λ u k h. none-after i u w b e f lower (omega arith))
 
       -- an hour between, by the test on its load
-      pub test-hour : (from end clip t load : ℕ) (r : Bool) → from ≡ firstHour lower w b → end ≡ endHour lower w b → clip ≡ min end hours
-          → from ≤ t → t < clip → i < length heights → load ≡ loadOf fits heights t → r ≡ exceeds w (getD heights i 0) load capacity t
-          → atHour i t ≡ someIf r (step (letterOf lower) i t)
-      test-hour from end clip t load r p q s k l m g h =
-          excess-is i t w b e f lower m (omega arith) (omega arith) (omega arith) ∙ rw (h, g)
+      pub test-hour : (from end clip t : ℕ) {load : ℕ} {own read : Height} (r : Bool) → from ≡ firstHour lower w b → end ≡ endHour lower w b
+          → clip ≡ min end hours → from ≤ t → t < clip → i < length heights → own ≡ height (getD heights i 0) → read ≡ height load
+          → load ≡ loadOf fits heights t → r ≡ exceeds w (own .0) (read .0) capacity t → atHour i t ≡ someIf r (step (letterOf lower) i t)
+      test-hour from end clip t r p q s k l m is-own is-read g h =
+          excess-is i t w b e f lower m (omega arith) (omega arith) (omega arith) ∙ rw (h, is-own, is-read, g)
 
     -- the search is left at the first hit
     pub found-at : (kind i t : ℕ) → kind ≡ letterOf lower → i < length heights → t < hours → firstOf ofTask i ≡ none → firstOf (atHour i) t ≡ none

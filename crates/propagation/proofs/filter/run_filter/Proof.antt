@@ -13,7 +13,7 @@ use Rattle.propagation.proofs.filter.run_filter.Tie as tie
 
 abbrev Inv-loop : tie.InvT-loop
 Inv-loop h cap cs tc wt hs boxes₀ kinds₀ tasks₀ hours₀ _ _ _ boxes kinds tasks hours fits count =
-    Filtering (plan (h .0) cap cs tc wt hs) boxes₀ kinds₀ tasks₀ hours₀ count boxes kinds tasks hours fits
+    Filtering (plan (h .0) (cap .0) cs tc wt hs) boxes₀ kinds₀ tasks₀ hours₀ count boxes kinds tasks hours fits
 
 abbrev μ-loop : tie.MeasureT-loop
 μ-loop _ _ _ _ _ _ _ kinds₀ _ _ _ _ _ _ _ _ _ _ count = length kinds₀ - count

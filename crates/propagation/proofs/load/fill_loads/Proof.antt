@@ -31,8 +31,7 @@ add-part-requires : tie.Need-add-part-requires Inv-loop μ-loop
 add-part-requires c κs =
     let head = turn c .before in
     let filled = head .loop .inv .1 in
-    let pre = cleared head .before .before .before .before .pre in
-    (
+    let pre = cleared head .before .before .before .before .pre in (
       omega (arith, filled .same, pre .0, cleared head .clear .ensures .0),
       λ t l. omega (arith, filled-room filled (pre .1) (pre .2) (turn c .loop-test .taken) t l, number-of (c .height-at .ensures)),
     )

@@ -14,7 +14,7 @@ use Rattle.propagation.proofs.replay.replay_log.Tie as tie
 
 abbrev Inv-loop : tie.InvT-loop
 Inv-loop h cap cs tc wt hs boxes₀ kinds tasks hours from said₀ _ _ _ k-end boxes fits said k =
-    (k ≤ k-end) × (k-end ≡ length kinds) × Replaying (plan (h .0) cap cs tc wt hs) from said₀ boxes₀ kinds tasks hours k said boxes fits
+    (k ≤ k-end) × (k-end ≡ length kinds) × Replaying (plan (h .0) (cap .0) cs tc wt hs) from said₀ boxes₀ kinds tasks hours k said boxes fits
 
 abbrev μ-loop : tie.MeasureT-loop
 μ-loop _ _ _ _ _ _ _ _ _ _ _ _ _ _ _ k-end _ _ _ k = k-end - k

@@ -1,5 +1,6 @@
-use mathlib.Core.Path.{sym}
+use mathlib.Core.Path.{sym, ap, _∙_}
 use borrow.Author.Needs.{needs}
+use Rattle.units.specs.declared.Hour.{Hour}
 use Rattle.units.proofs.Choices.{if-true, if-false}
 use Rattle.propagation.specs.inner.Finding.{endHour}
 use Rattle.propagation.proofs.search.end_hour.Statement.{statement}
@@ -7,11 +8,11 @@ use Rattle.propagation.proofs.search.end_hour.Tie as tie
 
 returns : tie.Need-returns
 unfolding endHour
-returns c = sym (if-true _ _ _ (c .if1 .taken))
+returns c = sym (if-true _ _ _ (c .before .if1 .taken))
 
 returns-2 : tie.Need-returns-2
 unfolding endHour
-returns-2 c = sym (if-false _ _ _ (c .before .if1 .left))
+returns-2 c = ap (λ (h : Hour). h .0) (c .plus .ensures) ∙ sym (if-false _ _ _ (c .before .if1 .left))
 
 pub end-hour-spec : {M : Type 1} → statement M
-end-hour-spec = tie.close (tie.spec returns (λ c. search needs) returns-2)
+end-hour-spec = tie.close (tie.spec returns (λ c κs. search needs) returns-2)

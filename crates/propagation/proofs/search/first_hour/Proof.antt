@@ -6,11 +6,11 @@ use Rattle.propagation.proofs.search.first_hour.Tie as tie
 
 returns : tie.Need-returns
 unfolding firstHour
-returns c = sym (if-true _ _ _ (c .if1 .taken))
+returns c = sym (if-true _ _ _ (c .before .if1 .taken))
 
 returns-2 : tie.Need-returns-2
 unfolding firstHour
-returns-2 c = sym (if-false _ _ _ (c .if1 .left))
+returns-2 c = sym (if-false _ _ _ (c .before .if1 .left))
 
 pub first-hour-spec : {M : Type 1} → statement M
 first-hour-spec = tie.close (tie.spec returns returns-2)

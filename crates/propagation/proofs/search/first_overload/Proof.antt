@@ -1,4 +1,4 @@
-use mathlib.Core.Path.{_≡_, refl, sym, _∙_}
+use mathlib.Core.Path.{_≡_, refl, sym, ap, _∙_}
 use mathlib.Core.Option.{none}
 use Prim.Native.Nat.{_≤_, _-_}
 use native.Mathlib.Omega.{arith}
@@ -6,7 +6,7 @@ use lib.Dec.{ltb}
 use lib.ListN.{length, getD}
 use Rattle.propagation.specs.inner.Finding.{firstOverload}
 use borrow.Author.Needs.{needs}
-use borrow.Author.Tests.{lt-ltb, le-ltb}
+use Rattle.units.specs.declared.Height.{Height}
 use Rattle.units.specs.Choice.{someIf, firstOf}
 use Rattle.units.proofs.Choices.{some-if, none-if, first-next, first-hit, first-end}
 use Rattle.steps.specs.Steps.{step, letterO}
@@ -14,12 +14,24 @@ use Rattle.propagation.proofs.search.first_overload.Statement.{statemen
 use Rattle.propagation.proofs.search.first_overload.Tie as tie
 
 abbrev Inv-loop : tie.InvT-loop
-Inv-loop loads capacity t₀ t-end t =
-    (t ≤ length loads)
-    × (firstOf (λ u. someIf (ltb capacity (getD loads u 0)) (step letterO 0 u)) t ≡ none)
+Inv-loop loads capacity at₀ at-end at =
+    (at ≤ length loads)
+    × (firstOf (λ u. someIf (ltb (capacity .0) (getD loads u 0)) (step letterO 0 u)) at ≡ none)
 
 abbrev μ-loop : tie.MeasureT-loop
-μ-loop loads capacity t₀ t-end t = t-end - t
+μ-loop loads capacity at₀ at-end at = at-end - at
+
+-- the turn, from its test, and what that decides
+abbrev read : tie.After-exceeds Inv-loop μ-loop → tie.In-loop Inv-loop μ-loop
+read c = c .before .before
+
+over : (c : tie.After-exceeds Inv-loop μ-loop)
+    → let head = read c .before in
+    let a = head .before .before .args in
+    c .exceeds .result ≡ ltb (a .capacity .0) (getD (a .loads .now) (head .loop .at) 0)
+over c =
+    let capacity = read c .before .before .before .args .capacity in
+    c .exceeds .ensures ∙ ap (λ (h : Height). ltb (capacity .0) (h .0)) (c .before .height-at .ensures)
 
 loop-holds : tie.Need-loop-holds Inv-loop μ-loop
 unfolding firstOf
@@ -27,10 +39,14 @@ loop-holds c = (omega arith, refl)
 
 returns : tie.Need-returns Inv-loop μ-loop
 unfolding firstOverload
-returns c = sym (first-hit _ _ _ _ (c .before .before .loop-test .taken) (c .before .before .before .loop .inv .1) (some-if _ _ (lt-ltb _ _ (c .if1 .taken))))
+returns c =
+    let at = read (c .before) in
+    sym (first-hit _ _ _ _ (at .loop-test .taken) (at .before .loop .inv .1) (some-if _ _ (sym (over (c .before)) ∙ c .if1 .taken)))
 
 loop-again : tie.Need-loop-again Inv-loop μ-loop
-loop-again c = (omega arith, first-next _ _ (c .before .before .before .loop .inv .1) ∙ none-if _ _ (le-ltb _ _ (c .if1 .left)))
+loop-again c =
+    let at = read (c .before) in
+    (omega (arith, at .loop-test .taken), first-next _ _ (at .before .loop .inv .1) ∙ none-if _ _ (sym (over (c .before)) ∙ c .if1 .left))
 
 returns-2 : tie.Need-returns-2 Inv-loop μ-loop
 unfolding firstOverload
@@ -43,8 +59,8 @@ first-overload-spec =
     Inv-loop
     μ-loop
     loop-holds
-    (λ c. search needs)
-    (λ c. search needs)
+    (λ c κs. search needs)
+    (λ c κs. search needs)
     (λ c. search needs)
     returns
     (λ c. search needs)

@@ -21,7 +21,7 @@ returns : tie.Need-returns
 returns c =
     let at = c .before .before in
     let a = at .before .before .before .args in
-    next-calendar (a .hours .0) (a .capacity) (a .heights .now) (a .boxes .now) (a .fits) (at .first-calendar .ensures) (ap foundStep (c .enum-told2 .given .1))
+    next-calendar (a .hours .0) (a .capacity .0) (a .heights .now) (a .boxes .now) (a .fits) (at .first-calendar .ensures) (ap foundStep (c .enum-told2 .given .1))
 
 slice-aggregate-fill-loads : tie.Need-slice-aggregate-fill-loads
 unfolding zeros
@@ -62,9 +62,9 @@ returns-2 c =
     let pre = entry (at .before) .pre in
     let a = entry (at .before) .args in
     let told = at .before .before .before in
-    next-by-load (a .hours .0) (a .capacity) (a .heights .now) (a .boxes .now) (a .fits) (told .before .before .first-calendar .ensures)
+    next-by-load (a .hours .0) (a .capacity .0) (a .heights .now) (a .boxes .now) (a .fits) (told .before .before .first-calendar .ensures)
     (ap foundStep (told .enum-told .given .1))
-    (by-load (a .hours .0) (a .capacity) (a .heights .now) (a .boxes .now) (a .fits) _
+    (by-load (a .hours .0) (a .capacity .0) (a .heights .now) (a .boxes .now) (a .fits) _
     (back-loaded _ (pre .1) (at .fill-loads .last .0) (at .fill-loads .ensures .0) _ _ (at .fill-loads .ensures .1))
     (back-hours _ (pre .1) (at .fill-loads .last .0) (at .fill-loads .ensures .0))
     (c .first-by-load .ensures))
