@@ -2,11 +2,8 @@
 use libc::STDIN_FILENO;
 use libc::STDOUT_FILENO;
 
-// One byte more than the longest text has, so that a text that is too long shows.
-const BYTES: usize = 32769;
-
 fn main() {
-    let mut text = [0u8; BYTES];
+    let mut text = [0u8; plan_text::TEXT_ROOM];
     let mut out = [0u8; listing::ROOM];
     let n = io::read_full(STDIN_FILENO, &mut text);
     let k = text_listing::list_text(&text[..n], &mut out);
