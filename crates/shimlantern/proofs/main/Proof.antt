@@ -1,8 +1,33 @@
-use mathlib.Core.Path.{refl}
+use mathlib.Core.Path.{_≡_, refl}
+use mathlib.Core.List.{List}
+use Prim.Native.Nat.{ℕ, _≤_}
+use native.Mathlib.Omega.{arith}
+use lib.ListN.{length}
 use borrow.Author.Needs.{needs}
 use Rattle.text_listing.proofs.Room.{within-room, part-length}
+use Rattle.shimlantern.specs.declared.Input.{Input}
+use Rattle.shimlantern.specs.declared.Input.the-variants.{Bytes}
+use Rattle.shimlantern.specs.inner.Input.{Reads}
 use Rattle.shimlantern.proofs.main.Statement.{statement}
 use Rattle.shimlantern.proofs.main.Tie as tie
+
+reads-within : (x : Input) (n : ℕ) (text : List ℕ) → x ≡ Bytes n → Reads x text → n ≤ length text
+unfolding Reads
+reads-within x n text e r = rw e at r
+
+-- the place where standard input was read, from where it holds a text
+abbrev read : tie.After-known-told → tie.After-read-input
+read c = c .before .before .before .before
+
+array-share-prefix-text : tie.Need-array-share-prefix-text
+array-share-prefix-text c =
+    let r = read c in
+    omega (arith, reads-within _ _ _ (c .before .input .given .1) (r .read-input .ensures), r .read-input .kept .0)
+
+slice-aggregate-list-text : tie.Need-slice-aggregate-list-text
+slice-aggregate-list-text c =
+    let k = c .before in
+    part-length _ _ _ refl (reads-within _ _ _ (k .before .input .given .1) (read k .read-input .ensures))
 
 array-share-prefix-out : tie.Need-array-share-prefix-out
 array-share-prefix-out c = within-room _ _ _ _ (c .list-text .ensures .0) (c .list-text .ensures .1)
@@ -18,8 +43,16 @@ main-spec =
     (λ c κs. search needs)
     (λ c. search needs)
     (λ c. search needs)
+    (λ c. search needs)
+    (λ c κs. search needs)
+    (λ c. search needs)
+    array-share-prefix-text
+    slice-aggregate-list-text
     (λ c κs. search needs)
     array-share-prefix-out
     slice-aggregate-write-all
     (λ c κs. search needs)
+    (λ c. search needs)
+    (λ c κs. search needs)
+    (λ c. search needs)
     (λ c. search needs))
