@@ -32,8 +32,7 @@ fn read_input(text: &mut [u8]) -> Input
 fn main() {
     let mut text = [0u8; plan_text::TEXT_ROOM];
     let mut out = [0u8; listing::ROOM];
-    let input = read_input(&mut text);
-    let Input::Bytes(n) = input else {
+    let Input::Bytes(n) = read_input(&mut text) else {
         os::fail(b"shimlantern: standard input cannot be read");
         return;
     };

@@ -1,7 +1,6 @@
 use mathlib.Core.Path.{_≡_, refl}
 use mathlib.Core.List.{List}
 use Prim.Native.Nat.{ℕ, _≤_}
-use native.Mathlib.Omega.{arith}
 use lib.ListN.{length}
 use borrow.Author.Needs.{needs}
 use Rattle.text_listing.proofs.Room.{within-room, part-length}
@@ -15,19 +14,13 @@ reads-within : (x : Input) (n : ℕ) (text : List ℕ) → x ≡ Bytes n → Rea
 unfolding Reads
 reads-within x n text e r = rw e at r
 
--- the place where standard input was read, from where it holds a text
-abbrev read : tie.After-known-told → tie.After-read-input
-read c = c .before .before .before .before
-
 array-share-prefix-text : tie.Need-array-share-prefix-text
 array-share-prefix-text c =
-    let r = read c in
-    omega (arith, reads-within _ _ _ (c .before .input .given .1) (r .read-input .ensures), r .read-input .kept .0)
+    let read = c .before .before .before .before in
+    reads-within _ _ _ (c .before .n .given .1) (read .read-input .ensures)
 
 slice-aggregate-list-text : tie.Need-slice-aggregate-list-text
-slice-aggregate-list-text c =
-    let k = c .before in
-    part-length _ _ _ refl (reads-within _ _ _ (k .before .input .given .1) (read k .read-input .ensures))
+slice-aggregate-list-text c = part-length _ _ _ refl (array-share-prefix-text (c .before))
 
 array-share-prefix-out : tie.Need-array-share-prefix-out
 array-share-prefix-out c = within-room _ _ _ _ (c .list-text .ensures .0) (c .list-text .ensures .1)
