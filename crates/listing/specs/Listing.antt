@@ -33,7 +33,3 @@ listing (refusedBy f) boxes tasks = refusedLine f
 listing (noRoomFor f n) boxes tasks = lineOf wordRoom (n ∷ []) ++ taskLines boxes tasks
 listing (settledAfter n) boxes tasks = lineOf wordSettled (n ∷ []) ++ taskLines boxes tasks
 listing (impossibleAfter n) boxes tasks = lineOf wordImpossible (n ∷ []) ++ taskLines boxes tasks
-
--- no listing is longer: a first line of at most 35 bytes, and at most 64 lines of at most 47
-abbrev pub mostListing : ℕ
-mostListing = 4096

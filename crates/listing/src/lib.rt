@@ -15,9 +15,9 @@ ghost use Rattle.plan.specs.Lent.{old, left};
 ghost use Rattle.steps.specs.Entry.{filterAnswer};
 ghost use Rattle.text.specs.Lines.{lineOf};
 ghost use Rattle.text.specs.Putting.{Put};
-ghost use Rattle.listing.specs.Listing.{taskLines, taskLine, refusedLine, listing, mostListing};
+ghost use Rattle.listing.specs.Listing.{taskLines, taskLine, refusedLine, listing};
 
-// Bytes that hold every listing.
+// Bytes that hold every listing: a first line of at most 35, and a line of at most 47 for each task.
 pub const ROOM: usize = 4096;
 
 // The line of task i, 47 bytes at most.
@@ -51,8 +51,7 @@ fn put_tasks(out: &mut [u8], at: usize, boxes: &[u16], tasks: usize) -> usize
 }
 
 // The one line of a refusal, 35 bytes at most; the bytes past it are untouched.
-pub fn list_refusal(r: Refusal, out: &mut [u8]) -> usize
-    requires { ⌜ 35 ≤ length (now out) ⌝ }
+pub fn list_refusal(r: Refusal, out: &mut [u8; ROOM]) -> usize
     ensures { λ n. let L = refusedLine (faultOf r) in ⌜ (n ≡ length L) × (left out ≡ written L (old out)) ⌝ }
 {
     let fault = fault_of(r);
@@ -61,8 +60,8 @@ pub fn list_refusal(r: Refusal, out: &mut [u8]) -> usize
 }
 
 // The first line with the count, then the tasks.
-fn list_tasks(word: &[u8], n: usize, boxes: &[u16], tasks: usize, out: &mut [u8]) -> usize
-    requires { ⌜ (length (now word) ≤ 10) × (tasks ≤ mostTasks) × (6 * tasks ≤ length (now boxes)) × (mostListing ≤ length (now out)) ⌝ }
+fn list_tasks(word: &[u8], n: usize, boxes: &[u16], tasks: usize, out: &mut [u8; ROOM]) -> usize
+    requires { ⌜ (length (now word) ≤ 10) × (tasks ≤ mostTasks) × (6 * tasks ≤ length (now boxes)) ⌝ }
     ensures { λ r. ⌜ Put (lineOf (old word) (n ∷ []) ++ taskLines (old boxes) tasks) 0 (old out) r (left out) ⌝ }
 {
     let numbers = [n];
@@ -71,8 +70,8 @@ fn list_tasks(word: &[u8], n: usize, boxes: &[u16], tasks: usize, out: &mut [u8]
 }
 
 // What a run of the filter answered, and the boxes that it left; the bytes past the listing are untouched.
-pub fn list_run(answer: Filtered, boxes: &[u16], tasks: usize, out: &mut [u8]) -> usize
-    requires { ⌜ (tasks ≤ mostTasks) × (6 * tasks ≤ length (now boxes)) × (mostListing ≤ length (now out)) ⌝ }
+pub fn list_run(answer: Filtered, boxes: &[u16], tasks: usize, out: &mut [u8; ROOM]) -> usize
+    requires { ⌜ (tasks ≤ mostTasks) × (6 * tasks ≤ length (now boxes)) ⌝ }
     ensures { λ n. let L = listing (filterAnswer answer) (old boxes) tasks in ⌜ (n ≡ length L) × (left out ≡ written L (old out)) ⌝ }
 {
     match answer {

@@ -3,7 +3,7 @@ use mathlib.Core.Path.{_≡_, refl, sym, ap, _∙_}
 use mathlib.Core.Bool.{true, false}
 use mathlib.Core.Option.{none, some}
 use mathlib.Core.List.{List}
-use Prim.Native.Nat.{ℕ, _*_, _≤_}
+use Prim.Native.Nat.{ℕ, _≤_}
 use lib.ListN.{length}
 use borrow.Author.Tests.{leb-true}
 use Rattle.units.specs.Cells.{written}
@@ -17,8 +17,8 @@ use Rattle.plan_text.specs.declared.Scan.{Scan}
 use Rattle.plan_text.specs.declared.Scanned.{Scanned}
 use Rattle.plan_text.specs.declared.Scanned.the-variants.{Malformed, Whole}
 use Rattle.plan_text.specs.Text.{Read, mostBytes, readText}
-use Rattle.plan_text.specs.Entry.{isEnough, readFault, PlanRead, endWith, unread, stored, readTested, readPlan}
-use Rattle.plan_text.specs.inner.Scanning.{symbolRoom, calendarsAt, workTimesAt, heightsAt, section, storedPlan, storedBoxes, Holds, Scans}
+use Rattle.plan_text.specs.Entry.{mostSymbols, mostBounds, isEnough, readFault, PlanRead, endWith, unread, stored, readTested, readPlan}
+use Rattle.plan_text.specs.inner.Scanning.{calendarsAt, workTimesAt, heightsAt, section, storedPlan, storedBoxes, Holds, Scans}
 use Rattle.plan_text.proofs.Following.{plan-held, boxes-held}
 use Rattle.plan_text.proofs.Judging.{read-passed}
 
@@ -36,11 +36,11 @@ module _ (a : Answer Read) (symbols cells : List ℕ) where
 module _ (cs ts ws ks bs : List ℕ) where
   -- enough of it
   pub record Enough : Type 0 where
-    pub calendars : symbolRoom ≤ length cs
+    pub calendars : mostSymbols ≤ length cs
     pub task-calendars : mostTasks ≤ length ts
     pub work-times : mostTasks ≤ length ws
     pub heights : mostTasks ≤ length ks
-    pub boxes : 6 * mostTasks ≤ length bs
+    pub boxes : mostBounds ≤ length bs
 
   pub enough : isEnough cs ts ws ks bs ≡ true → Enough
   unfolding isEnough

@@ -20,8 +20,8 @@ use Rattle.plan_text.specs.declared.MaybeScan.{MaybeScan}
 use Rattle.plan_text.specs.declared.MaybeScan.the-variants.{Broken, Next}
 use Rattle.plan_text.specs.Records.{Record, planRecord, calRecord, taskRecord, recordOf}
 use Rattle.plan_text.specs.Text.{Read, planSection, calSection, taskSection, comes, withRecord, withLine}
-use Rattle.plan_text.specs.Entry.{joined, boxOf, planIn, boxesIn, allOf}
-use Rattle.plan_text.specs.inner.Scanning.{symbolRoom, calendarsAt, workTimesAt, heightsAt, boxesAt, storeSize, section, Kept, Keeps, KeepsTasks, storedPlan, storedBoxes, Holds, Follows}
+use Rattle.plan_text.specs.Entry.{joined, boxOf, planIn, boxesIn, allOf, mostSymbols, mostBounds}
+use Rattle.plan_text.specs.inner.Scanning.{calendarsAt, workTimesAt, heightsAt, boxesAt, storeSize, section, Kept, Keeps, KeepsTasks, storedPlan, storedBoxes, Holds, Follows}
 use Rattle.plan_text.proofs.Sections.{kept-none, kept-over, kept-section, keeps-calendar, keeps-work-time, keeps-height, keeps-box}
 
 -- ---- lists that grow at their end
@@ -82,7 +82,7 @@ tasks-none hours cells =
       calendars = kept-none calendarsAt mostTasks cells;
       work-times = kept-none workTimesAt mostTasks cells;
       heights = kept-none heightsAt mostTasks cells;
-      boxes = kept-none boxesAt (6 * mostTasks) cells;
+      boxes = kept-none boxesAt mostBounds cells;
     }
 
 module _ (hours : ℕ) (tasks : List (List ℕ)) (task : List ℕ) (i : ℕ) (count : i ≡ length tasks) where
@@ -116,7 +116,7 @@ module _ (hours : ℕ) (tasks : List (List ℕ)) (task : List ℕ) (i : ℕ) (co
         work-times = kept-over workTimesAt mostTasks _ cells (omega (arith, place 1, length-append (column 1) (getD task 1 0 ∷ [])));
         heights = kept-over heightsAt mostTasks _ cells (omega (arith, place 2, length-append (column 2) (getD task 2 0 ∷ [])));
         boxes =
-            kept-over boxesAt (6 * mostTasks) _ cells
+            kept-over boxesAt mostBounds _ cells
             (omega (arith, boxes-place, box-length hours task, length-append (joined (map (boxOf hours) tasks)) (boxOf hours task)));
       }
 
@@ -182,7 +182,7 @@ holds-empty reached h c n symbols cells =
       symbol-count = refl;
       tasks = refl;
       few = omega arith;
-      kept-symbols = kept-none 0 symbolRoom symbols;
+      kept-symbols = kept-none 0 mostSymbols symbols;
       kept-tasks = tasks-none h cells;
     }
 
@@ -224,7 +224,7 @@ module _ {r : Read} {s : Scan} {n : ℕ} {symbols cells : List ℕ} (held : Hold
     cal-broken symbols′ m q = none-if _ _ (reaches calSection p q)
 
     pub cal-next : (even : Bool) (symbols′ : List ℕ) → may ≡ true → even ≡ (s .even and eqb (length l) (s .hours))
-        → ((before : List ℕ) → s .symbols ≡ length before → Kept 0 symbolRoom before symbols → Kept 0 symbolRoom (before ++ l) symbols′)
+        → ((before : List ℕ) → s .symbols ≡ length before → Kept 0 mostSymbols before symbols → Kept 0 mostSymbols (before ++ l) symbols′)
         → Follows (withRecord r (calRecord l))
         (Next (record {
           reached = calSection;
@@ -319,11 +319,11 @@ module _ {r : Read} {s : Scan} {n : ℕ} {symbols cells : List ℕ} (held : Hold
   unfolding planIn
   task-count = count-tasks 0
 
-  pub symbols-held : s .symbols ≤ symbolRoom → section 0 (s .symbols) symbols ≡ planIn r .shifts .calendars
+  pub symbols-held : s .symbols ≤ mostSymbols → section 0 (s .symbols) symbols ≡ planIn r .shifts .calendars
   unfolding planIn
-  symbols-held l = kept-section 0 symbolRoom (s .symbols) (joined (r .calendars)) symbols (held .symbol-count) l (held .kept-symbols)
+  symbols-held l = kept-section 0 mostSymbols (s .symbols) (joined (r .calendars)) symbols (held .symbol-count) l (held .kept-symbols)
 
-  module _ (l : s .symbols ≤ symbolRoom) (t : s .tasks ≤ mostTasks) where
+  module _ (l : s .symbols ≤ mostSymbols) (t : s .tasks ≤ mostTasks) where
     pub plan-held : storedPlan (s .hours) (s .capacity) (s .tasks) (section 0 (s .symbols) symbols) cells ≡ planIn r
     unfolding planIn
     plan-held =
@@ -335,5 +335,5 @@ module _ {r : Read} {s : Scan} {n : ℕ} {symbols cells : List ℕ} (held : Hold
     pub boxes-held : storedBoxes (s .tasks) cells ≡ boxesIn r
     unfolding boxesIn
     boxes-held =
-        kept-section boxesAt (6 * mostTasks) (6 * s .tasks) _ cells (omega (arith, held .tasks, boxes-length (r .hours) (r .tasks))) (omega arith)
+        kept-section boxesAt mostBounds (6 * s .tasks) _ cells (omega (arith, held .tasks, boxes-length (r .hours) (r .tasks))) (omega arith)
         (held .kept-tasks .boxes)

@@ -17,13 +17,13 @@ use Rattle.plan.specs.Faults.{planFault}
 use Rattle.plan.proofs.Refusing.{unless-none}
 use Rattle.plan.proofs.Passed.{counts-passed}
 use Rattle.plan_text.specs.Text.{Read, readText}
-use Rattle.plan_text.specs.Entry.{planIn, lineFault, readFault, isEnough, PlanRead, unread, stored, readTested, readPlan}
+use Rattle.plan_text.specs.Entry.{planIn, mostSymbols, lineFault, readFault, isEnough, PlanRead, unread, stored, readTested, readPlan}
 
 pub record Holds (a : PlanRead) : Type 0 where
   pub hours : a .hours ≤ mostHours
   pub calendars : a .calendars ≤ mostCalendars
   pub tasks : a .tasks ≤ mostTasks
-  pub symbols : a .calendars * a .hours ≤ mostCalendars * mostHours
+  pub symbols : a .calendars * a .hours ≤ mostSymbols
 
 fault-free : (enough : Bool) (r : Read) → readFault enough r ≡ none
     → Holds (record { hours = r .hours; capacity = r .capacity; calendars = length (r .calendars); tasks = length (r .tasks) })

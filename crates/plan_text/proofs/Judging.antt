@@ -19,8 +19,8 @@ use Rattle.plan.proofs.Refusing.{unless-true, unless-none, unless-false, go-on,
 use Rattle.plan.proofs.Passed.{counts-passed}
 use Rattle.plan_text.specs.declared.Scan.{Scan}
 use Rattle.plan_text.specs.Text.{Read}
-use Rattle.plan_text.specs.Entry.{joined, planIn, boxesIn, allOf, lineFault, readFault}
-use Rattle.plan_text.specs.inner.Scanning.{symbolRoom, calendarsAt, workTimesAt, heightsAt, boxesAt, storeSize, section, storedPlan, storedBoxes, Holds}
+use Rattle.plan_text.specs.Entry.{joined, planIn, boxesIn, allOf, mostSymbols, lineFault, readFault}
+use Rattle.plan_text.specs.inner.Scanning.{calendarsAt, workTimesAt, heightsAt, boxesAt, storeSize, section, storedPlan, storedBoxes, Holds}
 use Rattle.plan_text.proofs.Sections.{section-length}
 use Rattle.plan_text.proofs.Following.{task-count, symbols-held, plan-held, boxes-held}
 
@@ -104,12 +104,12 @@ module _ {r : Read} {s : Scan} {n : ℕ} {symbols cells : List ℕ} (held : Hold
     unfolding readFault
     by-plan = go-on true 31 0 _ refl ∙ else-none _ _ (sym passed)
 
-    pub symbols-fit : s .symbols ≤ symbolRoom
+    pub symbols-fit : s .symbols ≤ mostSymbols
     unfolding lineFault isPlanLength isCalendarCount
     symbols-fit =
         let (two, rest) = neither _ _ (sym passed) in
         let lines = unless-none _ 3 0 rest in
-        let most : length (r .calendars) * r .hours ≤ mostCalendars * mostHours =
+        let most : length (r .calendars) * r .hours ≤ mostSymbols =
         mul-le-mul {n₁ = length (r .calendars)} {m₁ = r .hours} {n₂ = mostCalendars} {m₂ = mostHours}
         (to-most 1 mostCalendars (length (r .calendars)) (and-left _ _ lines))
         (to-most 1 mostHours (r .hours) (unless-none _ 2 0 two))
@@ -130,7 +130,7 @@ module _ {r : Read} {s : Scan} {n : ℕ} {symbols cells : List ℕ} (held : Hold
         ∙ sym by-plan
 
   -- what a plan that passes has
-  pub read-passed : none ≡ readFault true r → (s .symbols ≤ symbolRoom) × (s .tasks ≤ mostTasks)
+  pub read-passed : none ≡ readFault true r → (s .symbols ≤ mostSymbols) × (s .tasks ≤ mostTasks)
   unfolding readFault planFault taskCount
   read-passed e =
       let after-31 = neither _ _ (sym e) in

@@ -8,6 +8,7 @@ use lib.Seq.{length-take-le, take-add, take-take, take-append-le, drop-append-le
 use Rattle.units.specs.Cells.{writtenAt}
 use Rattle.units.proofs.Cells.{written-length, written-front, written-rest}
 use Rattle.units.specs.Limits.{mostTasks}
+use Rattle.plan_text.specs.Entry.{mostBounds}
 use Rattle.plan_text.specs.inner.Scanning.{calendarsAt, workTimesAt, heightsAt, boxesAt, storeSize, section, Kept, Keeps}
 
 section-swap : (from n : ℕ) (cells : List ℕ) → from ≤ length cells → section from n cells ≡ drop from (take (from + n) cells)
@@ -96,7 +97,7 @@ module _ {cs ws hs bs cells : List ℕ} (kept : Keeps cs ws hs bs cells) (size :
         calendars = kept-more calendarsAt mostTasks (calendarsAt + i) _ _ cells (omega arith) (kept .calendars) (omega arith);
         work-times = kept-apart workTimesAt mostTasks (calendarsAt + i) _ _ cells (omega arith) (kept .work-times) (omega arith);
         heights = kept-apart heightsAt mostTasks (calendarsAt + i) _ _ cells (omega arith) (kept .heights) (omega arith);
-        boxes = kept-apart boxesAt (6 * mostTasks) (calendarsAt + i) _ _ cells (omega arith) (kept .boxes) (omega arith);
+        boxes = kept-apart boxesAt mostBounds (calendarsAt + i) _ _ cells (omega arith) (kept .boxes) (omega arith);
       }
 
   pub keeps-work-time : (x i : ℕ) → i ≡ length ws → i < mostTasks → Keeps cs (ws ++ (x ∷ [])) hs bs (writtenAt (workTimesAt + i) (x ∷ []) cells)
@@ -105,7 +106,7 @@ module _ {cs ws hs bs cells : List ℕ} (kept : Keeps cs ws hs bs cells) (size :
         calendars = kept-past calendarsAt mostTasks (workTimesAt + i) _ _ cells (omega arith) (kept .calendars) (omega arith);
         work-times = kept-more workTimesAt mostTasks (workTimesAt + i) _ _ cells (omega arith) (kept .work-times) (omega arith);
         heights = kept-apart heightsAt mostTasks (workTimesAt + i) _ _ cells (omega arith) (kept .heights) (omega arith);
-        boxes = kept-apart boxesAt (6 * mostTasks) (workTimesAt + i) _ _ cells (omega arith) (kept .boxes) (omega arith);
+        boxes = kept-apart boxesAt mostBounds (workTimesAt + i) _ _ cells (omega arith) (kept .boxes) (omega arith);
       }
 
   pub keeps-height : (x i : ℕ) → i ≡ length hs → i < mostTasks → Keeps cs ws (hs ++ (x ∷ [])) bs (writtenAt (heightsAt + i) (x ∷ []) cells)
@@ -114,7 +115,7 @@ module _ {cs ws hs bs cells : List ℕ} (kept : Keeps cs ws hs bs cells) (size :
         calendars = kept-past calendarsAt mostTasks (heightsAt + i) _ _ cells (omega arith) (kept .calendars) (omega arith);
         work-times = kept-past workTimesAt mostTasks (heightsAt + i) _ _ cells (omega arith) (kept .work-times) (omega arith);
         heights = kept-more heightsAt mostTasks (heightsAt + i) _ _ cells (omega arith) (kept .heights) (omega arith);
-        boxes = kept-apart boxesAt (6 * mostTasks) (heightsAt + i) _ _ cells (omega arith) (kept .boxes) (omega arith);
+        boxes = kept-apart boxesAt mostBounds (heightsAt + i) _ _ cells (omega arith) (kept .boxes) (omega arith);
       }
 
   pub keeps-box : (box : List ℕ) (i : ℕ) → length box ≡ 6 → 6 * i ≡ length bs → i < mostTasks
@@ -124,5 +125,5 @@ module _ {cs ws hs bs cells : List ℕ} (kept : Keeps cs ws hs bs cells) (size :
         calendars = kept-past calendarsAt mostTasks (boxesAt + 6 * i) _ _ cells (omega arith) (kept .calendars) (omega arith);
         work-times = kept-past workTimesAt mostTasks (boxesAt + 6 * i) _ _ cells (omega arith) (kept .work-times) (omega arith);
         heights = kept-past heightsAt mostTasks (boxesAt + 6 * i) _ _ cells (omega arith) (kept .heights) (omega arith);
-        boxes = kept-more boxesAt (6 * mostTasks) (boxesAt + 6 * i) _ _ cells (omega arith) (kept .boxes) (omega arith);
+        boxes = kept-more boxesAt mostBounds (boxesAt + 6 * i) _ _ cells (omega arith) (kept .boxes) (omega arith);
       }

@@ -8,7 +8,7 @@ use lib.Dec.{leb, eqb}
 use lib.ListN.{length, getD, drop}
 use Rattle.units.specs.Cells.{written}
 use Rattle.units.specs.Choice.{_and_, if_then_else_, onOption, _orElse_}
-use Rattle.units.specs.Limits.{mostHours, mostCalendars, mostTasks, isPlanLength, isCalendarCount}
+use Rattle.units.specs.Limits.{mostHours, mostCalendars, mostTasks, boxNumbers, isPlanLength, isCalendarCount}
 use Rattle.plan.specs.Plan.{Plan, plan}
 use Rattle.plan.specs.Refusals.{Fault, unless, Answer, refused, answered, faultOf, onAnswer}
 use Rattle.plan.specs.Faults.{planFault}
@@ -42,14 +42,21 @@ unfoldable pub allOf : ℕ → List (List ℕ) → Bool
 allOf h [] = true
 allOf h (l ∷ ls) = eqb (length l) h and allOf h ls
 
--- memory for the most that a plan can hold: 16 times 1,008 symbols, 64 tasks a field, 64 boxes
+-- the most that a plan can hold: 16 times 1,008 symbols, calendars joined, and the bounds of 64 boxes
+abbrev pub mostSymbols : ℕ
+mostSymbols = mostCalendars * mostHours
+
+abbrev pub mostBounds : ℕ
+mostBounds = boxNumbers * mostTasks
+
+-- memory for that, and for 64 tasks a field
 unfoldable pub isEnough : List ℕ → List ℕ → List ℕ → List ℕ → List ℕ → Bool
 isEnough calendars taskCalendars workTimes heights boxes =
-    leb (mostCalendars * mostHours) (length calendars)
+    leb mostSymbols (length calendars)
     and leb mostTasks (length taskCalendars)
     and leb mostTasks (length workTimes)
     and leb mostTasks (length heights)
-    and leb (6 * mostTasks) (length boxes)
+    and leb mostBounds (length boxes)
 
 -- 2 and 3, each calendar line by itself
 unfoldable pub lineFault : Read → Option Fault

@@ -18,8 +18,8 @@ ghost use Rattle.plan.specs.Refusals.{testedFault};
 ghost use Rattle.plan.specs.Lent.{old, left};
 ghost use Rattle.plan.specs.Faults.{planFault};
 ghost use Rattle.plan_text.specs.Text.{Read, mostBytes};
-ghost use Rattle.plan_text.specs.Entry.{isEnough, lineFault, readFault, endWith, readTested, readPlan, readingAnswer};
-ghost use Rattle.plan_text.specs.inner.Scanning.{symbolRoom, calendarsAt, workTimesAt, heightsAt, storeSize, section, storedPlan, storedBoxes};
+ghost use Rattle.plan_text.specs.Entry.{mostSymbols, isEnough, lineFault, readFault, endWith, readTested, readPlan, readingAnswer};
+ghost use Rattle.plan_text.specs.inner.Scanning.{calendarsAt, workTimesAt, heightsAt, storeSize, section, storedPlan, storedBoxes};
 ghost use Rattle.plan_text.specs.inner.Scanning.{Holds, Stored};
 
 mod lines;
@@ -68,11 +68,17 @@ pub enum PlanReading {
     },
 }
 
+// The most bytes of a text.
+pub const MOST_BYTES: usize = 32768;
+
+// Memory for a text that is to be read: one byte more, so that a text that is too long shows.
+pub const TEXT_ROOM: usize = MOST_BYTES + 1;
+
 // The most symbols of a plan, calendars joined.
-const SYMBOLS: usize = CalendarNumber::MOST * Duration::MOST as usize;
+pub const MOST_SYMBOLS: usize = CalendarNumber::MOST * Duration::MOST as usize;
 
 // The most bounds of a plan, six a task.
-const BOUNDS: usize = 6 * Bounds::MOST;
+pub const MOST_BOUNDS: usize = Bounds::NUMBERS * Bounds::MOST;
 
 // Whether the memory lent is enough for the most that a plan can hold.
 fn is_enough(
@@ -84,7 +90,7 @@ fn is_enough(
 ) -> bool
     ensures { λ r. ⌜ r ≡ isEnough (old calendars) (old «task_calendars») (old «work_times») (old heights) (old boxes) ⌝ }
 {
-    if calendars.len() < SYMBOLS {
+    if calendars.len() < MOST_SYMBOLS {
         return false;
     }
     if task_calendars.len() < Bounds::MOST {
@@ -96,7 +102,7 @@ fn is_enough(
     if heights.len() < Bounds::MOST {
         return false;
     }
-    BOUNDS <= boxes.len()
+    MOST_BOUNDS <= boxes.len()
 }
 
 // Where each section of the store of numbers begins, after the tasks' calendars: work times, heights, boxes. Each has room for the most tasks.
@@ -174,7 +180,7 @@ fn store_plan(
 )
     requires { ⌜ (tasks ≤ mostTasks)
         × (length (now cells) ≡ storeSize)
-        × (length (now symbols) ≤ symbolRoom)
+        × (length (now symbols) ≤ mostSymbols)
         × (isEnough (now calendars) (now «task_calendars») (now «work_times») (now heights) (now boxes) ≡ true) ⌝ }
     ensures { λ _. ⌜ (left calendars ≡ written (old symbols) (old calendars))
         × (left «task_calendars» ≡ written (section calendarsAt tasks (old cells)) (old «task_calendars»))
@@ -244,7 +250,7 @@ pub fn read_plan(
     ensures { λ x. ⌜ endWith (readingAnswer x) (left calendars) (left «task_calendars») (left «work_times») (left heights) (left boxes)
         ≡ readPlan (old calendars) (old «task_calendars») (old «work_times») (old heights) (old boxes) (old text) ⌝ }
 {
-    let mut symbols = [0u8; SYMBOLS];
+    let mut symbols = [0u8; MOST_SYMBOLS];
     let mut cells = [0u16; CELLS];
     let scanned = lines::read_text(text, &mut symbols, &mut cells);
     match scanned {

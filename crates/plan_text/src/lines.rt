@@ -2,6 +2,7 @@
 use crate::BOXES;
 use crate::HEIGHTS;
 use crate::LineRecord;
+use crate::MOST_BYTES;
 use crate::MaybeScan;
 use crate::Scan;
 use crate::Scanned;
@@ -24,8 +25,8 @@ ghost use Rattle.plan.specs.Lent.{old, left};
 ghost use Rattle.text.specs.Fields.{lf, parts};
 ghost use Rattle.plan_text.specs.Records.{planRecord, calRecord, taskRecord};
 ghost use Rattle.plan_text.specs.Text.{Read, mostBytes, planSection, nothing, comes, withRecord, withLine, readLines, readText};
-ghost use Rattle.plan_text.specs.Entry.{boxOf};
-ghost use Rattle.plan_text.specs.inner.Scanning.{symbolRoom, boxesAt, storeSize, Kept, KeepsTasks, counted, Sized, Holds, Follows, Scans};
+ghost use Rattle.plan_text.specs.Entry.{boxOf, mostSymbols};
+ghost use Rattle.plan_text.specs.inner.Scanning.{boxesAt, storeSize, Kept, KeepsTasks, counted, Sized, Holds, Follows, Scans};
 
 // The sections of a text, in their order; before the plan line it is 0.
 const PLAN: usize = 1;
@@ -33,9 +34,6 @@ const PLAN: usize = 1;
 const CALENDARS: usize = 2;
 
 const TASKS: usize = 3;
-
-// The most bytes of a text.
-const MOST_BYTES: usize = 32768;
 
 // The most numbers of a line.
 const MOST_NUMBERS: usize = 9;
@@ -52,9 +50,9 @@ fn last_hour(hours: u16) -> u16
 
 // Stores a calendar's symbols after those of the calendars before it, if there is room.
 fn store_symbols(symbols: &mut [u8], at: usize, calendar: &[u8])
-    requires { ⌜ (at ≤ mostBytes) × (length (now calendar) ≤ mostBytes) × (length (now symbols) ≡ symbolRoom) ⌝ }
-    ensures { λ _. ⌜ ((before : List ℕ) → at ≡ length before → Kept 0 symbolRoom before (old symbols)
-        → Kept 0 symbolRoom (before ++ old calendar) (left symbols)) ⌝ }
+    requires { ⌜ (at ≤ mostBytes) × (length (now calendar) ≤ mostBytes) × (length (now symbols) ≡ mostSymbols) ⌝ }
+    ensures { λ _. ⌜ ((before : List ℕ) → at ≡ length before → Kept 0 mostSymbols before (old symbols)
+        → Kept 0 mostSymbols (before ++ old calendar) (left symbols)) ⌝ }
 {
     if at + calendar.len() <= symbols.len() {
         put_bytes(symbols, at, calendar);
@@ -133,7 +131,7 @@ fn is_even(even: bool, symbols: usize, hours: u16) -> bool
 
 // After a `cal` line.
 fn with_calendar(scan: Scan, calendar: &[u8], symbols: &mut [u8]) -> MaybeScan
-    requires { ⌜ (counted scan ≤ mostBytes) × (length (now calendar) ≤ mostBytes) × (length (now symbols) ≡ symbolRoom) ⌝ }
+    requires { ⌜ (counted scan ≤ mostBytes) × (length (now calendar) ≤ mostBytes) × (length (now symbols) ≡ mostSymbols) ⌝ }
     ensures { λ x. ⌜ ((r : Read) (n : ℕ) (cells : List ℕ) → Holds r scan n (old symbols) cells
         → Follows (withRecord r (calRecord (old calendar))) x (n + (length (old calendar) + 1)) (left symbols) cells) ⌝ }
 {

@@ -2,11 +2,11 @@
 use mathlib.Core.List.{List}
 use Prim.Native.Nat.{ℕ, _*_}
 use lib.ListN.{take, replicate}
-use Rattle.units.specs.Limits.{mostHours, mostCalendars, mostTasks}
+use Rattle.units.specs.Limits.{mostTasks}
 use Rattle.plan.specs.Plan.{Plan, plan, taskCount}
 use Rattle.plan.specs.Refusals.{onAnswer}
 use Rattle.steps.specs.Entry.{filterPlan}
-use Rattle.plan_text.specs.Entry.{PlanRead, ReadEnd, readPlan}
+use Rattle.plan_text.specs.Entry.{mostSymbols, mostBounds, PlanRead, ReadEnd, readPlan}
 use Rattle.listing.specs.Listing.{refusedLine, listing}
 
 -- memory as the program lends it
@@ -26,7 +26,7 @@ planListing P boxes =
 -- the text read into memory for the most that a plan can hold
 unfoldable pub readEnd : List ℕ → ReadEnd
 readEnd text =
-    readPlan (zeros (mostCalendars * mostHours)) (zeros mostTasks) (zeros mostTasks) (zeros mostTasks) (zeros (6 * mostTasks)) text
+    readPlan (zeros mostSymbols) (zeros mostTasks) (zeros mostTasks) (zeros mostTasks) (zeros mostBounds) text
 
 -- the plan in the first cells of that memory
 unfoldable pub readListing : ReadEnd → PlanRead → List ℕ

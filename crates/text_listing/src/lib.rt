@@ -1,24 +1,18 @@
 // From plan text to the listing: reads the plan, filters it with room for 2,048 steps, and lists the run.
+use listing::ROOM;
 use listing::list_refusal;
 use listing::list_run;
+use plan_text::MOST_BOUNDS;
+use plan_text::MOST_SYMBOLS;
 use plan_text::PlanReading;
 use units::Bounds;
-use units::CalendarNumber;
-use units::Duration;
 ghost use mathlib.Core.Path.{_≡_};
 ghost use Prim.Native.Nat.{_*_, _≤_};
 ghost use lib.ListN.{length};
 ghost use Rattle.units.specs.Limits.{mostTasks};
 ghost use Rattle.units.specs.Cells.{written};
 ghost use Rattle.plan.specs.Lent.{old, left, oldPlan};
-ghost use Rattle.listing.specs.Listing.{mostListing};
 ghost use Rattle.text_listing.specs.Program.{planListing, textListing};
-
-// The most symbols of a plan, calendars joined.
-const SYMBOLS: usize = CalendarNumber::MOST * Duration::MOST as usize;
-
-// The most bounds of a plan, six a task.
-const BOUNDS: usize = 6 * Bounds::MOST;
 
 // The steps that the log has room for.
 const STEPS: usize = 2048;
@@ -32,11 +26,9 @@ fn list_plan(
     work_times: &[u16],
     heights: &[u16],
     boxes: &mut [u16],
-    out: &mut [u8],
+    out: &mut [u8; ROOM],
 ) -> usize
-    requires { ⌜ (length (now «task_calendars») ≤ mostTasks)
-        × (length (now boxes) ≡ 6 * length (now «task_calendars»))
-        × (mostListing ≤ length (now out)) ⌝ }
+    requires { ⌜ (length (now «task_calendars») ≤ mostTasks) × (length (now boxes) ≡ 6 * length (now «task_calendars»)) ⌝ }
     ensures { λ r. let L = planListing (oldPlan hours capacity calendars «task_calendars» «work_times» heights) (old boxes) in
         ⌜ (r ≡ length L) × (left out ≡ written L (old out)) ⌝ }
 {
@@ -58,16 +50,15 @@ fn list_plan(
     list_run(answer, boxes, task_calendars.len(), out)
 }
 
-// The listing of a text.
-pub fn list_text(text: &[u8], out: &mut [u8]) -> usize
-    requires { ⌜ mostListing ≤ length (now out) ⌝ }
+// The listing of a text, and its length; the bytes past it are untouched.
+pub fn list_text(text: &[u8], out: &mut [u8; ROOM]) -> usize
     ensures { λ r. let L = textListing (old text) in ⌜ (r ≡ length L) × (left out ≡ written L (old out)) ⌝ }
 {
-    let mut symbols = [0u8; SYMBOLS];
+    let mut symbols = [0u8; MOST_SYMBOLS];
     let mut task_calendars = [0u16; Bounds::MOST];
     let mut work_times = [0u16; Bounds::MOST];
     let mut heights = [0u16; Bounds::MOST];
-    let mut boxes = [0u16; BOUNDS];
+    let mut boxes = [0u16; MOST_BOUNDS];
     let reading = plan_text::read_plan(
         text,
         &mut symbols,

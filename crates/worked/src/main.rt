@@ -121,8 +121,8 @@ fn schedule_that_ends_closed() {
     report(printed_week(&schedule));
 }
 
-// One byte more than the longest text has, so that a text that is too long shows.
-const BYTES: usize = 32769;
+// Memory for a plan text.
+const BYTES: usize = plan_text::TEXT_ROOM;
 
 // The name of a plan text of data/, and what the program prints for it.
 fn print_listing(name: &[u8]) {

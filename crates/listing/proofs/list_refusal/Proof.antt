@@ -14,14 +14,13 @@ put-line-requires : tie.Need-put-line-requires
 put-line-requires c κs =
     let f = found c in
     let fits = c .before .before .before .struct-known .given in
-    omega (arith, f .before .before .pre, refused-length (f .fault-of .result .0) (f .fault-of .result .1) (omega (arith, fits)) (omega (arith, fits)))
+    omega (arith, refused-length (f .fault-of .result .0) (f .fault-of .result .1) (omega (arith, fits)) (omega (arith, fits)))
 
 returns : tie.Need-returns
 unfolding refusedLine
 returns c =
-    let p = c .before .before in
-    let f = found (p .before) in
-    put-all (rw (← (f .fault-of .ensures .0), ← (f .fault-of .ensures .1)) (p .put-line .ensures))
+    let f = found (c .before) in
+    put-all (rw (← (f .fault-of .ensures .0), ← (f .fault-of .ensures .1)) (c .put-line .ensures))
 
 pub list-refusal-spec : {M : Type 1} → statement M
 list-refusal-spec =
@@ -32,5 +31,4 @@ list-refusal-spec =
     (λ c. search needs)
     (λ c. search needs)
     put-line-requires
-    (λ c. search needs)
     returns)

@@ -7,10 +7,10 @@ use Rattle.listing.proofs.list_tasks.Tie as tie
 
 -- The places that answers look back to: the entry, and the first line once put.
 abbrev entry : tie.After-numbers → tie.Start
-entry c = c .before .before .before .before .before
+entry c = c .before .before .before .before
 
 abbrev first : tie.After-put-tasks-arg → tie.After-put-line
-first c = c .before .before .before
+first c = c .before
 
 put-line-requires : tie.Need-put-line-requires
 put-line-requires c κs =
@@ -26,8 +26,7 @@ put-tasks-requires c κs =
 
 returns : tie.Need-returns
 returns c =
-    let t = c .before .before in
-    put-both (omega arith) (first (t .before) .put-line .ensures) (t .put-tasks .ensures)
+    put-both (omega arith) (first (c .before) .put-line .ensures) (c .put-tasks .ensures)
 
 pub list-tasks-spec : {M : Type 1} → statement M
-list-tasks-spec = tie.close (tie.spec (λ c. search needs) put-line-requires put-tasks-requires (λ c. search needs) returns)
+list-tasks-spec = tie.close (tie.spec (λ c. search needs) put-line-requires put-tasks-requires returns)

@@ -7,7 +7,7 @@ use borrow.Author.Tests.{not-true, not-false}
 use Rattle.plan.specs.Refusals.{testedFault}
 use Rattle.plan_text.specs.Text.{Read, mostBytes}
 use Rattle.plan_text.specs.Entry.{readFault}
-use Rattle.plan_text.specs.inner.Scanning.{symbolRoom, Holds}
+use Rattle.plan_text.specs.inner.Scanning.{Holds}
 use Rattle.plan_text.proofs.Judging.{read-passed}
 use Rattle.plan_text.proofs.Ending.{too-small, not-passed, passed}
 use borrow.Author.Needs.{needs}

@@ -4,7 +4,7 @@ use mathlib.Core.Option.{Option, none, some}
 use mathlib.Core.List.{List, map}
 use Prim.Native.Nat.{ℕ, _+_, _*_, _≤_}
 use lib.ListN.{length, getD, take, drop}
-use Rattle.units.specs.Limits.{mostHours, mostCalendars, mostTasks}
+use Rattle.units.specs.Limits.{mostTasks}
 use Rattle.plan.specs.Plan.{Plan, plan}
 use Rattle.plan.specs.Refusals.{fault, Answer, refused, answered}
 use Rattle.plan_text.specs.declared.Scan.{Scan}
@@ -13,13 +13,9 @@ use Rattle.plan_text.specs.declared.MaybeScan.the-variants.{Broken, Next
 use Rattle.plan_text.specs.declared.Scanned.{Scanned}
 use Rattle.plan_text.specs.declared.Scanned.the-variants.{Malformed, Whole}
 use Rattle.plan_text.specs.Text.{Read, mostBytes}
-use Rattle.plan_text.specs.Entry.{joined, boxOf, allOf}
+use Rattle.plan_text.specs.Entry.{joined, boxOf, allOf, mostSymbols, mostBounds}
 
 -- ---- the store and its sections
-
--- room for the symbols, calendars joined
-abbrev pub symbolRoom : ℕ
-symbolRoom = mostCalendars * mostHours
 
 -- where each section of the store begins: the tasks' calendars, work times, heights and boxes; and the store's size
 abbrev pub calendarsAt : ℕ
@@ -50,7 +46,7 @@ pub record Keeps (cs ws hs bs cells : List ℕ) : Type 0 where
   pub calendars : Kept calendarsAt mostTasks cs cells
   pub work-times : Kept workTimesAt mostTasks ws cells
   pub heights : Kept heightsAt mostTasks hs cells
-  pub boxes : Kept boxesAt (6 * mostTasks) bs cells
+  pub boxes : Kept boxesAt mostBounds bs cells
 
 -- the tasks' numbers
 abbrev pub KeepsTasks : ℕ → List (List ℕ) → List ℕ → Type 0
@@ -81,12 +77,12 @@ pub record Holds (r : Read) (s : Scan) (n : ℕ) (symbols cells : List ℕ) : Ty
   pub symbol-count : s .symbols ≡ length (joined (r .calendars))
   pub tasks : s .tasks ≡ length (r .tasks)
   pub few : counted s ≤ n
-  pub kept-symbols : Kept 0 symbolRoom (joined (r .calendars)) symbols
+  pub kept-symbols : Kept 0 mostSymbols (joined (r .calendars)) symbols
   pub kept-tasks : KeepsTasks (r .hours) (r .tasks) cells
 
 -- memory of the sizes above
 pub record Sized (symbols cells : List ℕ) : Type 0 where
-  pub of-symbols : length symbols ≡ symbolRoom
+  pub of-symbols : length symbols ≡ mostSymbols
   pub of-cells : length cells ≡ storeSize
 
 -- what has been read with another line, if the line keeps to the rules

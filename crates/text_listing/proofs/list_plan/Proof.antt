@@ -8,9 +8,8 @@ use Rattle.text_listing.proofs.list_plan.Tie as tie
 returns : tie.Need-returns
 unfolding taskCount zeros
 returns c =
-    let l = c .before .before in
-    let f = l .before .before .before .before .before .before .before .before in
-    put-as _ (plan-listed _ _ _ _ _ _ _ (f .filter .ensures .0)) (l .list-run .ensures .0) (l .list-run .ensures .1)
+    let f = c .before .before .before .before .before .before .before .before in
+    put-as _ (plan-listed _ _ _ _ _ _ _ (f .filter .ensures .0)) (c .list-run .ensures .0) (c .list-run .ensures .1)
 
 pub list-plan-spec : {M : Type 1} → statement M
 list-plan-spec =
@@ -21,6 +20,5 @@ list-plan-spec =
     (λ c. search needs)
     (λ c κs. search needs)
     (λ c κs. search needs)
-    (λ c. search needs)
     (λ c. search needs)
     returns)

@@ -2,7 +2,8 @@ use mathlib.Core.Path.{sym, ap, _∙_}
 use Prim.Native.Nat.{_*_}
 use native.Mathlib.Omega.{arith}
 use Rattle.plan_text.specs.declared.PlanReading.{PlanReading}
-use Rattle.plan_text.specs.Entry.{ReadEnd, endWith, readingAnswer}
+use Rattle.units.specs.Limits.{mostTasks}
+use Rattle.plan_text.specs.Entry.{mostSymbols, mostBounds, ReadEnd, endWith, readingAnswer}
 use Rattle.plan_text.proofs.Holding.{Holds}
 use Rattle.text_listing.specs.Program.{zeros, readEnd}
 use Rattle.text_listing.proofs.Room.{part-length, parts-ready}
@@ -11,10 +12,7 @@ use borrow.Author.Needs.{needs}
 use Rattle.text_listing.proofs.list_text.Statement.{statement}
 use Rattle.text_listing.proofs.list_text.Tie as tie
 
--- The places that answers look back to: the entry, and the text once read, from where it holds a plan.
-abbrev entry : tie.After-read-plan → tie.Start
-entry c = c .before .before .before .before .before .before .before .before
-
+-- The place that answers look back to: the text once read, from where it holds a plan.
 abbrev read : tie.After-reading2 → tie.After-read-plan
 read c = c .before .before .before .before .before .before .before
 
@@ -45,19 +43,19 @@ array-share-prefix-symbols : tie.Need-array-share-prefix-symbols
 array-share-prefix-symbols c = let k = c .before in omega (arith, limits k .symbols, read k .read-plan .kept .1 .0)
 
 slice-aggregate-list-plan : tie.Need-slice-aggregate-list-plan
-slice-aggregate-list-plan c = let k = c .before .before in part-length _ _ 16128 (read k .read-plan .kept .1 .0) (omega (arith, limits k .symbols))
+slice-aggregate-list-plan c = let k = c .before .before in part-length _ _ mostSymbols (read k .read-plan .kept .1 .0) (omega (arith, limits k .symbols))
 
 array-share-prefix-task-calendars : tie.Need-array-share-prefix-task-calendars
 array-share-prefix-task-calendars c = let k = c .before .before in omega (arith, limits k .tasks, read k .read-plan .kept .1 .1 .0)
 
 slice-aggregate-list-plan-2 : tie.Need-slice-aggregate-list-plan-2
-slice-aggregate-list-plan-2 c = let k = c .before .before .before in part-length _ _ 64 (read k .read-plan .kept .1 .1 .0) (limits k .tasks)
+slice-aggregate-list-plan-2 c = let k = c .before .before .before in part-length _ _ mostTasks (read k .read-plan .kept .1 .1 .0) (limits k .tasks)
 
 array-share-prefix-work-times : tie.Need-array-share-prefix-work-times
 array-share-prefix-work-times c = let k = c .before .before .before in omega (arith, limits k .tasks, read k .read-plan .kept .1 .1 .1 .0)
 
 slice-aggregate-list-plan-3 : tie.Need-slice-aggregate-list-plan-3
-slice-aggregate-list-plan-3 c = let k = c .before .before .before .before in part-length _ _ 64 (read k .read-plan .kept .1 .1 .1 .0) (limits k .tasks)
+slice-aggregate-list-plan-3 c = let k = c .before .before .before .before in part-length _ _ mostTasks (read k .read-plan .kept .1 .1 .1 .0) (limits k .tasks)
 
 array-share-prefix-heights : tie.Need-array-share-prefix-heights
 array-share-prefix-heights c = let k = c .before .before .before .before in omega (arith, limits k .tasks, read k .read-plan .kept .1 .1 .1 .1 .0)
@@ -65,7 +63,7 @@ array-share-prefix-heights c = let k = c .before .before .before .before in omeg
 slice-aggregate-list-plan-4 : tie.Need-slice-aggregate-list-plan-4
 slice-aggregate-list-plan-4 c =
     let k = c .before .before .before .before .before in
-    part-length _ _ 64 (read k .read-plan .kept .1 .1 .1 .1 .0) (limits k .tasks)
+    part-length _ _ mostTasks (read k .read-plan .kept .1 .1 .1 .1 .0) (limits k .tasks)
 
 array-borrow-prefix-boxes : tie.Need-array-borrow-prefix-boxes
 array-borrow-prefix-boxes c = let k = c .before .before .before .before .before in omega (arith, limits k .tasks, read k .read-plan .kept .1 .1 .1 .1 .1 .0)
@@ -73,28 +71,26 @@ array-borrow-prefix-boxes c = let k = c .before .before .before .before .before 
 slice-aggregate-list-plan-5 : tie.Need-slice-aggregate-list-plan-5
 slice-aggregate-list-plan-5 c =
     let k = c .before .before .before .before .before .before in
-    part-length _ _ 384 (read k .read-plan .kept .1 .1 .1 .1 .1 .0) (omega (arith, limits k .tasks))
+    part-length _ _ mostBounds (read k .read-plan .kept .1 .1 .1 .1 .1 .0) (omega (arith, limits k .tasks))
 
 list-plan-requires : tie.Need-list-plan-requires
 list-plan-requires c κs =
     let k = c .before .before .before .before .before .before .before in
     let r = read k in
-    let p = parts-ready _ _ _ (r .read-plan .kept .1 .1 .0) (r .read-plan .kept .1 .1 .1 .1 .1 .0) (limits k .tasks) in
-    (p .0, p .1, entry r .pre)
+    parts-ready _ _ _ (r .read-plan .kept .1 .1 .0) (r .read-plan .kept .1 .1 .1 .1 .1 .0) (limits k .tasks)
 
 returns : tie.Need-returns
 unfolding zeros readEnd
 returns c =
-    let l = c .before .before in
-    let k = l .before .before .before in
+    let k = c .before .before .before in
     let r = k .before .before .before .before .before .before .before in
-    put-as _ (text-refused _ _ _ _ _ _ _ (sym (ap (leaves r) (k .reading .given .1)) ∙ r .read-plan .ensures)) (l .list-refusal .ensures .0)
-    (l .list-refusal .ensures .1)
+    put-as _ (text-refused _ _ _ _ _ _ _ (sym (ap (leaves r) (k .reading .given .1)) ∙ r .read-plan .ensures)) (c .list-refusal .ensures .0)
+    (c .list-refusal .ensures .1)
 
 returns-2 : tie.Need-returns-2
 unfolding zeros readEnd
 returns-2 c =
-    let l = c .before .before .before in
+    let l = c .before in
     let k = l .before .before .before .before .before .before .before .before in
     let r = read k in
     put-as _ (text-read _ _ _ _ _ _ _ (sym (ap (leaves r) (k .reading2 .given .1)) ∙ r .read-plan .ensures)) (l .list-plan .ensures .0)
@@ -127,7 +123,5 @@ list-text-spec =
     array-borrow-prefix-boxes
     slice-aggregate-list-plan-5
     list-plan-requires
-    (λ c. search needs)
     returns
-    (λ c. search needs)
     returns-2)
