@@ -4,7 +4,7 @@ use mathlib.Core.Bool.{false}
 use mathlib.Core.Option.{some}
 use mathlib.Core.List.{List}
 use Prim.Native.Nat.{ℕ}
-use lib.ListN.{length}
+use lib.ListN.{length, take}
 use Rattle.units.specs.Choice.{onOption}
 use Rattle.units.specs.Cells.{written}
 use Rattle.plan.specs.Plan.{Plan}
@@ -12,7 +12,7 @@ use Rattle.plan.specs.Faults.{inputFault}
 use Rattle.steps.specs.declared.Step.{Step}
 use Rattle.steps.specs.Log.{LogEnd, logEnd, replay}
 use Rattle.steps.specs.Filter.{Run, count, run}
-use Rattle.steps.specs.Entry.{FilterAnswer, refusedBy, endingAnswer}
+use Rattle.steps.specs.Entry.{FilterAnswer, refusedBy, endingAnswer, FilterLeft}
 
 -- The log checker: the log's end, or at once a refusal (31, then the plan's tests) that changes nothing.
 unfoldable pub checkSteps : Plan → List ℕ → List Step → LogEnd
@@ -36,3 +36,7 @@ filterSteps P boxes log =
     onOption (inputFault P boxes)
     (loggedSteps (run P boxes (length log)) log)
     (λ f. stepsEnd (refusedBy f) boxes log)
+
+-- its answer, the boxes, and the first so many steps of the log
+unfoldable pub leftSteps : StepsEnd → FilterLeft
+leftSteps e = record { answer = e .answer; boxes = e .boxes; first = λ n. take n (e .log) }

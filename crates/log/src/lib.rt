@@ -121,7 +121,7 @@ pub fn filter(
         ⌜ stepsEnd (filterAnswer r) (left boxes) (left log) ≡ filterSteps P (old boxes) (old log) ⌝ }
     ensures holds { λ r.
         let P = oldPlan hours capacity calendars «task_calendars» «work_times» heights in
-        ⌜ FilterHolds P (old boxes) (length (old log)) (filterAnswer r) (left boxes) (λ n. take n (left log)) ⌝ }
+        ⌜ FilterHolds P (old boxes) (checkSteps P (old boxes)) (length (old log)) (filterAnswer r) (left boxes) (λ n. take n (left log)) ⌝ }
 {
     let room = log.len();
     let mut taken = 0;

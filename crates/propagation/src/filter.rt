@@ -17,7 +17,7 @@ ghost use lib.ListN.{length};
 ghost use Rattle.plan.specs.Lent.{old, left, planOf, oldPlan};
 ghost use Rattle.plan.specs.Passed.{Passed};
 ghost use Rattle.steps.specs.Filter.{run};
-ghost use Rattle.steps.specs.Entry.{stepsFrom, oneForEachStep, filterEnd, filterPlan, filterAnswer};
+ghost use Rattle.steps.specs.Entry.{stepsFrom, oneForEachStep, checkRecords, filterEnd, filterPlan, filterAnswer};
 ghost use Rattle.steps.specs.inner.From.{loggedFrom, filterFrom};
 ghost use Rattle.steps.specs.Claim.{FilterHolds};
 
@@ -147,7 +147,7 @@ pub fn filter(
     ensures holds { λ r.
         let P = oldPlan hours capacity calendars «task_calendars» «work_times» heights in
         let steps = stepsFrom (left «log_kinds») (left «log_tasks») (left «log_hours») 0 in
-        ⌜ FilterHolds P (old boxes) (length (old «log_kinds»)) (filterAnswer r) (left boxes) steps ⌝ }
+        ⌜ FilterHolds P (old boxes) (checkRecords P (old boxes)) (length (old «log_kinds»)) (filterAnswer r) (left boxes) steps ⌝ }
 {
     filter_from(
         hours,

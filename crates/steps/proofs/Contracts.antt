@@ -2,19 +2,20 @@
 use mathlib.Core.Path.{_≡_, refl, sym, ap, _∙_, subst}
 use mathlib.Core.Bool.{Bool, true, false, false≢true}
 use mathlib.Core.Option.{Option, none, some}
-use mathlib.Core.List.{List, [], _∷_, _++_, map}
+use mathlib.Core.List.{List, [], _∷_, _++_, map, append-nil}
 use Prim.Native.Nat.{ℕ, zero, suc, _+_, _*_, _<_}
 use native.Mathlib.Numerals.{add-one}
 use native.Mathlib.Omega.{arith}
-use lib.ListN.{length}
+use lib.ListN.{length, length-map}
+use borrow.Author.Tests.{eq-eqb, eqb-true}
 use Rattle.units.specs.Cells.{written}
 use Rattle.units.specs.Choice.{onOption, _orElse_, firstOf}
-use Rattle.units.proofs.Choices.{and-left, none≢some, option-all, if-some, else-case, neither, first-at}
+use Rattle.units.proofs.Choices.{and-both, and-left, and-right, none≢some, option-all, if-some, else-case, neither, first-at}
 use Rattle.plan.specs.Plan.{Plan, taskCount}
 use Rattle.plan.specs.Boxes.{boundsAt}
 use Rattle.plan.specs.Refusals.{Fault, fault, unless, refused, answered, answerUnless}
-use Rattle.plan.specs.Faults.{planFault, inputFault}
-use Rattle.plan.proofs.Refusing.{unless-none}
+use Rattle.plan.specs.Faults.{oneForEachTask, planFault, inputFault}
+use Rattle.plan.proofs.Refusing.{unless-none, go-on}
 use Rattle.plan.proofs.Numbers.{by-unless, by-either, plan-numbers, input-numbers}
 use Rattle.steps.specs.declared.Step.{Step}
 use Rattle.calendar.specs.declared.Triple.{Triple}
@@ -23,13 +24,13 @@ use Rattle.schedule.specs.Schedule.{Feasible}
 use Rattle.steps.specs.Steps.{judge}
 use Rattle.steps.specs.Log.{LogEnd, logEnd, replayFrom, replayBy, replay}
 use Rattle.steps.specs.Filter.{filterOrder, next, Ending, settled, impossible, noRoom, Run, count, run}
-use Rattle.steps.specs.Entry.{stepAt, stepsFrom, stepsIn, entryFault, Accepted, checkLog, checkAnswer, refusedBy, endingAnswer, FilterEnd, logged, filterPlan}
+use Rattle.steps.specs.Entry.{stepAt, stepsFrom, stepsIn, oneForEachStep, entryFault, Accepted, checkLog, checkAnswer, checkRecords}
+use Rattle.steps.specs.Entry.{refusedBy, endingAnswer, FilterEnd, logged, filterPlan}
 use Rattle.steps.specs.Claim.{saidImpossible, CheckedHolds, FilterHolds}
 use Rattle.steps.proofs.Judgements.{judgement-all}
-use Rattle.steps.proofs.Replays.{accepted-admitted, admitted-accepted, replay-keeps, replay-possible}
+use Rattle.steps.proofs.Replays.{accepted-admitted, admitted-accepted, accepted-steps, replay-keeps, replay-possible}
 use Rattle.steps.proofs.Searches.{next-none, filter-complete}
 use Rattle.steps.proofs.Runs.{run-replays, run-fits, run-short, run-rests}
-use Rattle.steps.proofs.Claim.{boxes-sized}
 
 -- ---- the faults found before a log is read are none of the log's own
 
@@ -48,12 +49,22 @@ module _ (P : Plan) (boxes : List ℕ) (f : Fault) where
 -- where they find none, the boxes number one for each task
 module _ (P : Plan) (boxes : List ℕ) where
   pub first-sized : inputFault P boxes ≡ none → length boxes ≡ 6 * taskCount P
-  unfolding inputFault
-  first-sized e = boxes-sized P boxes (unless-none _ 31 0 (neither _ _ e .0))
+  unfolding inputFault oneForEachTask taskCount
+  first-sized e = eqb-true _ _ (and-right _ _ (and-right _ _ (unless-none _ 31 0 (neither _ _ e .0))))
 
-  entry-sized : (kinds tasks hours : List ℕ) → entryFault P boxes kinds tasks hours ≡ none → length boxes ≡ 6 * taskCount P
-  unfolding entryFault
-  entry-sized kinds tasks hours e = boxes-sized P boxes (and-left _ _ (unless-none _ 31 0 (neither _ _ e .0)))
+  -- the tests of a log checker and of a filter are those of the plan and the boxes, and that of the log's slices
+  entry-input : (kinds tasks hours : List ℕ) → entryFault P boxes kinds tasks hours ≡ none → inputFault P boxes ≡ none
+  unfolding entryFault inputFault
+  entry-input kinds tasks hours e =
+      let faults = neither _ _ e in
+      go-on _ 31 0 _ (and-left _ _ (unless-none _ 31 0 (faults .0))) ∙ faults .1
+
+  input-entry : (kinds tasks hours : List ℕ) → inputFault P boxes ≡ none → oneForEachStep kinds tasks hours ≡ true
+      → entryFault P boxes kinds tasks hours ≡ none
+  unfolding entryFault inputFault
+  input-entry kinds tasks hours e each =
+      let faults = neither _ _ e in
+      go-on _ 31 0 _ (and-both _ _ (unless-none _ 31 0 (faults .0)) each) ∙ faults .1
 
 -- ---- the log checker
 
@@ -97,6 +108,7 @@ module _ (P : Plan) (boxes : List ℕ) (found : Option Fault) (log : List Step) 
   refused-holds f e other =
       record {
         exactly = λ q. none≢some (sym q ∙ e);
+        counted = λ a q. refused≢answered q;
         keeps = λ σ F. F .inside;
         noSchedule = λ steps q. refused≢answered q;
         noScheduleAt = λ k q. absurd (other (let z : f ≡ fault 13 k = cc in ap (λ (g : Fault). g .number) z));
@@ -105,7 +117,7 @@ module _ (P : Plan) (boxes : List ℕ) (found : Option Fault) (log : List Step) 
   abbrev end : LogEnd
   end = replay P boxes log
 
-  replayed-holds : length boxes ≡ 6 * taskCount P → CheckedHolds P boxes found log (checkAnswer end) (end .boxes)
+  pub replayed-holds : length boxes ≡ 6 * taskCount P → CheckedHolds P boxes found log (checkAnswer end) (end .boxes)
   unfolding checkAnswer After-impossible
   replayed-holds size =
       record {
@@ -113,6 +125,9 @@ module _ (P : Plan) (boxes : List ℕ) (found : Option Fault) (log : List Step) 
           λ a. accepted-admitted P boxes log (answer-none (end .refusal) _ _ (a .1) .0),
           λ a. let e = admitted-accepted P boxes log a in (record { steps = end .steps; impossible = end .impossible }, unfold answerUnless in (rw e)),
         );
+        counted = λ a q.
+            let (accepted, is) = answer-none (end .refusal) _ _ q in
+            ap (λ (b : Accepted). b .steps) (sym is) ∙ accepted-steps P boxes log accepted;
         keeps = λ σ F. replay-keeps P boxes log size σ F .inside;
         noSchedule = λ steps e σ F.
             no-schedule σ F (ap (λ (a : Accepted). a .impossible) (answer-none (end .refusal) _ _ e .1));
@@ -139,7 +154,7 @@ pub check-holds : (P : Plan) (boxes kinds tasks hours : List ℕ)
     (checkLog P boxes kinds tasks hours .boxes)
 unfolding checkLog
 check-holds P boxes kinds tasks hours =
-    tested-holds P boxes _ _ (entry-sized P boxes kinds tasks hours) (λ f e. entry-fault P boxes f kinds tasks hours e)
+    tested-holds P boxes _ _ (λ e. first-sized P boxes (entry-input P boxes kinds tasks hours e)) (λ f e. entry-fault P boxes f kinds tasks hours e)
 
 -- ---- the filter
 
@@ -173,8 +188,8 @@ same-ending noRoom settled m n q = absurd (let z : _≡_ {A = ℕ} 0 1 = cc in o
 same-ending noRoom impossible m n q = absurd (let z : _≡_ {A = ℕ} 0 1 = cc in omega arith)
 same-ending noRoom noRoom m n q = (refl, cc)
 
-module _ (P : Plan) (boxes : List ℕ) (room : ℕ) (first : ℕ → List Step) where
-  pub no-run-holds : (f : Fault) → FilterHolds P boxes room (refusedBy f) boxes first
+module _ (P : Plan) (boxes : List ℕ) (check : List Step → LogEnd) (room : ℕ) (first : ℕ → List Step) where
+  pub no-run-holds : (f : Fault) → FilterHolds P boxes check room (refusedBy f) boxes first
   no-run-holds f =
       record {
         own = λ e n q. refused≢ending f e n q;
@@ -188,13 +203,14 @@ module _ (P : Plan) (boxes : List ℕ) (room : ℕ) (first : ℕ → List Step) 
   abbrev r : Run
   r = run P boxes room
 
-  pub run-holds : length boxes ≡ 6 * taskCount P → first (count r) ≡ r .log → FilterHolds P boxes room (endingAnswer (r .ending) (count r)) (r .boxes) first
+  pub run-holds : length boxes ≡ 6 * taskCount P → ((log : List Step) → check log ≡ replay P boxes log) → first (count r) ≡ r .log
+      → FilterHolds P boxes check room (endingAnswer (r .ending) (count r)) (r .boxes) first
   unfolding endingAnswer
-  run-holds size is-log =
+  run-holds size replays is-log =
       record {
         own = λ e n q.
             let s = same-ending (r .ending) e (count r) n q in
-            rw (← s .0, ← s .1) (ap (replay P boxes) is-log ∙ run-replays P boxes room);
+            rw (← s .0, ← s .1) (replays _ ∙ ap (replay P boxes) is-log ∙ run-replays P boxes room);
         fits = λ e n q. rw (← (same-ending (r .ending) e (count r) n q .1)) (run-fits (next P) boxes room);
         short = λ e n q. rw (← (same-ending (r .ending) e (count r) n q .1)) (run-short P boxes room size);
         settles = λ n q. next-none P (r .boxes) filterOrder filter-complete (run-rests (next P) boxes room (same-ending (r .ending) settled (count r) n q .0));
@@ -210,13 +226,39 @@ module _ (P : Plan) (boxes : List ℕ) (room : ℕ) (first : ℕ → List Step) 
       said : {e : Ending} → e ≡ impossible → saidImpossible e ≡ true
       said e = unfold saidImpossible in (rw e)
 
+-- ---- a log that is given as a list of records
+
+-- the three slices hold just these
+pub records-in : (log : List Step) → stepsIn (map (λ x. x .kind) log) (map (λ x. x .task) log) (map (λ x. x .hour) log) ≡ log
+unfolding stepsIn
+records-in log =
+    ap (stepsFrom (map (λ x. x .kind) log) (map (λ x. x .task) log) (map (λ x. x .hour) log) 0) (length-map log (λ x. x .kind))
+    ∙ (λ i. stepsFrom (sym (append-nil (map (λ x. x .kind) log)) i) (sym (append-nil (map (λ x. x .task) log)) i)
+    (sym (append-nil (map (λ x. x .hour) log)) i) 0 (length log))
+    ∙ steps-written log [] [] []
+
+module _ (P : Plan) (boxes : List ℕ) where
+  -- they number one for each step
+  pub records-pass : inputFault P boxes ≡ none
+      → (log : List Step) → entryFault P boxes (map (λ x. x .kind) log) (map (λ x. x .task) log) (map (λ x. x .hour) log) ≡ none
+  unfolding oneForEachStep
+  records-pass e log =
+      let same = sym (length-map log (λ x. x .kind)) in
+      input-entry P boxes _ _ _ e (and-both _ _ (eq-eqb _ _ (length-map log (λ x. x .task) ∙ same)) (eq-eqb _ _ (length-map log (λ x. x .hour) ∙ same)))
+
+  pub records-replay : inputFault P boxes ≡ none → (log : List Step) → checkRecords P boxes log ≡ replay P boxes log
+  unfolding checkRecords checkLog onOption
+  records-replay e log = rw (records-pass e log, records-in log)
+
 module _ (P : Plan) (boxes kinds tasks hours : List ℕ) where
   abbrev Holds : FilterEnd → Type 0
-  Holds l = FilterHolds P boxes (length kinds) (l .answer) (l .boxes) (stepsFrom (l .kinds) (l .tasks) (l .hours) 0)
+  Holds l = FilterHolds P boxes (checkRecords P boxes) (length kinds) (l .answer) (l .boxes) (stepsFrom (l .kinds) (l .tasks) (l .hours) 0)
 
   pub filter-holds : Holds (filterPlan P boxes kinds tasks hours)
   unfolding filterPlan logged written
   filter-holds =
       option-all Holds (entryFault P boxes kinds tasks hours) _ _
-      (λ e. run-holds P boxes (length kinds) _ (entry-sized P boxes kinds tasks hours e) (steps-written (run P boxes (length kinds) .log) _ _ _))
-      (λ f e. no-run-holds P boxes (length kinds) _ f)
+      (λ e. let passes = entry-input P boxes kinds tasks hours e in
+      run-holds P boxes _ (length kinds) _ (first-sized P boxes passes) (records-replay P boxes passes)
+      (steps-written (run P boxes (length kinds) .log) _ _ _))
+      (λ f e. no-run-holds P boxes _ (length kinds) _ f)

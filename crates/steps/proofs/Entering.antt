@@ -16,7 +16,8 @@ use Rattle.plan.proofs.Refusing.{unless-none, go-on, refuse}
 use Rattle.plan.proofs.Passed.{passed}
 use Rattle.steps.specs.Log.{replayFrom, replay}
 use Rattle.steps.specs.Filter.{count, run}
-use Rattle.steps.specs.Entry.{stepsFrom, stepsIn, oneForEachStep, entryFault, Accepted, checkLog, checkAnswer, refusedBy, FilterEnd, filterEnd, logged, filterPlan}
+use Rattle.steps.specs.Entry.{stepsFrom, stepsIn, oneForEachStep, entryFault, Accepted, checkLog, checkAnswer, checkRecords}
+use Rattle.steps.specs.Entry.{refusedBy, FilterEnd, filterEnd, logged, filterPlan}
 use Rattle.steps.specs.inner.From.{checkFrom, loggedFrom, filterFrom}
 use Rattle.steps.specs.Claim.{CheckedHolds, FilterHolds}
 use Rattle.plan.specs.Passed.{Passed}
@@ -97,5 +98,5 @@ module _ (P : Plan) (boxes kinds tasks hours : List ℕ) where
 
   pub filter-holds-of : (end : FilterEnd) → FiltersFrom 0 end
       → (end ≡ filterPlan P boxes kinds tasks hours)
-      × FilterHolds P boxes (length kinds) (end .answer) (end .boxes) (stepsFrom (end .kinds) (end .tasks) (end .hours) 0)
+      × FilterHolds P boxes (checkRecords P boxes) (length kinds) (end .answer) (end .boxes) (stepsFrom (end .kinds) (end .tasks) (end .hours) 0)
   filter-holds-of end e = let is = e ∙ from-none in (is, rw is (filter-holds P boxes kinds tasks hours))

@@ -4,7 +4,7 @@ pub mod Changes
 pub mod Replays
 pub mod Searches
 pub mod Runs
-pub mod Claim
 pub mod Contracts
+pub mod Claim
 pub mod Entering
 pub mod Weeks

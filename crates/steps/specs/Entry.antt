@@ -101,3 +101,19 @@ filterAnswer (filtered.Refused r) = refusedBy (faultOf r)
 filterAnswer (filtered.NoRoom n) = noRoomFor (fault 32 0) n
 filterAnswer (filtered.Settled n) = settledAfter n
 filterAnswer (filtered.Impossible n) = impossibleAfter n
+
+-- The same of a log that is given as a list of records, in the three slices that hold them: what the log checker makes of it; what the filter
+-- answers and leaves, with the first so many steps of the log.
+unfoldable pub checkRecords : Plan → List ℕ → List Step → LogEnd
+checkRecords P boxes log = checkLog P boxes (map (λ x. x .kind) log) (map (λ x. x .task) log) (map (λ x. x .hour) log)
+
+pub record FilterLeft : Type 0 where
+  pub answer : FilterAnswer
+  pub boxes : List ℕ
+  pub first : ℕ → List Step
+
+unfoldable pub leftBy : FilterEnd → FilterLeft
+leftBy e = record { answer = e .answer; boxes = e .boxes; first = stepsFrom (e .kinds) (e .tasks) (e .hours) 0 }
+
+unfoldable pub filterRecords : Plan → List ℕ → List Step → FilterLeft
+filterRecords P boxes cells = leftBy (filterPlan P boxes (map (λ x. x .kind) cells) (map (λ x. x .task) cells) (map (λ x. x .hour) cells))
