@@ -3,7 +3,8 @@
 A calendar is bytes of r, c, o. A box is six numbers: S, E, O, the lower bound first. A step is (kind, task, hour), its kind a byte's number. A
 refusal is (number, place)."""
 
-from functools import lru_cache
+from functools import cached_property, lru_cache
+from itertools import accumulate
 from typing import NamedTuple
 
 MOST_HOURS = 1008
@@ -14,6 +15,10 @@ MOST_CAPACITY = 60000
 MOST_NUMBER = 65535
 MOST_BYTES = 32768
 PROGRAM_ROOM = 2048
+
+# The valid triples of a box with more triples than this are found by counts, and of any other by listing; tests/compare holds the two to each
+# other.
+MOST_LISTED = 2000
 
 
 class Plan(NamedTuple):
@@ -58,6 +63,41 @@ def triples_in(box):
                 yield s, e, o
 
 
+def valid_by_listing(calendar, p, box):
+    return [t for t in triples_in(box) if valid(calendar, p, *t)]
+
+
+@lru_cache(maxsize=None)
+def hours_before(calendar, letter):
+    """How many of the hours before t have the letter, for each t from 0 to H."""
+    return [0, *accumulate(symbol == ord(letter) for symbol in calendar)]
+
+
+def valid_by_counts(calendar, p, box):
+    """The same list. For a start and an end there is one o, p minus the regular hours between them, which falls as the end moves on."""
+    s0, s1, e0, e1, o0, o1 = box
+    regular, overtime = hours_before(calendar, "r"), hours_before(calendar, "o")
+    found = []
+    for s in range(s0, s1 + 1):
+        if calendar[s] == ord("c"):
+            continue
+        for end in range(s + e0, min(s + e1, len(calendar)) + 1):
+            o = p - (regular[end] - regular[s])
+            if o < o0:
+                break
+            if o > o1 or calendar[end - 1] == ord("c") or o > overtime[end] - overtime[s]:
+                continue
+            if sum(calendar[hour] == ord("o") for hour in {s, end - 1}) <= o:
+                found.append((s, end - s, o))
+    return found
+
+
+def valid_triples(calendar, p, box):
+    s0, s1, e0, e1, o0, o1 = box
+    few = (s1 - s0 + 1) * (e1 - e0 + 1) * (o1 - o0 + 1) <= MOST_LISTED
+    return valid_by_listing(calendar, p, box) if few else valid_by_counts(calendar, p, box)
+
+
 class Fit(NamedTuple):
     """The least and greatest s, e, o and s+e over the valid triples of a box."""
 
@@ -73,7 +113,7 @@ class Fit(NamedTuple):
 @lru_cache(maxsize=None)
 def fit_of(calendar, p, box):
     """None where there is no valid triple."""
-    found = [t for t in triples_in(box) if valid(calendar, p, *t)]
+    found = valid_triples(calendar, p, box)
     if not found:
         return None
     bounds = []
@@ -90,21 +130,24 @@ class State:
         self.plan = plan
         self.boxes = boxes
         self.fits = [fit_of(plan.calendar(i), plan.work_times[i], boxes[i]) for i in range(plan.tasks())]
-        self.loads = {}
+        self.compulsory = [fit.compulsory() if fit else range(0) for fit in self.fits]
 
     def part(self, task, hour):
         """What a task adds to the load of an hour: its height, if its compulsory part holds the hour."""
-        found = self.fits[task]
-        return self.plan.heights[task] if found is not None and hour in found.compulsory() else 0
+        return self.plan.heights[task] if hour in self.compulsory[task] else 0
 
-    def load(self, hour):
-        if hour not in self.loads:
-            self.loads[hour] = sum(self.part(task, hour) for task in range(self.plan.tasks()))
-        return self.loads[hour]
+    @cached_property
+    def loads(self):
+        """Each hour's load: the heights of the tasks whose compulsory part holds it."""
+        loads = [0] * self.plan.hours
+        for height, part in zip(self.plan.heights, self.compulsory):
+            for hour in part:
+                loads[hour] += height
+        return loads
 
     def exceeds(self, task, hour):
         """The task's height plus the other tasks' load exceeds the capacity."""
-        return self.plan.heights[task] + self.load(hour) - self.part(task, hour) > self.plan.capacity
+        return self.plan.heights[task] + self.loads[hour] - self.part(task, hour) > self.plan.capacity
 
 
 def calendar_rule(calendar, p, box):
@@ -195,7 +238,7 @@ def judge(state, step):
         return UNKNOWN
 
     if kind == ord("O"):
-        return IMPOSSIBLE if state.load(hour) > plan.capacity else NOT_ADMITTED
+        return IMPOSSIBLE if state.loads[hour] > plan.capacity else NOT_ADMITTED
 
     fit = state.fits[task]
     s0, s1, e0, e1, o0, o1 = boxes[task]
@@ -257,9 +300,10 @@ def steps_in_order(plan):
     yield from ((ord("U"), task, hour) for task in tasks for hour in hours)
 
 
+@lru_cache(maxsize=4096)
 def next_step(plan, boxes):
-    """The first admitted step and what it comes to, or None."""
-    state = State(plan, boxes)
+    """The first admitted step and what it comes to, or None; boxes as a tuple, so that runs at several rooms share what was found."""
+    state = State(plan, list(boxes))
     for step in steps_in_order(plan):
         judged = judge(state, step)
         if judged != NOT_ADMITTED:
@@ -280,7 +324,7 @@ def run_filter(plan, boxes, room):
         return Run(refusal, "refused", [], boxes)
     log = []
     while True:
-        admitted = next_step(plan, boxes)
+        admitted = next_step(plan, tuple(boxes))
         if admitted is None:
             return Run(None, "settled", log, boxes)
         if len(log) == room:
