@@ -17,8 +17,16 @@ use Rattle.steps.specs.Steps.{kindOf, isStep, onJudgement, onFit, sameBo
 use Rattle.steps.specs.Filter.{onAdmitted, ifAdmitted, firstOfKind, firstBy, filterOrder, nextBy, after, runBy}
 use Rattle.units.specs.Extremes.{least, greatest}
 use Rattle.plan.specs.HourKinds.{isSymbol, isKind}
-use Rattle.steps.specs.Weeks.{weeks, outcomeOf, hoursHeld}
+use Rattle.steps.specs.Entry.{stepAt, stepsFrom, oneForEachStep, entryFault, endingAnswer, logged, filterPlan, leftBy, filterRecords}
+use Rattle.steps.specs.Weeks.{weeks, countOf, left, outcomeOf, hoursHeld}
+use Rattle.units.specs.Cells.{written}
 
 pub weeks-come-out : map (λ w. outcomeOf (w .week)) weeks ≡ map (λ w. w .outcome) weeks
-unfolding _and_ if_then_else_ someIf onOption _orElse_ firstOf sumTo sumWhere countWhere within isPlanLength isHour isWorkTime isHeight isCapacity isCalendarCount isCalendarNumber isTaskCount isOvertime isRange isBox taskCount calendarCount firstSymbol calendarAt calendarOf workTimeOf heightOf heightsWhere boundsAt withBounds unless answerUnless oneForEachTask isCalendars isSymbol symbolFault calendarsFault countsFault oneTaskFault taskFault tasksFault planFault inputFault isKind hoursOf overtimeEnds valid each over lasting starting validTriples least greatest spread fitOf ruleOf oneTask calendarRule fitAt mustRun load othersLoad excess kindOf isStep onJudgement onFit sameBounds withEarliest withLatest judgeC judgeO judgeL judgeU judgeKind judge onAdmitted ifAdmitted firstOfKind firstBy filterOrder nextBy after runBy weeks outcomeOf hoursHeld
+unfolding _and_ if_then_else_ someIf onOption _orElse_ firstOf sumTo sumWhere countWhere within isPlanLength isHour isWorkTime isHeight isCapacity
+    isCalendarCount isCalendarNumber isTaskCount isOvertime isRange isBox taskCount calendarCount firstSymbol calendarAt calendarOf workTimeOf
+    heightOf heightsWhere boundsAt withBounds unless answerUnless oneForEachTask isCalendars isSymbol symbolFault calendarsFault countsFault
+    oneTaskFault taskFault tasksFault planFault inputFault isKind hoursOf overtimeEnds valid each over lasting starting validTriples least greatest
+    spread fitOf ruleOf oneTask calendarRule fitAt mustRun load othersLoad excess kindOf isStep onJudgement onFit sameBounds withEarliest withLatest
+    judgeC judgeO judgeL judgeU judgeKind judge onAdmitted ifAdmitted firstOfKind firstBy filterOrder nextBy after runBy written stepAt stepsFrom
+    oneForEachStep entryFault endingAnswer logged filterPlan leftBy filterRecords weeks countOf left outcomeOf hoursHeld
 weeks-come-out = refl

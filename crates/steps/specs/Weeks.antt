@@ -1,14 +1,14 @@
--- The starred weeks of 01's "Worked weeks": a list of weeks and their outcomes. That the definitions give each outcome is proved.
+-- The starred weeks of 01's "Worked weeks": a list of weeks and their outcomes, of the calendar rule and the filter as they are called. That the
+-- definitions give each outcome is proved.
 use mathlib.Core.Bool.{Bool, true, false}
 use mathlib.Core.List.{List, [], _∷_, _++_, map}
 use Prim.Native.Nat.{ℕ, zero, suc}
-use lib.ListN.{length}
+use lib.ListN.{length, replicate}
 use Rattle.units.specs.Choice.{if_then_else_}
 use Rattle.units.specs.Limits.{hour, duration}
 use Rattle.units.specs.declared.Bounds.{Bounds}
 use Rattle.plan.specs.Plan.{Plan, plan}
-use Rattle.plan.specs.Refusals.{Answer, answered, answerUnless}
-use Rattle.plan.specs.Faults.{inputFault}
+use Rattle.plan.specs.Refusals.{fault, Answer, answered}
 use Rattle.calendar.specs.declared.Triple.{Triple}
 use Rattle.calendar.specs.declared.Fit.{Fit}
 use Rattle.calendar.specs.declared.Fit.the-variants.{Never, Within}
@@ -18,7 +18,8 @@ use Rattle.calendar.specs.Entry.{calendarRule}
 use Rattle.steps.specs.Load.{mustRun}
 use Rattle.steps.specs.Steps.{step, letterC, letterO, letterL, letterU}
 use Rattle.plan.specs.HourKinds.{regular, closed, overtime}
-use Rattle.steps.specs.Filter.{Run, settled, impossible, noRoom, ended, run}
+use Rattle.steps.specs.declared.Step.{Step}
+use Rattle.steps.specs.Entry.{FilterAnswer, refusedBy, noRoomFor, settledAfter, impossibleAfter, FilterLeft, filterRecords}
 
 abbrev pub bounds : ℕ → ℕ → ℕ → ℕ → ℕ → ℕ → Bounds
 bounds s₁ s₂ e₁ e₂ o₁ o₂ =
@@ -35,7 +36,7 @@ abbrev pub within : Bounds → ℕ → ℕ → Fit
 within b c₁ c₂ = Within (record { bounds = b; ect = hour c₁; lct = hour c₂ })
 
 -- What a week asks: the calendar rule's answer; the hours of the compulsory part; whether a triple is valid; the valid triples in a box, with
--- their ends; the filter's run on a plan that is tested, with room for so many steps.
+-- their ends; the filter, lent a log with room for so many steps.
 pub data Week : Type 0 where
   rule compulsoryPart triplesAndEnds : List ℕ → ℕ → Bounds → Week
   isValid : List ℕ → ℕ → Triple → Week
@@ -46,19 +47,29 @@ pub data Outcome : Type 0 where
   hours : List ℕ → Outcome
   triples : List Triple → List ℕ → Outcome
   holds : Bool → Outcome
-  runs : Answer Run → Outcome
+  leaves : FilterAnswer → List ℕ → List Step → Outcome
 
 -- the hours 0 .. n - 1 that the compulsory part holds
 unfoldable pub hoursHeld : Fit → ℕ → List ℕ
 hoursHeld fit zero = []
 hoursHeld fit (suc n) = hoursHeld fit n ++ (if mustRun fit n then n ∷ [] else [])
 
+-- what the filter answers, the boxes that it leaves, and its own log: the first cells, as many as its count
+unfoldable pub countOf : FilterAnswer → ℕ
+countOf (refusedBy f) = 0
+countOf (noRoomFor f n) = n
+countOf (settledAfter n) = n
+countOf (impossibleAfter n) = n
+
+unfoldable pub left : FilterLeft → Outcome
+left l = leaves (l .answer) (l .boxes) (l .first (countOf (l .answer)))
+
 unfoldable pub outcomeOf : Week → Outcome
 outcomeOf (rule cal p b) = fits (calendarRule cal p b)
 outcomeOf (compulsoryPart cal p b) = hours (hoursHeld (ruleOf cal p b) (length cal))
 outcomeOf (triplesAndEnds cal p b) = triples (validTriples cal p b) (map (λ t. endOf t) (validTriples cal p b))
 outcomeOf (isValid cal p t) = holds (validTriple cal p t)
-outcomeOf (filter P boxes room) = runs (answerUnless (inputFault P boxes) (run P boxes room))
+outcomeOf (filter P boxes room) = left (filterRecords P boxes (replicate room (step 0 0 0)))
 
 pub record Starred : Type 0 where
   pub week : Week
@@ -105,19 +116,17 @@ weeks =
     ∷ starred (triplesAndEnds (regular ∷ closed ∷ regular ∷ []) 1 (bounds 0 0 1 3 0 1)) (triples (triple 0 1 0 ∷ []) (1 ∷ []))
     -- the printed week: settled, with the log L 0 2; C 0 0; U 1 3; C 1 0
     ∷ starred (filter printed printedBoxes 2048)
-    (runs
-    (answered
-    (ended settled
-    (step letterL 0 2 ∷ step letterC 0 0 ∷ step letterU 1 3 ∷ step letterC 1 0 ∷ [])
-    (3 ∷ 3 ∷ 2 ∷ 2 ∷ 0 ∷ 0 ∷ 0 ∷ 0 ∷ 3 ∷ 3 ∷ 0 ∷ 0 ∷ []))))
+    (leaves (settledAfter 4)
+    (3 ∷ 3 ∷ 2 ∷ 2 ∷ 0 ∷ 0 ∷ 0 ∷ 0 ∷ 3 ∷ 3 ∷ 0 ∷ 0 ∷ [])
+    (step letterL 0 2 ∷ step letterC 0 0 ∷ step letterU 1 3 ∷ step letterC 1 0 ∷ []))
     -- with log room 2: 32, count 2, task 0 has S 3..3 and E 2..2, task 1 as opened
     ∷ starred (filter printed printedBoxes 2)
-    (runs
-    (answered
-    (ended noRoom (step letterL 0 2 ∷ step letterC 0 0 ∷ []) (3 ∷ 3 ∷ 2 ∷ 2 ∷ 0 ∷ 0 ∷ 0 ∷ 2 ∷ 2 ∷ 3 ∷ 0 ∷ 0 ∷ []))))
+    (leaves (noRoomFor (fault 32 0) 2)
+    (3 ∷ 3 ∷ 2 ∷ 2 ∷ 0 ∷ 0 ∷ 0 ∷ 2 ∷ 2 ∷ 3 ∷ 0 ∷ 0 ∷ [])
+    (step letterL 0 2 ∷ step letterC 0 0 ∷ []))
     -- a height above the capacity, p = 1, S 0..1, E 1..2, O 0..0: C 0 0, L 0 0, O 0 1, impossible; left S 1..1, E 1..1, O 0..0
     ∷ starred (filter tooHigh (0 ∷ 1 ∷ 1 ∷ 2 ∷ 0 ∷ 0 ∷ []) 2048)
-    (runs
-    (answered
-    (ended impossible (step letterC 0 0 ∷ step letterL 0 0 ∷ step letterO 0 1 ∷ []) (1 ∷ 1 ∷ 1 ∷ 1 ∷ 0 ∷ 0 ∷ []))))
+    (leaves (impossibleAfter 3)
+    (1 ∷ 1 ∷ 1 ∷ 1 ∷ 0 ∷ 0 ∷ [])
+    (step letterC 0 0 ∷ step letterL 0 0 ∷ step letterO 0 1 ∷ []))
     ∷ []
