@@ -2,7 +2,9 @@
 use mathlib.Core.Path.{_≡_, refl, ap, subst}
 use mathlib.Core.Logic.{_⊎_, inl, inr}
 use mathlib.Core.Bool.{Bool, true, false}
-use mathlib.Core.List.{List, [], _∷_, List·Memᴰ, List·Memᴰ·head, List·Memᴰ·not-nil, List·Memᴰ·append-cases, Memᴰ·append-left, Memᴰ·append-right, List·Memᴰ·eq-of-singleton}
+use mathlib.Core.List.{List, [], _∷_, List·Memᴰ, List·Memᴰ·head, List·Memᴰ·not-nil}
+use mathlib.Core.List.{List·Memᴰ·append-cases, Memᴰ·append-left, Memᴰ·append-right}
+use mathlib.Core.List.{List·Memᴰ·eq-of-singleton}
 use Prim.Native.Nat.{ℕ, zero, suc, _+_, _-_, _≤_, _<_}
 use native.Mathlib.Decide.{ℕ-discrete}
 use native.Mathlib.Omega.{arith}
@@ -14,9 +16,12 @@ use Rattle.calendar.specs.declared.Triple.{Triple}
 use Rattle.calendar.specs.declared.Window.{Window}
 use Rattle.calendar.specs.declared.Fit.the-variants.{Never, Within}
 use Rattle.calendar.specs.Valid.{valid}
-use Rattle.calendar.specs.Triples.{triple, startOf, elapsedOf, overtimeOf, endOf, validTriple, inBounds, each, over, keepIf, lasting, starting, validTriples}
+use Rattle.calendar.specs.Triples.{triple, startOf, elapsedOf, overtimeOf, endOf, validTriple}
+use Rattle.calendar.specs.Triples.{inBounds, each, over, keepIf, lasting, starting, validTriples}
 use Rattle.calendar.specs.Rule.{alone, spread, fitOf, ruleOf, ect, lct}
-use Rattle.units.proofs.Extremes.{Attained, least-bounds, greatest-bounds, least-attained, greatest-attained, above-least, below-greatest, least-is, greatest-is, least-to-greatest}
+use Rattle.units.proofs.Extremes.{Attained, least-bounds, greatest-bounds, least-attained}
+use Rattle.units.proofs.Extremes.{greatest-attained, above-least, below-greatest, least-is, greatest-is}
+use Rattle.units.proofs.Extremes.{least-to-greatest}
 
 -- ---- a triple lies in a box
 

@@ -20,11 +20,15 @@ use Rattle.calendar.specs.declared.Fit.the-variants.{Within}
 use Rattle.calendar.specs.Valid.{hoursOf, overtimeEnds}
 use Rattle.calendar.specs.Triples.{triple, elapsedOf, overtimeOf, starting}
 use Rattle.calendar.specs.Rule.{fitOf}
-use Rattle.calendar.specs.inner.Stretches.{IsStretch, AllSymbols, RuleReady, Reaches, noHours, openLength, stretchOf, mayEnd, mayLast, stopsAt, lengthened}
+use Rattle.calendar.specs.inner.Stretches.{IsStretch, AllSymbols, RuleReady, Reaches, noHours}
+use Rattle.calendar.specs.inner.Stretches.{openLength, stretchOf, mayEnd, mayLast, stopsAt}
+use Rattle.calendar.specs.inner.Stretches.{lengthened}
 use Rattle.calendar.specs.inner.Windows.{WindowReady, windowFrom}
 use Rattle.calendar.proofs.Counting.{hours-more, hours-none, hours-first, hours-mono, regulars}
 use Rattle.calendar.proofs.Validity.{Valid, valid-facts, facts-valid}
-use Rattle.calendar.proofs.Stretches.{open-le, open-regular, open-last, open-past, open-itself, last-is, counts-are, MayEnd, may-end, ends-may, MayLast, may-last, lasts-may, last-shorter, no-stretch, own-hours, own-stretch, long-inside, long-none, long-holds, end-next, last-next}
+use Rattle.calendar.proofs.Stretches.{open-le, open-regular, open-last, open-past, open-itself, last-is, counts-are, MayEnd, may-end, ends-may, MayLast}
+use Rattle.calendar.proofs.Stretches.{may-last, lasts-may, last-shorter, no-stretch, own-hours, own-stretch, long-inside, long-none, long-holds, end-next}
+use Rattle.calendar.proofs.Stretches.{last-next}
 use Rattle.calendar.proofs.Members.{Held, fit-is, Starting, has-starting, only-starting, no-members}
 
 -- ---- the hours at both ends

@@ -22,8 +22,11 @@ use Rattle.plan.proofs.HourKinds.{closed-rests}
 use Rattle.calendar.specs.Valid.{hoursOf}
 use Rattle.units.specs.inner.First.{firstFrom}
 use Rattle.units.proofs.FirstFrom.{from-hit, from-least, from-most, from-none, from-holds}
-use Rattle.calendar.specs.inner.Stretches.{HasHour, IsStretch, HasRoom, noHours, countsOf, withHour, withoutHour, openLength, stretchOf, mayEnd, mayLast, stopsAt, lengthened}
-use Rattle.calendar.proofs.Counting.{hours-more, hours-none, hours-le, hours-mono, hours-first, regulars, overtimes, regulars-le, overtimes-le, counts-more}
+use Rattle.calendar.specs.inner.Stretches.{HasHour, IsStretch, HasRoom, noHours, countsOf, withHour}
+use Rattle.calendar.specs.inner.Stretches.{withoutHour, openLength, stretchOf, mayEnd, mayLast, stopsAt}
+use Rattle.calendar.specs.inner.Stretches.{lengthened}
+use Rattle.calendar.proofs.Counting.{hours-more, hours-none, hours-le, hours-mono, hours-first}
+use Rattle.calendar.proofs.Counting.{regulars, overtimes, regulars-le, overtimes-le, counts-more}
 
 -- ---- the last open hour
 

@@ -13,7 +13,9 @@ use Rattle.units.proofs.Choices.{and-left, and-right, else-none, neither, first
 use Rattle.units.proofs.Ranges.{boxed, is-boxed, from-least, to-most}
 use Rattle.plan.specs.Plan.{Plan, taskCount, calendarCount, firstSymbol, calendarAt, calendarOf, heightOf}
 use Rattle.plan.specs.HourKinds.{isSymbol}
-use Rattle.plan.specs.Faults.{oneForEachTask, isCalendars, symbolFault, calendarsFault, countsFault, oneTaskFault, taskFault, tasksFault, planFault, inputFault}
+use Rattle.plan.specs.Faults.{oneForEachTask, isCalendars, symbolFault, calendarsFault}
+use Rattle.plan.specs.Faults.{countsFault, oneTaskFault, taskFault, tasksFault, planFault}
+use Rattle.plan.specs.Faults.{inputFault}
 use Rattle.plan.specs.Passed.{PassedTask, Passed}
 use Rattle.plan.proofs.Refusing.{unless-true, unless-none}
 

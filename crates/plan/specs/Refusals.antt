@@ -4,7 +4,9 @@ use mathlib.Core.Option.{Option, none, some}
 use Prim.Native.Nat.{ℕ}
 use Rattle.units.specs.Choice.{someIf}
 use Rattle.plan.specs.declared.Refusal.{Refusal}
-use Rattle.plan.specs.declared.Refusal.the-variants.{Malformed, Hours, Calendars, Symbol, Tasks, NoCalendar, WorkTime, TaskHeight, TaskBounds, Capacity, UnknownStep, NotAdmitted, AfterImpossible, OutsideBounds, NotValid, OverCapacity, MemorySize}
+use Rattle.plan.specs.declared.Refusal.the-variants.{Malformed, Hours, Calendars, Symbol, Tasks, NoCalendar, WorkTime, TaskHeight, TaskBounds}
+use Rattle.plan.specs.declared.Refusal.the-variants.{Capacity, UnknownStep, NotAdmitted, AfterImpossible, OutsideBounds, NotValid, OverCapacity}
+use Rattle.plan.specs.declared.Refusal.the-variants.{MemorySize}
 use Rattle.plan.specs.declared.Tested.{Tested}
 use Rattle.plan.specs.declared.Tested.the-variants.{Passed, Refused}
 

@@ -21,7 +21,8 @@ use Rattle.plan_text.specs.declared.MaybeScan.the-variants.{Broken, Next
 use Rattle.plan_text.specs.Records.{Record, planRecord, calRecord, taskRecord, recordOf}
 use Rattle.plan_text.specs.Text.{Read, planSection, calSection, taskSection, comes, withRecord, withLine}
 use Rattle.plan_text.specs.Entry.{joined, boxOf, planIn, boxesIn, allOf, mostSymbols, mostBounds}
-use Rattle.plan_text.specs.inner.Scanning.{calendarsAt, workTimesAt, heightsAt, boxesAt, storeSize, section, Kept, Keeps, KeepsTasks, storedPlan, storedBoxes, Holds, Follows}
+use Rattle.plan_text.specs.inner.Scanning.{calendarsAt, workTimesAt, heightsAt, boxesAt, storeSize, section}
+use Rattle.plan_text.specs.inner.Scanning.{Kept, Keeps, KeepsTasks, storedPlan, storedBoxes, Holds, Follows}
 use Rattle.plan_text.proofs.Sections.{kept-none, kept-over, kept-section, keeps-calendar, keeps-work-time, keeps-height, keeps-box}
 
 -- ---- lists that grow at their end

@@ -30,14 +30,17 @@ use Rattle.steps.specs.declared.Step.{Step}
 use Rattle.steps.specs.declared.Judged.{Judged}
 use Rattle.steps.specs.declared.Judged.the-variants.{Unknown, NotAdmitted, Impossible, Moved}
 use Rattle.steps.specs.Load.{fitAt, mustRun, load, othersLoad, excess}
-use Rattle.steps.specs.Steps.{Kind, kindC, kindO, kindL, kindU, unknownKind, kindOf, isStep, Judgement, unknown, notAdmitted, impossible, moved, onJudgement, onFit, sameBounds, judgeC, judgeO, judgeL, judgeU, judgeKind, judge}
+use Rattle.steps.specs.Steps.{Kind, kindC, kindO, kindL, kindU, unknownKind, kindOf, isStep, Judgement, unknown, notAdmitted}
+use Rattle.steps.specs.Steps.{impossible, moved, onJudgement, onFit, sameBounds, judgeC, judgeO, judgeL, judgeU, judgeKind}
+use Rattle.steps.specs.Steps.{judge}
 use Rattle.steps.specs.Filter.{stops, moves, stepOf, ifAdmitted, firstBy, nextBy}
 use Rattle.steps.proofs.Judgements.{fit-all}
 use Rattle.steps.proofs.Changes.{judge-change, change-passes}
 use Rattle.steps.proofs.Searches.{first-maps}
 use Rattle.propagation.specs.inner.Fitting.{Fitting}
 use Rattle.propagation.specs.inner.Ready.{Ready}
-use Rattle.propagation.specs.inner.Kept.{Keeping, loadOf, exceeds, onJudged, calendarBy, lowerBy, upperBy, moveBy, boundBy, judgeKindBy, judgeBy, admittedBy, judgementOf}
+use Rattle.propagation.specs.inner.Kept.{Keeping, loadOf, exceeds, onJudged, calendarBy, lowerBy, upperBy}
+use Rattle.propagation.specs.inner.Kept.{moveBy, boundBy, judgeKindBy, judgeBy, admittedBy, judgementOf}
 use Rattle.propagation.proofs.Fits.{fitting}
 
 -- ---- what passes the tests is small enough, before and after a step

@@ -14,7 +14,9 @@ use Rattle.units.specs.Limits.{hour, height, isHour}
 use Rattle.units.specs.declared.Hour.{Hour}
 use Rattle.units.specs.declared.Height.{Height}
 use Rattle.units.specs.declared.Bounds.{Bounds}
-use Rattle.units.proofs.Choices.{and-both, not-left, not-right, if-true, if-all, none-if, else-none, else-some, first-none, first-all-none, first-next, first-hit}
+use Rattle.units.proofs.Choices.{and-both, not-left, not-right, if-true, if-all, none-if}
+use Rattle.units.proofs.Choices.{else-none, else-some, first-none, first-all-none, first-next}
+use Rattle.units.proofs.Choices.{first-hit}
 use Rattle.plan.specs.Boxes.{boundsAt}
 use Rattle.units.proofs.Choices.{and-rest, first-eq, first-rest, outer-ends, outer-goes-on}
 use Rattle.calendar.specs.declared.Window.{Window}

@@ -14,7 +14,9 @@ use Rattle.calendar.specs.declared.Fit.the-variants.{Never, Within}
 use Rattle.calendar.specs.Rule.{lst, ect}
 use Rattle.steps.specs.declared.Step.{Step}
 use Rattle.steps.specs.Load.{fitAt, load, othersLoad, excess}
-use Rattle.steps.specs.Steps.{Kind, kindC, kindO, kindL, kindU, unknownKind, kindOf, isStep, Judgement, unknown, notAdmitted, impossible, moved, onJudgement, onFit, sameBounds, judgeC, judgeO, judgeL, judgeU, judgeKind, judge}
+use Rattle.steps.specs.Steps.{Kind, kindC, kindO, kindL, kindU, unknownKind, kindOf, isStep, Judgement, unknown, notAdmitted}
+use Rattle.steps.specs.Steps.{impossible, moved, onJudgement, onFit, sameBounds, judgeC, judgeO, judgeL, judgeU, judgeKind}
+use Rattle.steps.specs.Steps.{judge}
 
 -- a fact of what is made of a judgement, or of a fit, from the fact of each case
 pub judgement-all : {A : Type 0} (C : A → Type 0) (j : Judgement) (u n i : A) (m : List ℕ → A) → (j ≡ unknown → C u) → (j ≡ notAdmitted → C n)

@@ -14,7 +14,9 @@ use Rattle.steps.specs.declared.Step.{Step}
 use Rattle.steps.specs.Steps.{Judgement, moved, onJudgement, judge}
 use Rattle.steps.specs.Steps as judged
 use Rattle.steps.specs.Log.{LogEnd, logEnd, replayBy, replay}
-use Rattle.steps.specs.Filter.{Admitted, stops, moves, onAdmitted, filterOrder, Ending, settled, impossible, noRoom, Run, count, ended, after, runBy, run}
+use Rattle.steps.specs.Filter.{Admitted, stops, moves, onAdmitted, filterOrder, Ending}
+use Rattle.steps.specs.Filter.{settled, impossible, noRoom, Run, count, ended, after, runBy}
+use Rattle.steps.specs.Filter.{run}
 use Rattle.steps.specs.Claim.{saidImpossible}
 use Rattle.steps.specs.Widths.{widths}
 use Rattle.steps.proofs.Replays.{accepted-admitted, admitted-short}

@@ -12,7 +12,9 @@ use Rattle.units.specs.Limits.{isHour}
 use Rattle.units.proofs.Choices.{and-left, and-right, if-false, if-all, none≢some, else-case, neither, first-at, first-none, else-on, first-on}
 use Rattle.plan.specs.Plan.{Plan, taskCount}
 use Rattle.steps.specs.declared.Step.{Step}
-use Rattle.steps.specs.Steps.{step, letterC, letterO, letterL, letterU, Kind, kindC, kindO, kindL, kindU, unknownKind, kindOf, isStep, impossible, moved, onJudgement, judge}
+use Rattle.steps.specs.Steps.{step, letterC, letterO, letterL, letterU, Kind, kindC, kindO, kindL}
+use Rattle.steps.specs.Steps.{kindU, unknownKind, kindOf, isStep, impossible, moved, onJudgement}
+use Rattle.steps.specs.Steps.{judge}
 use Rattle.steps.specs.Filter.{Admitted, stops, moves, ifAdmitted, firstOfKind, firstBy, filterOrder, nextBy}
 use Rattle.steps.proofs.Judgements.{judgement-all}
 

@@ -3,11 +3,14 @@ use mathlib.Core.Path.{_≡_, refl}
 use mathlib.Core.List.{map}
 use Rattle.units.specs.Choice.{_and_, if_then_else_, someIf, onOption, _orElse_, firstOf}
 use Rattle.units.specs.Sums.{sumTo, sumWhere, countWhere}
-use Rattle.units.specs.Limits.{within, isPlanLength, isHour, isWorkTime, isHeight, isCapacity, isCalendarCount, isCalendarNumber, isTaskCount, isOvertime, isRange, isBox, withEarliest, withLatest}
+use Rattle.units.specs.Limits.{within, isPlanLength, isHour, isWorkTime, isHeight, isCapacity, isCalendarCount}
+use Rattle.units.specs.Limits.{isCalendarNumber, isTaskCount, isOvertime, isRange, isBox, withEarliest, withLatest}
 use Rattle.plan.specs.Plan.{taskCount, calendarCount, firstSymbol, calendarAt, calendarOf, workTimeOf, heightOf, heightsWhere}
 use Rattle.plan.specs.Boxes.{boundsAt, withBounds}
 use Rattle.plan.specs.Refusals.{unless, answerUnless}
-use Rattle.plan.specs.Faults.{oneForEachTask, isCalendars, symbolFault, calendarsFault, countsFault, oneTaskFault, taskFault, tasksFault, planFault, inputFault}
+use Rattle.plan.specs.Faults.{oneForEachTask, isCalendars, symbolFault, calendarsFault}
+use Rattle.plan.specs.Faults.{countsFault, oneTaskFault, taskFault, tasksFault, planFault}
+use Rattle.plan.specs.Faults.{inputFault}
 use Rattle.calendar.specs.Valid.{hoursOf, overtimeEnds, valid}
 use Rattle.calendar.specs.Triples.{each, over, lasting, starting, validTriples}
 use Rattle.calendar.specs.Rule.{spread, fitOf, ruleOf}

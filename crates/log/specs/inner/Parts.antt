@@ -18,7 +18,8 @@ use Rattle.steps.specs.declared.Filtered.{Filtered}
 use Rattle.steps.specs.Steps as steps
 use Rattle.steps.specs.Log.{LogEnd, logEnd, replayFrom}
 use Rattle.steps.specs.Filter.{Run, noRoom, count, run}
-use Rattle.steps.specs.Entry.{stepsFrom, Accepted, checkAnswer, logAnswer, FilterAnswer, refusedBy, noRoomFor, settledAfter, impossibleAfter, endingAnswer, filterAnswer}
+use Rattle.steps.specs.Entry.{stepsFrom, Accepted, checkAnswer, logAnswer, FilterAnswer, refusedBy}
+use Rattle.steps.specs.Entry.{noRoomFor, settledAfter, impossibleAfter, endingAnswer, filterAnswer}
 use Rattle.log.specs.declared.part.Part.{Part}
 use Rattle.log.specs.declared.part.PartChecked.{PartChecked}
 use Rattle.log.specs.declared.part.PartFiltered.{PartFiltered}
