@@ -1,59 +1,8 @@
 // 01's worked weeks without a star: each is run, and its answer printed on a line.
 use libc::STDOUT_FILENO;
 use plan::Refusal;
+use plan::fault_of;
 use schedule::ScheduleChecked;
-ghost use mathlib.Core.Path.{_≡_};
-ghost use Rattle.plan.specs.Refusals.{faultOf};
-
-// 01's number of a refusal.
-fn number_of(refusal: Refusal) -> usize
-    ensures { λ r. ⌜ r ≡ faultOf refusal .number ⌝ }
-{
-    match refusal {
-        Refusal::Malformed(_) => 1,
-        Refusal::Hours => 2,
-        Refusal::Calendars => 3,
-        Refusal::Symbol(_) => 4,
-        Refusal::Tasks => 5,
-        Refusal::NoCalendar(_) => 6,
-        Refusal::WorkTime(_) => 7,
-        Refusal::TaskHeight(_) => 8,
-        Refusal::TaskBounds(_) => 9,
-        Refusal::Capacity => 10,
-        Refusal::UnknownStep(_) => 11,
-        Refusal::NotAdmitted(_) => 12,
-        Refusal::AfterImpossible(_) => 13,
-        Refusal::OutsideBounds(_) => 14,
-        Refusal::NotValid(_) => 15,
-        Refusal::OverCapacity(_) => 16,
-        Refusal::MemorySize => 31,
-    }
-}
-
-// Its place, and 0 where 01 names none.
-fn place_of(refusal: Refusal) -> usize
-    ensures { λ r. ⌜ r ≡ faultOf refusal .place ⌝ }
-{
-    match refusal {
-        Refusal::Malformed(line) => line,
-        Refusal::Hours => 0,
-        Refusal::Calendars => 0,
-        Refusal::Symbol(index) => index,
-        Refusal::Tasks => 0,
-        Refusal::NoCalendar(task) => task,
-        Refusal::WorkTime(task) => task,
-        Refusal::TaskHeight(task) => task,
-        Refusal::TaskBounds(task) => task,
-        Refusal::Capacity => 0,
-        Refusal::UnknownStep(step) => step,
-        Refusal::NotAdmitted(step) => step,
-        Refusal::AfterImpossible(step) => step,
-        Refusal::OutsideBounds(task) => task,
-        Refusal::NotValid(task) => task,
-        Refusal::OverCapacity(hour) => hour,
-        Refusal::MemorySize => 0,
-    }
-}
 
 fn print_word(word: &[u8]) {
     io::write_all(STDOUT_FILENO, word);
@@ -69,9 +18,10 @@ fn end_line() {
 }
 
 fn report_refusal(refusal: Refusal) {
+    let fault = fault_of(refusal);
     print_word(b"refused");
-    print_field(number_of(refusal) as u64);
-    print_field(place_of(refusal) as u64);
+    print_field(fault.0 as u64);
+    print_field(fault.1 as u64);
     end_line();
 }
 
