@@ -1,59 +1,15 @@
-// 01's worked weeks without a star: each is run, and its answer printed on a line.
+// 01's worked weeks without a star, and logs of step records: each is run, and its answer printed on a line.
 use libc::STDOUT_FILENO;
 use plan::Refusal;
+use plan::fault_of;
 use schedule::ScheduleChecked;
+use steps::Filtered;
+use steps::LogChecked;
+use steps::Step;
 ghost use mathlib.Core.Path.{_≡_};
-ghost use Rattle.plan.specs.Refusals.{faultOf};
-
-// 01's number of a refusal.
-fn number_of(refusal: Refusal) -> usize
-    ensures { λ r. ⌜ r ≡ faultOf refusal .number ⌝ }
-{
-    match refusal {
-        Refusal::Malformed(_) => 1,
-        Refusal::Hours => 2,
-        Refusal::Calendars => 3,
-        Refusal::Symbol(_) => 4,
-        Refusal::Tasks => 5,
-        Refusal::NoCalendar(_) => 6,
-        Refusal::WorkTime(_) => 7,
-        Refusal::TaskHeight(_) => 8,
-        Refusal::TaskBounds(_) => 9,
-        Refusal::Capacity => 10,
-        Refusal::UnknownStep(_) => 11,
-        Refusal::NotAdmitted(_) => 12,
-        Refusal::AfterImpossible(_) => 13,
-        Refusal::OutsideBounds(_) => 14,
-        Refusal::NotValid(_) => 15,
-        Refusal::OverCapacity(_) => 16,
-        Refusal::MemorySize => 31,
-    }
-}
-
-// Its place, and 0 where 01 names none.
-fn place_of(refusal: Refusal) -> usize
-    ensures { λ r. ⌜ r ≡ faultOf refusal .place ⌝ }
-{
-    match refusal {
-        Refusal::Malformed(line) => line,
-        Refusal::Hours => 0,
-        Refusal::Calendars => 0,
-        Refusal::Symbol(index) => index,
-        Refusal::Tasks => 0,
-        Refusal::NoCalendar(task) => task,
-        Refusal::WorkTime(task) => task,
-        Refusal::TaskHeight(task) => task,
-        Refusal::TaskBounds(task) => task,
-        Refusal::Capacity => 0,
-        Refusal::UnknownStep(step) => step,
-        Refusal::NotAdmitted(step) => step,
-        Refusal::AfterImpossible(step) => step,
-        Refusal::OutsideBounds(task) => task,
-        Refusal::NotValid(task) => task,
-        Refusal::OverCapacity(hour) => hour,
-        Refusal::MemorySize => 0,
-    }
-}
+ghost use Prim.Native.Nat.{_≤_};
+ghost use lib.ListN.{length};
+ghost use Rattle.worked.specs.Logs.{cells};
 
 fn print_word(word: &[u8]) {
     io::write_all(STDOUT_FILENO, word);
@@ -69,9 +25,10 @@ fn end_line() {
 }
 
 fn report_refusal(refusal: Refusal) {
+    let fault = fault_of(refusal);
     print_word(b"refused");
-    print_field(number_of(refusal) as u64);
-    print_field(place_of(refusal) as u64);
+    print_field(fault.0 as u64);
+    print_field(fault.1 as u64);
     end_line();
 }
 
@@ -86,12 +43,22 @@ fn report(answer: ScheduleChecked) {
     }
 }
 
+// The two tasks of the printed week: each of calendar 0, two hours of work and one rack.
+const TASK_CALENDARS: [u16; 2] = [0, 0];
+
+const WORK_TIMES: [u16; 2] = [2, 2];
+
+const HEIGHTS: [u16; 2] = [1, 1];
+
+// The printed week's opening boxes.
+const OPENING: [u16; 12] = [0, 3, 2, 3, 0, 0, 0, 2, 2, 3, 0, 0];
+
 // A schedule of the printed week, held against its opening boxes.
 fn printed_week(schedule: &[u16]) -> ScheduleChecked {
-    let task_calendars: [u16; 2] = [0, 0];
-    let work_times: [u16; 2] = [2, 2];
-    let heights: [u16; 2] = [1, 1];
-    let boxes: [u16; 12] = [0, 3, 2, 3, 0, 0, 0, 2, 2, 3, 0, 0];
+    let task_calendars = TASK_CALENDARS;
+    let work_times = WORK_TIMES;
+    let heights = HEIGHTS;
+    let boxes = OPENING;
     schedule::check_schedule(
         6,
         1,
@@ -164,9 +131,224 @@ fn print_listings() {
     print_listing(b"bakery-week.plan");
 }
 
+fn print_step(x: Step) {
+    let kind = [x.kind];
+    print_word(&kind);
+    print_field(x.task as u64);
+    print_field(x.hour as u64);
+    end_line();
+}
+
+fn print_bound(bound: u16) {
+    print_field(bound as u64);
+}
+
+fn print_boxes(boxes: &[u16]) {
+    print_word(b"boxes");
+    for i in 0..boxes.len() {
+        print_bound(boxes[i]);
+    }
+    end_line();
+}
+
+fn print_count(word: &[u8], count: usize) {
+    print_word(word);
+    print_field(count as u64);
+    end_line();
+}
+
+fn report_filtered(answer: Filtered) {
+    match answer {
+        Filtered::Refused(refusal) => report_refusal(refusal),
+        Filtered::NoRoom(count) => print_count(b"room", count),
+        Filtered::Settled(count) => print_count(b"settled", count),
+        Filtered::Impossible(count) => print_count(b"impossible", count),
+    }
+}
+
+fn report_checked(answer: LogChecked) {
+    match answer {
+        LogChecked::Refused(refusal) => report_refusal(refusal),
+        LogChecked::Accepted { steps, impossible } => {
+            print_word(b"accepted");
+            print_field(steps as u64);
+            if impossible {
+                print_word(b"\timpossible");
+            }
+            end_line();
+        }
+    }
+}
+
+// The cells of each log here.
+const CELLS: usize = 2048;
+
+fn empty_log() -> [Step; CELLS]
+    ensures { λ r. ⌜ length r ≡ cells ⌝ }
+{
+    let empty = Step {
+        kind: 0,
+        task: 0,
+        hour: 0,
+    };
+    [empty; CELLS]
+}
+
+// Prints the steps before the first empty cell, and answers how many they are.
+fn print_steps(log: [Step; CELLS]) -> usize
+    ensures { λ r. ⌜ r ≤ cells ⌝ }
+{
+    for i in 0..CELLS {
+        let x = log[i];
+        if x.kind == 0 {
+            return i;
+        }
+        print_step(x);
+    }
+    CELLS
+}
+
+// The filter of crate `log`, with room for so many steps: prints the answer, and gives the log.
+fn filter_log(
+    hours: u16,
+    capacity: u16,
+    calendars: &[u8],
+    task_calendars: &[u16],
+    work_times: &[u16],
+    heights: &[u16],
+    boxes: &mut [u16],
+    room: usize,
+) -> [Step; CELLS]
+    requires { ⌜ room ≤ cells ⌝ }
+    ensures { λ r. ⌜ length r ≡ cells ⌝ }
+{
+    let mut log = empty_log();
+    let answer = log::filter(
+        hours,
+        capacity,
+        calendars,
+        task_calendars,
+        work_times,
+        heights,
+        boxes,
+        &mut log[..room],
+    );
+    report_filtered(answer);
+    log
+}
+
+// The log checker of crate `log` on so many steps.
+fn check_log(
+    hours: u16,
+    capacity: u16,
+    calendars: &[u8],
+    task_calendars: &[u16],
+    work_times: &[u16],
+    heights: &[u16],
+    boxes: &mut [u16],
+    log: [Step; CELLS],
+    count: usize,
+) -> LogChecked
+    requires { ⌜ (count ≤ cells) × (length log ≡ cells) ⌝ }
+{
+    log::check_log(
+        hours,
+        capacity,
+        calendars,
+        task_calendars,
+        work_times,
+        heights,
+        boxes,
+        &log[..count],
+    )
+}
+
+// The filter on a week of the two tasks, with room for so many steps: prints the answer and the boxes left, and gives the log.
+fn filter_week(
+    hours: u16,
+    capacity: u16,
+    calendar: &[u8],
+    opening: [u16; 12],
+    room: usize,
+) -> [Step; CELLS]
+    requires { ⌜ room ≤ cells ⌝ }
+    ensures { λ r. ⌜ length r ≡ cells ⌝ }
+{
+    let task_calendars = TASK_CALENDARS;
+    let work_times = WORK_TIMES;
+    let heights = HEIGHTS;
+    let mut boxes = opening;
+    let log = filter_log(
+        hours,
+        capacity,
+        calendar,
+        &task_calendars,
+        &work_times,
+        &heights,
+        &mut boxes,
+        room,
+    );
+    print_boxes(&boxes);
+    log
+}
+
+// The log checker on so many steps of a log of a week of the two tasks: prints the answer and the boxes left.
+fn check_week(
+    hours: u16,
+    capacity: u16,
+    calendar: &[u8],
+    opening: [u16; 12],
+    log: [Step; CELLS],
+    count: usize,
+)
+    requires { ⌜ (count ≤ cells) × (length log ≡ cells) ⌝ }
+{
+    let task_calendars = TASK_CALENDARS;
+    let work_times = WORK_TIMES;
+    let heights = HEIGHTS;
+    let mut boxes = opening;
+    let checked = check_log(
+        hours,
+        capacity,
+        calendar,
+        &task_calendars,
+        &work_times,
+        &heights,
+        &mut boxes,
+        log,
+        count,
+    );
+    report_checked(checked);
+    print_boxes(&boxes);
+}
+
+// The printed week with room for so many steps, and its log checked from the opening boxes.
+fn printed_week_log(room: usize)
+    requires { ⌜ room ≤ cells ⌝ }
+{
+    let log = filter_week(6, 1, b"rcrrrr", OPENING, room);
+    let count = print_steps(log);
+    check_week(6, 1, b"rcrrrr", OPENING, log, count);
+}
+
+// 130 regular hours without capacity: the filter raises the earliest start of task 0 hour by hour, until its step 127, the last of the log's second
+// part of 64, says impossible. The log is checked as it is, and with a record after that step.
+fn log_of_two_parts() {
+    let calendar = [b'r'; 130];
+    let opening: [u16; 12] = [0, 128, 2, 2, 0, 0, 0, 128, 2, 2, 0, 0];
+    let mut log = filter_week(130, 0, &calendar, opening, CELLS);
+    check_week(130, 0, &calendar, opening, log, 128);
+    let first = log[0];
+    log[128] = first;
+    check_week(130, 0, &calendar, opening, log, 129);
+}
+
 fn main() {
     feasible_schedule();
     crowded_schedule();
     schedule_that_ends_closed();
     print_listings();
+    printed_week_log(CELLS);
+    printed_week_log(2);
+    log_of_two_parts();
 }

@@ -1,4 +1,5 @@
--- `log::put_step` meets its contract: a walk of its MIR, by hand. The borrow is opened, one step is taken out of the row and stored to, and the borrow is closed at the list with the new step in it.
+-- `log::put_step` meets its contract: a walk of its MIR, by hand. The borrow is opened, one step is taken out of the row and stored to,
+-- and the borrow is closed at the list with the new step in it.
 -- The code has no check of the bound: it is the contract's to ask.
 -- Assumes nothing.
 use mathlib.Core.Path.{refl, sym, ap, subst}

@@ -1,4 +1,5 @@
--- `log::step_at` meets its contract: a walk of its MIR, by hand. The place of `log[i]` is 6 · i past the pointer, the step is read there, and copied to the result.
+-- `log::step_at` meets its contract: a walk of its MIR, by hand. The place of `log[i]` is 6 · i past the pointer, the step is read there,
+-- and copied to the result.
 -- The code has no check of the bound: it is the contract's to ask.
 -- Assumes nothing.
 use mathlib.Core.Path.{refl, sym}

@@ -21,7 +21,8 @@ returns : tie.Need-returns
 returns c =
     let at = c .before .before in
     let a = at .before .before .before .args in
-    next-calendar (a .hours .0) (a .capacity .0) (a .heights .now) (a .boxes .now) (a .fits) (at .first-calendar .ensures) (ap foundStep (c .enum-told2 .given .1))
+    next-calendar (a .hours .0) (a .capacity .0) (a .heights .now) (a .boxes .now) (a .fits) (at .first-calendar .ensures)
+    (ap foundStep (c .enum-told2 .given .1))
 
 slice-aggregate-fill-loads : tie.Need-slice-aggregate-fill-loads
 unfolding zeros
