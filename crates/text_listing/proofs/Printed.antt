@@ -3,7 +3,7 @@ use mathlib.Core.Path.{_≡_, refl}
 use Rattle.units.specs.Choice.{_and_, if_then_else_, someIf, onOption, _orElse_, firstOf}
 use Rattle.units.specs.Sums.{sumTo, sumWhere, countWhere}
 use Rattle.units.specs.Limits.{within, isPlanLength, isHour, isWorkTime, isHeight, isCapacity, isCalendarCount, isCalendarNumber, isTaskCount}
-use Rattle.units.specs.Limits.{isOvertime, isRange, isBox}
+use Rattle.units.specs.Limits.{isOvertime, isRange, isBox, withEarliest, withLatest}
 use Rattle.units.specs.Extremes.{least, greatest}
 use Rattle.units.specs.Cells.{written}
 use Rattle.plan.specs.Plan.{taskCount, calendarCount, firstSymbol, calendarAt, calendarOf, workTimeOf, heightOf, heightsWhere}
@@ -15,7 +15,7 @@ use Rattle.calendar.specs.Valid.{hoursOf, overtimeEnds, valid}
 use Rattle.calendar.specs.Triples.{each, over, lasting, starting, validTriples}
 use Rattle.calendar.specs.Rule.{spread, fitOf, ruleOf}
 use Rattle.steps.specs.Load.{fitAt, mustRun, load, othersLoad, excess}
-use Rattle.steps.specs.Steps.{kindOf, isStep, onJudgement, onFit, sameBounds, withEarliest, withLatest, judgeC, judgeO, judgeL, judgeU, judgeKind, judge}
+use Rattle.steps.specs.Steps.{kindOf, isStep, onJudgement, onFit, sameBounds, judgeC, judgeO, judgeL, judgeU, judgeKind, judge}
 use Rattle.steps.specs.Filter.{onAdmitted, ifAdmitted, firstOfKind, firstBy, filterOrder, nextBy, after, runBy}
 use Rattle.steps.specs.Entry.{oneForEachStep, entryFault, endingAnswer, logged, filterPlan}
 use Rattle.text.specs.Fields.{parts, intoFirst, same}
