@@ -15,7 +15,7 @@ use Rattle.plan.specs.Plan.{plan, taskCount}
 use Rattle.plan.specs.Boxes.{boundsAt, boxCells}
 use Rattle.plan.specs.Refusals.{Fault, fault, refused, answered, answerUnless}
 use Rattle.plan.specs.Faults.{oneForEachTask, calendarsFault, planFault, inputFault}
-use Rattle.plan.proofs.Refusing.{unless-true, unless-false}
+use Rattle.plan.proofs.Refusals.{unless-true, unless-false}
 use Rattle.plan.proofs.Passed.{passed}
 use Rattle.calendar.specs.Rule.{ruleOf}
 use Rattle.calendar.specs.inner.Stretches.{RuleReady}

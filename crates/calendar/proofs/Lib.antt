@@ -1,7 +1,7 @@
 pub mod Counting
 pub mod Stretches
-pub mod Validity
+pub mod Valid
 pub mod Windows
-pub mod Members
+pub mod Triples
 pub mod Starts
 pub mod Entry

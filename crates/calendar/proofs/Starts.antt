@@ -25,12 +25,12 @@ use Rattle.calendar.specs.inner.Stretches.{openLength, stretchOf, mayEnd
 use Rattle.calendar.specs.inner.Stretches.{lengthened}
 use Rattle.calendar.specs.inner.Windows.{WindowReady, windowFrom}
 use Rattle.calendar.proofs.Counting.{hours-more, hours-none, hours-first, hours-mono, regulars}
-use Rattle.calendar.proofs.Validity.{Valid, valid-facts, facts-valid}
+use Rattle.calendar.proofs.Valid.{Valid, valid-facts, facts-valid}
 use Rattle.calendar.proofs.Stretches.{open-le, open-regular, open-last, open-past, open-itself, last-is, counts-are, MayEnd, may-end, ends-may, MayLast}
 use Rattle.calendar.proofs.Stretches.{may-last, lasts-may, last-shorter, no-stretch, own-hours, own-stretch}
 use Rattle.calendar.proofs.Stretches.{long-inside, long-none, long-holds, end-next}
 use Rattle.calendar.proofs.Stretches.{last-next}
-use Rattle.calendar.proofs.Members.{Held, fit-is, Starting, has-starting, only-starting, no-members}
+use Rattle.calendar.proofs.Triples.{Held, fit-is, Starting, has-starting, only-starting, no-members}
 
 -- ---- the hours at both ends
 

@@ -8,7 +8,7 @@ ghost use mathlib.Core.Path.{_≡_};
 ghost use mathlib.Core.List.{[], _∷_, _++_};
 ghost use Prim.Native.Nat.{_+_, _*_, _≤_, _<_};
 ghost use lib.ListN.{length};
-ghost use Rattle.units.specs.Limits.{mostTasks};
+ghost use Rattle.units.specs.Limits.{mostTasks, boxNumbers};
 ghost use Rattle.units.specs.Cells.{written};
 ghost use Rattle.plan.specs.Refusals.{faultOf};
 ghost use Rattle.plan.specs.Lent.{old, left};
@@ -22,7 +22,7 @@ pub const ROOM: usize = 4096;
 
 // The line of task i, 47 bytes at most.
 fn put_task(out: &mut [u8], at: usize, boxes: &[u16], i: usize) -> usize
-    requires { ⌜ (at + 47 ≤ length (now out)) × (i < mostTasks) × (6 * i + 6 ≤ length (now boxes)) ⌝ }
+    requires { ⌜ (at + 47 ≤ length (now out)) × (i < mostTasks) × (boxNumbers * i + boxNumbers ≤ length (now boxes)) ⌝ }
     ensures { λ r. ⌜ Put (taskLine (old boxes) i) at (old out) r (left out) × (r ≤ at + 47) ⌝ }
 {
     let b = bounds_at(boxes, i);
@@ -40,7 +40,7 @@ fn put_task(out: &mut [u8], at: usize, boxes: &[u16], i: usize) -> usize
 
 // The lines of the first tasks.
 fn put_tasks(out: &mut [u8], at: usize, boxes: &[u16], tasks: usize) -> usize
-    requires { ⌜ (at + 47 * tasks ≤ length (now out)) × (tasks ≤ mostTasks) × (6 * tasks ≤ length (now boxes)) ⌝ }
+    requires { ⌜ (at + 47 * tasks ≤ length (now out)) × (tasks ≤ mostTasks) × (boxNumbers * tasks ≤ length (now boxes)) ⌝ }
     ensures { λ r. ⌜ Put (taskLines (old boxes) tasks) at (old out) r (left out) ⌝ }
 {
     let mut end = at;
@@ -61,7 +61,7 @@ pub fn list_refusal(r: Refusal, out: &mut [u8; ROOM]) -> usize
 
 // The first line with the count, then the tasks.
 fn list_tasks(word: &[u8], n: usize, boxes: &[u16], tasks: usize, out: &mut [u8; ROOM]) -> usize
-    requires { ⌜ (length (now word) ≤ 10) × (tasks ≤ mostTasks) × (6 * tasks ≤ length (now boxes)) ⌝ }
+    requires { ⌜ (length (now word) ≤ 10) × (tasks ≤ mostTasks) × (boxNumbers * tasks ≤ length (now boxes)) ⌝ }
     ensures { λ r. ⌜ Put (lineOf (old word) (n ∷ []) ++ taskLines (old boxes) tasks) 0 (old out) r (left out) ⌝ }
 {
     let numbers = [n];
@@ -71,7 +71,7 @@ fn list_tasks(word: &[u8], n: usize, boxes: &[u16], tasks: usize, out: &mut [u8;
 
 // What a run of the filter answered, and the boxes that it left; the bytes past the listing are untouched.
 pub fn list_run(answer: Filtered, boxes: &[u16], tasks: usize, out: &mut [u8; ROOM]) -> usize
-    requires { ⌜ (tasks ≤ mostTasks) × (6 * tasks ≤ length (now boxes)) ⌝ }
+    requires { ⌜ (tasks ≤ mostTasks) × (boxNumbers * tasks ≤ length (now boxes)) ⌝ }
     ensures { λ n. let L = listing (filterAnswer answer) (old boxes) tasks in ⌜ (n ≡ length L) × (left out ≡ written L (old out)) ⌝ }
 {
     match answer {

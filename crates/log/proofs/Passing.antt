@@ -8,7 +8,7 @@ use Rattle.units.proofs.Choices.{neither}
 use Rattle.plan.specs.Plan.{Plan}
 use Rattle.plan.specs.Faults.{inputFault}
 use Rattle.plan.specs.Passed.{Passed}
-use Rattle.plan.proofs.Refusing.{unless-none}
+use Rattle.plan.proofs.Refusals.{unless-none}
 use Rattle.plan.proofs.Passed.{passed, input-again}
 use Rattle.steps.specs.declared.Step.{Step}
 use Rattle.steps.specs.Steps.{judge}

@@ -17,7 +17,7 @@ use Rattle.plan.specs.Faults.{oneForEachTask, isCalendars, symbolFault, 
 use Rattle.plan.specs.Faults.{countsFault, oneTaskFault, taskFault, tasksFault, planFault}
 use Rattle.plan.specs.Faults.{inputFault}
 use Rattle.plan.specs.Passed.{PassedTask, Passed}
-use Rattle.plan.proofs.Refusing.{unless-true, unless-none}
+use Rattle.plan.proofs.Refusals.{unless-true, unless-none}
 
 -- ---- memory of the right size
 

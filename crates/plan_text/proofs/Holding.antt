@@ -14,7 +14,7 @@ use Rattle.units.proofs.Ranges.{to-most}
 use Rattle.plan.specs.Plan.{taskCount}
 use Rattle.plan.specs.Refusals.{Fault, Answer, refused, answered, onAnswer}
 use Rattle.plan.specs.Faults.{planFault}
-use Rattle.plan.proofs.Refusing.{unless-none}
+use Rattle.plan.proofs.Refusals.{unless-none}
 use Rattle.plan.proofs.Passed.{counts-passed}
 use Rattle.plan_text.specs.Text.{Read, readText}
 use Rattle.plan_text.specs.Entry.{planIn, mostSymbols, lineFault, readFault, isEnough, PlanRead, unread, stored, readTested, readPlan}

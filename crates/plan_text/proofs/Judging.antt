@@ -15,7 +15,7 @@ use Rattle.units.proofs.Ranges.{to-most}
 use Rattle.plan.specs.Plan.{Plan, plan, taskCount}
 use Rattle.plan.specs.Refusals.{Fault, fault}
 use Rattle.plan.specs.Faults.{oneForEachTask, countsFault, tasksFault, planFault}
-use Rattle.plan.proofs.Refusing.{unless-true, unless-none, unless-false, go-on, refuse}
+use Rattle.plan.proofs.Refusals.{unless-true, unless-none, unless-false, go-on, refuse}
 use Rattle.plan.proofs.Passed.{counts-passed}
 use Rattle.plan_text.specs.declared.Scan.{Scan}
 use Rattle.plan_text.specs.Text.{Read}
@@ -50,10 +50,10 @@ module _ (a x y : Option Fault) where
       go none = unfold _orElse_ in refl
 
 -- a plan with more tasks than it may have is refused by 4 or else by 5: as one without tasks, or else by 5
-crowded : (P : Plan) (boxes : List ℕ) → mostTasks < taskCount P
+too-many : (P : Plan) (boxes : List ℕ) → mostTasks < taskCount P
     → planFault P boxes ≡ (planFault (plan (P .shifts .hours) 0 (P .shifts .calendars) [] [] []) [] orElse some (fault 5 0))
 unfolding planFault countsFault tasksFault taskCount firstOf isTaskCount isCapacity
-crowded P boxes h =
+too-many P boxes h =
     ends-alike _ _ _ (else-some _ _ _ (refuse _ 5 0 _ (lt-leb (taskCount P) mostTasks h)))
     ∙ sym (ends-later _ _ _ (else-none _ _ (go-on _ 5 0 _ refl ∙ unless-true _ 10 0 refl)))
 
@@ -121,12 +121,12 @@ module _ {r : Read} {s : Scan} {n : ℕ} {symbols cells : List ℕ} (held : Hold
         ≡ readFault true r
     read-plan t = ap₂ planFault (plan-held held symbols-fit t) (boxes-held held symbols-fit t) ∙ sym by-plan
 
-    pub read-crowded : mostTasks < s .tasks
+    pub read-too-many : mostTasks < s .tasks
         → (planFault (storedPlan (s .hours) 0 0 (section 0 (s .symbols) symbols) cells) (storedBoxes 0 cells) orElse some (fault 5 0)) ≡ readFault true r
     unfolding planIn taskCount
-    read-crowded t =
+    read-too-many t =
         ap (λ P. planFault P [] orElse some (fault 5 0)) (λ k. plan (held .hours k) 0 (symbols-held held symbols-fit k) [] [] [])
-        ∙ sym (crowded (planIn r) (boxesIn r) (omega (arith, task-count held)))
+        ∙ sym (too-many (planIn r) (boxesIn r) (omega (arith, task-count held)))
         ∙ sym by-plan
 
   -- what a plan that passes has

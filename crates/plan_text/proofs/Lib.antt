@@ -3,5 +3,5 @@ pub mod Sections
 pub mod Following
 pub mod Lining
 pub mod Judging
-pub mod Ending
+pub mod Entry
 pub mod Holding

@@ -143,7 +143,7 @@ fn test_stored(hours: u16, capacity: u16, tasks: usize, symbols: &[u8], cells: &
         &cells[..tasks],
         &cells[WORK_TIMES..WORK_TIMES + tasks],
         &cells[HEIGHTS..HEIGHTS + tasks],
-        &cells[BOXES..BOXES + 6 * tasks],
+        &cells[BOXES..BOXES + Bounds::NUMBERS * tasks],
     )
 }
 
@@ -192,7 +192,7 @@ fn store_plan(
     put_cells(task_calendars, 0, &cells[..tasks]);
     put_cells(work_times, 0, &cells[WORK_TIMES..WORK_TIMES + tasks]);
     put_cells(heights, 0, &cells[HEIGHTS..HEIGHTS + tasks]);
-    put_cells(boxes, 0, &cells[BOXES..BOXES + 6 * tasks]);
+    put_cells(boxes, 0, &cells[BOXES..BOXES + Bounds::NUMBERS * tasks]);
 }
 
 // The tests of a whole text, and its plan in the memory lent if they pass.

@@ -20,7 +20,7 @@ ghost use lib.Dec.{leb, eqb};
 ghost use lib.ListN.{length};
 ghost use Rattle.units.specs.Choice.{_and_};
 ghost use Rattle.units.specs.Cells.{writtenAt};
-ghost use Rattle.units.specs.Limits.{mostTasks};
+ghost use Rattle.units.specs.Limits.{mostTasks, boxNumbers};
 ghost use Rattle.plan.specs.Lent.{old, left};
 ghost use Rattle.text.specs.Fields.{lf, parts};
 ghost use Rattle.plan_text.specs.Records.{planRecord, calRecord, taskRecord};
@@ -62,15 +62,15 @@ fn store_symbols(symbols: &mut [u8], at: usize, calendar: &[u8])
 // Stores a task's box: the bounds of its line, or all that its work time allows.
 fn store_box(cells: &mut [u16], task: usize, hours: u16, numbers: &[u16])
     requires { ⌜ (task < mostTasks) × (length (now cells) ≡ storeSize) × (3 ≤ length (now numbers)) ⌝ }
-    ensures { λ _. ⌜ left cells ≡ writtenAt (boxesAt + 6 * task) (boxOf hours (old numbers)) (old cells) ⌝ }
+    ensures { λ _. ⌜ left cells ≡ writtenAt (boxesAt + boxNumbers * task) (boxOf hours (old numbers)) (old cells) ⌝ }
 {
     if numbers.len() == MOST_NUMBERS {
-        put_cells(cells, BOXES + 6 * task, &numbers[3..]);
+        put_cells(cells, BOXES + Bounds::NUMBERS * task, &numbers[3..]);
         return;
     }
     let work_time = numbers[1];
     let bounds = [0, last_hour(hours), work_time, hours, 0, work_time];
-    put_cells(cells, BOXES + 6 * task, &bounds);
+    put_cells(cells, BOXES + Bounds::NUMBERS * task, &bounds);
 }
 
 // Stores a task after those before it, each number in its section, if there is room.

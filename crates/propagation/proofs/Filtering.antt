@@ -28,7 +28,7 @@ use Rattle.steps.specs.Entry.{settledAfter, impossibleAfter, noRoomFor, endingA
 use Rattle.steps.specs.inner.From.{loggedFrom}
 use Rattle.steps.proofs.Searches.{Rightly, next-rightly}
 use Rattle.steps.proofs.Runs.{run-settled, run-full, run-stops, run-moves, resumed}
-use Rattle.steps.proofs.Entering.{one-each}
+use Rattle.steps.proofs.Entry.{one-each}
 use Rattle.propagation.specs.declared.turn.Turn.{Turn}
 use Rattle.propagation.specs.declared.turn.Turn.the-variants as turn
 use Rattle.propagation.specs.inner.Fitting.{Fitting}

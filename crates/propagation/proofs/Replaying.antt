@@ -24,7 +24,7 @@ use Rattle.steps.specs.Steps.{judge, unknown, notAdmitted, moved, onJudgement}
 use Rattle.steps.specs.Steps as judged
 use Rattle.steps.specs.Log.{LogEnd, logEnd, replayBy, replayFrom}
 use Rattle.steps.specs.Entry.{stepAt, stepsFrom, stepsIn, oneForEachStep, Accepted, checkAnswer}
-use Rattle.steps.proofs.Entering.{one-each}
+use Rattle.steps.proofs.Entry.{one-each}
 use Rattle.propagation.specs.inner.Fitting.{Fitting}
 use Rattle.propagation.specs.inner.Kept.{Keeping, judgeBy}
 use Rattle.propagation.proofs.Keeping.{judges-unknown, judges-not, judges-impossible, judges-moved, moved-there, may-move, keeps-moved}

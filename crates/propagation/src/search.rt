@@ -15,7 +15,7 @@ ghost use mathlib.Core.Path.{_≡_};
 ghost use Prim.Native.Nat.{_+_, _*_, _≤_, _<_};
 ghost use lib.ListN.{length};
 ghost use Rattle.units.specs.Choice.{_orElse_};
-ghost use Rattle.units.specs.Limits.{mostHours, mostTasks};
+ghost use Rattle.units.specs.Limits.{mostHours, mostTasks, boxNumbers};
 ghost use Rattle.plan.specs.Lent.{old};
 ghost use Rattle.steps.specs.Filter.{firstBy, filterOrder};
 ghost use Rattle.propagation.specs.inner.Kept.{calendarBy, admittedBy, foundStep};
@@ -34,7 +34,7 @@ fn is_narrowed(fit: Fit, task: u16, b: Bounds) -> bool
 
 // The first C, by task.
 fn first_calendar(tasks: usize, boxes: &[u16], fits: [Fit; Bounds::MOST]) -> Found
-    requires { ⌜ (tasks ≤ mostTasks) × (length (now boxes) ≡ 6 * tasks) ⌝ }
+    requires { ⌜ (tasks ≤ mostTasks) × (length (now boxes) ≡ boxNumbers * tasks) ⌝ }
     ensures { λ r. ⌜ foundStep r ≡ firstCalendar (old boxes) fits tasks ⌝ }
 {
     for i in 0..tasks {

@@ -7,7 +7,7 @@ use native.Mathlib.Omega.{arith}
 use Rattle.units.proofs.Choices.{else-none, neither}
 use Rattle.plan.specs.Plan.{Plan}
 use Rattle.plan.specs.Refusals.{Fault, Answer, refused, answered, answerUnless}
-use Rattle.plan.proofs.Refusing.{go-on, unless-none}
+use Rattle.plan.proofs.Refusals.{go-on, unless-none}
 use Rattle.schedule.specs.Schedule.{tripleAt, Feasible, makespan}
 use Rattle.schedule.specs.Entry.{checkFault, checkSchedule}
 use Rattle.schedule.specs.Decision.{Decides}

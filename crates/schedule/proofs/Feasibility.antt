@@ -8,7 +8,7 @@ use borrow.Author.Tests.{leb-true, le-leb}
 use Rattle.units.proofs.Choices.{else-none, neither, first-none, first-all-none}
 use Rattle.plan.specs.Plan.{Plan, taskCount, calendarOf, workTimeOf}
 use Rattle.plan.specs.Boxes.{boundsAt}
-use Rattle.plan.proofs.Refusing.{unless-true, unless-none}
+use Rattle.plan.proofs.Refusals.{unless-true, unless-none}
 use Rattle.calendar.specs.declared.Triple.{Triple}
 use Rattle.calendar.specs.Triples.{validTriple, inBounds}
 use Rattle.schedule.specs.Schedule.{running, Feasible}

@@ -10,7 +10,7 @@ use Rattle.plan.specs.Plan.{Plan, taskCount, heightOf}
 use Rattle.plan.specs.Faults.{Passes}
 use Rattle.plan.specs.Passed.{Passed}
 use Rattle.plan.proofs.Passed.{passed}
-use Rattle.calendar.proofs.Validity.{valid-facts}
+use Rattle.calendar.proofs.Valid.{valid-facts}
 use Rattle.schedule.specs.Schedule.{tripleAt, Feasible}
 use Rattle.schedule.specs.Entry.{isSized}
 use Rattle.schedule.specs.Decision.{RightSize}

@@ -21,7 +21,7 @@ use Rattle.calendar.specs.declared.Triple.{Triple}
 use Rattle.calendar.specs.declared.Window.{Window}
 use Rattle.calendar.specs.Triples.{startOf, endOf, inBounds}
 use Rattle.calendar.specs.Rule.{lst, ect}
-use Rattle.calendar.proofs.Members.{InBounds, in-bounds, bounds-in, Narrower, never-valid, rule-narrower}
+use Rattle.calendar.proofs.Triples.{InBounds, in-bounds, bounds-in, Narrower, never-valid, rule-narrower}
 use Rattle.schedule.specs.Schedule.{runs, Feasible}
 use Rattle.steps.specs.declared.Step.{Step}
 use Rattle.steps.specs.Load.{fitAt}

@@ -15,7 +15,7 @@ use Rattle.plan.specs.Plan.{Plan, taskCount}
 use Rattle.plan.specs.Boxes.{boundsAt}
 use Rattle.plan.specs.Refusals.{Fault, fault, unless, refused, answered, answerUnless}
 use Rattle.plan.specs.Faults.{oneForEachTask, planFault, inputFault}
-use Rattle.plan.proofs.Refusing.{unless-none, go-on}
+use Rattle.plan.proofs.Refusals.{unless-none, go-on}
 use Rattle.plan.proofs.Numbers.{by-unless, by-either, plan-numbers, input-numbers}
 use Rattle.steps.specs.declared.Step.{Step}
 use Rattle.calendar.specs.declared.Triple.{Triple}

@@ -6,5 +6,5 @@ pub mod Searches
 pub mod Runs
 pub mod Contracts
 pub mod Claim
-pub mod Entering
+pub mod Entry
 pub mod Weeks

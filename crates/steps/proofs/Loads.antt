@@ -18,7 +18,7 @@ use Rattle.calendar.specs.declared.Fit.{Fit}
 use Rattle.calendar.specs.declared.Fit.the-variants.{Never, Within}
 use Rattle.calendar.specs.Triples.{startOf, endOf}
 use Rattle.calendar.specs.Rule.{lst, ect}
-use Rattle.calendar.proofs.Members.{in-bounds, Held, rule-held}
+use Rattle.calendar.proofs.Triples.{in-bounds, Held, rule-held}
 use Rattle.schedule.specs.Schedule.{runs, running, Feasible}
 use Rattle.steps.specs.Load.{fitAt, mustRun, load, othersLoad}
 

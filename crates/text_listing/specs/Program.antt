@@ -2,7 +2,7 @@
 use mathlib.Core.List.{List}
 use Prim.Native.Nat.{ℕ, _*_}
 use lib.ListN.{take, replicate}
-use Rattle.units.specs.Limits.{mostTasks}
+use Rattle.units.specs.Limits.{mostTasks, boxNumbers}
 use Rattle.plan.specs.Plan.{Plan, plan, taskCount}
 use Rattle.plan.specs.Refusals.{onAnswer}
 use Rattle.steps.specs.Entry.{filterPlan}
@@ -35,7 +35,7 @@ readListing e a =
     (plan (a .hours) (a .capacity) (take (a .calendars * a .hours) (e .calendars)) (take (a .tasks) (e .taskCalendars))
     (take (a .tasks) (e .workTimes))
     (take (a .tasks) (e .heights)))
-    (take (6 * a .tasks) (e .boxes))
+    (take (boxNumbers * a .tasks) (e .boxes))
 
 -- any refusal is one line
 unfoldable pub textListing : List ℕ → List ℕ

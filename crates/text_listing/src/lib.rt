@@ -9,7 +9,7 @@ use units::Bounds;
 ghost use mathlib.Core.Path.{_≡_};
 ghost use Prim.Native.Nat.{_*_, _≤_};
 ghost use lib.ListN.{length};
-ghost use Rattle.units.specs.Limits.{mostTasks};
+ghost use Rattle.units.specs.Limits.{mostTasks, boxNumbers};
 ghost use Rattle.units.specs.Cells.{written};
 ghost use Rattle.plan.specs.Lent.{old, left, oldPlan};
 ghost use Rattle.text_listing.specs.Program.{planListing, textListing};
@@ -28,7 +28,7 @@ fn list_plan(
     boxes: &mut [u16],
     out: &mut [u8; ROOM],
 ) -> usize
-    requires { ⌜ (length (now «task_calendars») ≤ mostTasks) × (length (now boxes) ≡ 6 * length (now «task_calendars»)) ⌝ }
+    requires { ⌜ (length (now «task_calendars») ≤ mostTasks) × (length (now boxes) ≡ boxNumbers * length (now «task_calendars»)) ⌝ }
     ensures { λ r. let L = planListing (oldPlan hours capacity calendars «task_calendars» «work_times» heights) (old boxes) in
         ⌜ (r ≡ length L) × (left out ≡ written L (old out)) ⌝ }
 {
@@ -76,7 +76,7 @@ pub fn list_text(text: &[u8], out: &mut [u8; ROOM]) -> usize
             tasks,
         } => {
             let all = calendars * hours as usize;
-            let cells = 6 * tasks;
+            let cells = Bounds::NUMBERS * tasks;
             list_plan(
                 hours,
                 capacity,

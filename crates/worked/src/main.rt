@@ -77,7 +77,7 @@ fn feasible_schedule() {
 }
 
 // Both tasks run in hour 2.
-fn crowded_schedule() {
+fn schedule_over_capacity() {
     let schedule: [u16; 6] = [2, 2, 0, 0, 3, 0];
     report(printed_week(&schedule));
 }
@@ -117,7 +117,7 @@ fn print_listings() {
     print_listing(b"rests-before-closing.plan");
     print_listing(b"one-hour-of-overtime.plan");
     print_listing(b"two-hours-of-overtime.plan");
-    print_listing(b"own-part-does-not-crowd.plan");
+    print_listing(b"own-part-is-no-excess.plan");
     print_listing(b"refused-1.plan");
     print_listing(b"refused-1-no-lf.plan");
     print_listing(b"refused-2.plan");
@@ -345,7 +345,7 @@ fn log_of_two_parts() {
 
 fn main() {
     feasible_schedule();
-    crowded_schedule();
+    schedule_over_capacity();
     schedule_that_ends_closed();
     print_listings();
     printed_week_log(CELLS);

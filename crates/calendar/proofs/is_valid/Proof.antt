@@ -1,6 +1,6 @@
 use mathlib.Core.Path.{sym}
 use borrow.Author.Needs.{needs}
-use Rattle.calendar.proofs.Validity.{no-length, past-end}
+use Rattle.calendar.proofs.Valid.{no-length, past-end}
 use Rattle.calendar.proofs.is_valid.Statement.{statement}
 use Rattle.calendar.proofs.is_valid.Tie as tie
 

@@ -8,7 +8,7 @@ use Rattle.units.specs.declared.Duration.{Duration}
 use Rattle.units.proofs.Choices.{if-none, if-some}
 use Rattle.units.proofs.Ranges.{from-least}
 use Rattle.plan.specs.Faults.{isCalendars, calendarsFault}
-use Rattle.plan.proofs.Refusing.{go-on, refuse}
+use Rattle.plan.proofs.Refusals.{go-on, refuse}
 use Rattle.plan.proofs.test_calendars.Statement.{statement}
 use Rattle.plan.proofs.test_calendars.Tie as tie
 

@@ -4,7 +4,7 @@ use borrow.Author.Tests.{not-true, not-false}
 use Rattle.units.specs.Limits.{heightMade}
 use Rattle.units.proofs.Choices.{if-none, if-some}
 use Rattle.plan.specs.Faults.{countsFault}
-use Rattle.plan.proofs.Refusing.{go-on, refuse, unless-true, unless-false}
+use Rattle.plan.proofs.Refusals.{go-on, refuse, unless-true, unless-false}
 use Rattle.plan.proofs.test_counts.Statement.{statement}
 use Rattle.plan.proofs.test_counts.Tie as tie
 

@@ -2,7 +2,7 @@ use mathlib.Core.Path.{sym, _∙_}
 use borrow.Author.Needs.{needs}
 use borrow.Author.Tests.{not-true, not-false}
 use Rattle.plan.specs.Faults.{inputFault}
-use Rattle.plan.proofs.Refusing.{go-on, refuse}
+use Rattle.plan.proofs.Refusals.{go-on, refuse}
 use Rattle.plan.proofs.test_input.Statement.{statement}
 use Rattle.plan.proofs.test_input.Tie as tie
 

@@ -5,7 +5,7 @@ use borrow.Author.Needs.{needs}
 use borrow.Author.Tests.{not-true, not-false}
 use Rattle.units.proofs.Searching.{Unfound, unfound-first, unfound-next, unfound-hit, unfound-end}
 use Rattle.plan.specs.Faults.{symbolFault}
-use Rattle.plan.proofs.Refusing.{unless-true, unless-false}
+use Rattle.plan.proofs.Refusals.{unless-true, unless-false}
 use Rattle.plan.proofs.test_symbols.Statement.{statement}
 use Rattle.plan.proofs.test_symbols.Tie as tie
 

@@ -6,7 +6,7 @@ use Rattle.units.specs.declared.Duration.{Duration}
 use Rattle.units.proofs.Choices.{if-none, if-some}
 use Rattle.plan.specs.Refusals.{unless}
 use Rattle.plan.specs.Faults.{oneTaskFault}
-use Rattle.plan.proofs.Refusing.{go-on, refuse, unless-true, unless-false}
+use Rattle.plan.proofs.Refusals.{go-on, refuse, unless-true, unless-false}
 use Rattle.plan.proofs.test_task.Statement.{statement}
 use Rattle.plan.proofs.test_task.Tie as tie
 

@@ -9,7 +9,7 @@ use Rattle.plan_text.specs.Text.{Read, mostBytes}
 use Rattle.plan_text.specs.Entry.{readFault}
 use Rattle.plan_text.specs.inner.Scanning.{Holds}
 use Rattle.plan_text.proofs.Judging.{read-passed}
-use Rattle.plan_text.proofs.Ending.{too-small, not-passed, passed}
+use Rattle.plan_text.proofs.Entry.{too-small, not-passed, passed}
 use borrow.Author.Needs.{needs}
 use Rattle.plan_text.proofs.keep_plan.Statement.{statement}
 use Rattle.plan_text.proofs.keep_plan.Tie as tie

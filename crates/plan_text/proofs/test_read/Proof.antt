@@ -9,7 +9,7 @@ use Rattle.plan.specs.Refusals.{testedFault}
 use Rattle.plan_text.specs.Entry.{lineFault}
 use Rattle.plan_text.specs.Text.{Read, mostBytes}
 use Rattle.plan_text.specs.inner.Scanning.{Holds}
-use Rattle.plan_text.proofs.Judging.{lines-refuse, symbols-fit, read-plan, read-crowded}
+use Rattle.plan_text.proofs.Judging.{lines-refuse, symbols-fit, read-plan, read-too-many}
 use borrow.Author.Needs.{needs}
 use Rattle.plan_text.proofs.test_read.Statement.{statement}
 use Rattle.plan_text.proofs.test_read.Tie as tie
@@ -54,7 +54,7 @@ returns-3 c = λ r held.
     let told = ap testedFault (c .enum-told4 .given .1) in
     told
     ∙ sym (else-some _ _ _ (sym (t .test-stored2 .ensures) ∙ told))
-    ∙ read-crowded held (passed (n .before .before) r held) (leb-false _ _ (sym (n .is-count .ensures) ∙ t .before .if1 .left))
+    ∙ read-too-many held (passed (n .before .before) r held) (leb-false _ _ (sym (n .is-count .ensures) ∙ t .before .if1 .left))
 
 returns-4 : tie.Need-returns-4
 unfolding isTaskCount
@@ -63,7 +63,7 @@ returns-4 c = λ r held.
     let n = t .before .before in
     let told = ap testedFault (c .enum-told3 .given .1) in
     sym (else-none _ _ (sym (t .test-stored2 .ensures) ∙ told))
-    ∙ read-crowded held (passed (n .before .before) r held) (leb-false _ _ (sym (n .is-count .ensures) ∙ t .before .if1 .left))
+    ∙ read-too-many held (passed (n .before .before) r held) (leb-false _ _ (sym (n .is-count .ensures) ∙ t .before .if1 .left))
 
 pub test-read-spec : {M : Type 1} → statement M
 test-read-spec =

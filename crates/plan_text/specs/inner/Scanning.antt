@@ -4,7 +4,7 @@ use mathlib.Core.Option.{Option, none, some}
 use mathlib.Core.List.{List, map}
 use Prim.Native.Nat.{ℕ, _+_, _*_, _≤_}
 use lib.ListN.{length, getD, take, drop}
-use Rattle.units.specs.Limits.{mostTasks}
+use Rattle.units.specs.Limits.{mostTasks, boxNumbers}
 use Rattle.plan.specs.Plan.{Plan, plan}
 use Rattle.plan.specs.Refusals.{fault, Answer, refused, answered}
 use Rattle.plan_text.specs.declared.Scan.{Scan}
@@ -59,7 +59,7 @@ storedPlan hours capacity tasks symbols cells =
     plan hours capacity symbols (section calendarsAt tasks cells) (section workTimesAt tasks cells) (section heightsAt tasks cells)
 
 abbrev pub storedBoxes : ℕ → List ℕ → List ℕ
-storedBoxes tasks cells = section boxesAt (6 * tasks) cells
+storedBoxes tasks cells = section boxesAt (boxNumbers * tasks) cells
 
 -- ---- from line to line
 

@@ -2,7 +2,7 @@ use mathlib.Core.Path.{sym}
 use Prim.Native.Nat.{_-_}
 use borrow.Author.Needs.{needs}
 use Rattle.units.proofs.Searching.{Unfound, unfound-first, unfound-next, unfound-hit, unfound-end}
-use Rattle.plan.proofs.Refusing.{unless-true, unless-false}
+use Rattle.plan.proofs.Refusals.{unless-true, unless-false}
 use Rattle.schedule.specs.inner.Ready.{heightsFault}
 use Rattle.schedule.proofs.Entry.{exceeds, allows}
 use Rattle.schedule.proofs.test_hours.Statement.{statement}

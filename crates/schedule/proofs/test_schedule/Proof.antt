@@ -4,7 +4,7 @@ use borrow.Author.Tests.{not-true, not-false}
 use Rattle.units.proofs.Choices.{and-left, else-none, outer-ends, outer-goes-on}
 use Rattle.plan.specs.Plan.{Plan, plan, taskCount}
 use Rattle.plan.specs.Refusals.{testedFault}
-use Rattle.plan.proofs.Refusing.{go-on, refuse}
+use Rattle.plan.proofs.Refusals.{go-on, refuse}
 use Rattle.schedule.specs.Schedule.{tripleAt}
 use Rattle.schedule.specs.Entry.{scheduleFault, checkFault}
 use Rattle.schedule.specs.Decision.{RightSize}

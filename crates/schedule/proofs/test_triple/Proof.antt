@@ -1,7 +1,7 @@
 use mathlib.Core.Path.{sym, _∙_}
 use borrow.Author.Needs.{needs}
 use borrow.Author.Tests.{not-true, not-false}
-use Rattle.plan.proofs.Refusing.{go-on, refuse, unless-true, unless-false}
+use Rattle.plan.proofs.Refusals.{go-on, refuse, unless-true, unless-false}
 use Rattle.schedule.specs.Entry.{oneTripleFault}
 use Rattle.schedule.proofs.test_triple.Statement.{statement}
 use Rattle.schedule.proofs.test_triple.Tie as tie

@@ -1,6 +1,6 @@
 use mathlib.Core.Path.{sym, _∙_}
 use borrow.Author.Tests.{not-true, not-false}
-use Rattle.steps.proofs.Entering.{other-tasks, other-steps, right-size}
+use Rattle.steps.proofs.Entry.{other-tasks, other-steps, right-size}
 use borrow.Author.Needs.{needs}
 use Rattle.propagation.proofs.entry.test_entry.Statement.{statement}
 use Rattle.propagation.proofs.entry.test_entry.Tie as tie

@@ -1,4 +1,4 @@
-use Rattle.steps.proofs.Entering.{filter-holds-of}
+use Rattle.steps.proofs.Entry.{filter-holds-of}
 use borrow.Author.Needs.{needs}
 use Rattle.propagation.proofs.filter.filter.Statement.{statement}
 use Rattle.propagation.proofs.filter.filter.Tie as tie

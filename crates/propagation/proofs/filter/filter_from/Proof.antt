@@ -1,6 +1,6 @@
 use mathlib.Core.Path.{sym, ap, _∙_}
 use Rattle.plan.specs.Refusals.{testedFault}
-use Rattle.steps.proofs.Entering.{passes, filter-refuses, filter-runs}
+use Rattle.steps.proofs.Entry.{passes, filter-refuses, filter-runs}
 use borrow.Author.Needs.{needs}
 use Rattle.propagation.proofs.filter.filter_from.Statement.{statement}
 use Rattle.propagation.proofs.filter.filter_from.Tie as tie

@@ -1,6 +1,6 @@
 use mathlib.Core.Path.{sym, ap, _∙_}
 use Rattle.plan.specs.Refusals.{testedFault}
-use Rattle.steps.proofs.Entering.{passes, from-refuses, from-replays}
+use Rattle.steps.proofs.Entry.{passes, from-refuses, from-replays}
 use borrow.Author.Needs.{needs}
 use Rattle.propagation.proofs.replay.check_from.Statement.{statement}
 use Rattle.propagation.proofs.replay.check_from.Tie as tie

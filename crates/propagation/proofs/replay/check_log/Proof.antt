@@ -1,4 +1,4 @@
-use Rattle.steps.proofs.Entering.{check-holds-of}
+use Rattle.steps.proofs.Entry.{check-holds-of}
 use borrow.Author.Needs.{needs}
 use Rattle.propagation.proofs.replay.check_log.Statement.{statement}
 use Rattle.propagation.proofs.replay.check_log.Tie as tie

@@ -12,7 +12,7 @@ use Rattle.units.proofs.Choices.{and-both, and-left, and-right, not-left, not-r
 use Rattle.plan.specs.Plan.{Plan}
 use Rattle.plan.specs.Refusals.{Fault, fault, Answer, refused, answerUnless}
 use Rattle.plan.specs.Faults.{oneForEachTask, planFault}
-use Rattle.plan.proofs.Refusing.{unless-none, go-on, refuse}
+use Rattle.plan.proofs.Refusals.{unless-none, go-on, refuse}
 use Rattle.plan.proofs.Passed.{passed}
 use Rattle.steps.specs.Log.{replayFrom, replay}
 use Rattle.steps.specs.Filter.{count, run}

@@ -12,7 +12,7 @@ use Rattle.units.specs.Limits.{mostTasks}
 use Rattle.units.proofs.Choices.{and-left, and-right}
 use Rattle.plan.specs.Plan.{Plan}
 use Rattle.plan.specs.Refusals.{Fault, fault, Answer, refused, answered, onAnswer}
-use Rattle.plan.proofs.Refusing.{refuse}
+use Rattle.plan.proofs.Refusals.{refuse}
 use Rattle.plan_text.specs.declared.Scan.{Scan}
 use Rattle.plan_text.specs.declared.Scanned.{Scanned}
 use Rattle.plan_text.specs.declared.Scanned.the-variants.{Malformed, Whole}
