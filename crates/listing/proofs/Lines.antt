@@ -1,13 +1,10 @@
 -- Laws of the listing's lines: how long each is, and the tasks' lines one after the other. Assumes nothing.
 use mathlib.Core.Path.{_≡_}
 use mathlib.Core.List.{List, [], _∷_}
-use Prim.Native.Nat.{ℕ, zero, suc, _+_, _*_, _≤_, _<_}
+use Prim.Native.Nat.{ℕ, _+_, _≤_, _<_}
 use native.Mathlib.Numerals.{add-one}
 use native.Mathlib.Omega.{arith}
 use lib.ListN.{length, length-append}
-use Rattle.units.specs.Limits.{mostTasks}
-use Rattle.units.specs.declared.Bounds.{Bounds}
-use Rattle.plan.specs.Boxes.{boundsAt}
 use Rattle.text.specs.Words.{wordTask, wordRefused}
 use Rattle.text.specs.Numbers.{decimalText}
 use Rattle.text.specs.Lines.{numberFields, lineOf}

@@ -3,8 +3,7 @@ use mathlib.Core.Path.{_≡_, refl, sym, ap, _∙_, subst}
 use mathlib.Core.Bool.{Bool, true, false, false≢true}
 use mathlib.Core.Option.{Option, none, some}
 use mathlib.Core.List.{List, _++_}
-use Prim.Native.Nat.{ℕ, suc, _+_, _-_, _≤_, _<_, min}
-use native.Mathlib.Nat.{add-zero}
+use Prim.Native.Nat.{ℕ, _+_, _-_, _≤_, _<_, min}
 use native.Mathlib.Omega.{arith}
 use lib.ListN.{length, take, drop, take-append-drop, length-take, length-drop}
 use lib.Seq.{length-take-le, take-all, drop-drop}
@@ -12,14 +11,14 @@ use borrow.Author.Tests.{leb-true, leb-false, eq-eqb}
 use Rattle.units.specs.Choice.{_and_, onOption, _orElse_}
 use Rattle.units.proofs.Choices.{none≢some, and-both}
 use Rattle.plan.specs.Plan.{Plan}
-use Rattle.plan.specs.Refusals.{Fault, fault, unless, Answer, refused, answered, answerUnless, faultOf}
+use Rattle.plan.specs.Refusals.{Fault, unless, Answer, refused, answered, answerUnless, faultOf}
 use Rattle.plan.specs.Faults.{oneForEachTask, planFault, inputFault}
 use Rattle.plan.specs.declared.Refusal.{Refusal}
 use Rattle.steps.specs.declared.Step.{Step}
 use Rattle.steps.specs.declared.LogChecked.{LogChecked}
 use Rattle.steps.specs.declared.LogChecked.the-variants as checked
 use Rattle.steps.specs.Log.{LogEnd, logEnd, replayFrom, replay}
-use Rattle.steps.specs.Entry.{stepsFrom, oneForEachStep, entryFault, Accepted, checkAnswer, logAnswer}
+use Rattle.steps.specs.Entry.{oneForEachStep, entryFault, Accepted, checkAnswer, logAnswer}
 use Rattle.steps.specs.inner.From.{checkFrom}
 use Rattle.steps.proofs.Contracts.{refused≢answered}
 use Rattle.log.specs.declared.part.Part.{Part}

@@ -18,7 +18,7 @@ use Rattle.steps.specs.Entry.{Accepted, checkAnswer}
 use Rattle.steps.specs.Claim.{CheckedHolds, FilterHolds, LogsHold}
 use Rattle.steps.proofs.Contracts.{first-fault, first-sized, tested-holds, no-run-holds, run-holds}
 use Rattle.steps.proofs.Claim.{LeftBy, logs-hold-by}
-use Rattle.log.specs.Entry.{checkSteps, StepsEnd, stepsEnd, loggedSteps, filterSteps, leftSteps}
+use Rattle.log.specs.Entry.{checkSteps, StepsEnd, loggedSteps, filterSteps, leftSteps}
 
 module _ (P : Plan) (boxes : List ℕ) (passes : inputFault P boxes ≡ none) where
   steps-replay : (log : List Step) → checkSteps P boxes log ≡ replay P boxes log

@@ -1,5 +1,5 @@
 -- Laws of what reading a plan leaves. Assumes nothing.
-use mathlib.Core.Path.{_≡_, refl, sym, ap, _∙_}
+use mathlib.Core.Path.{_≡_, sym, ap, _∙_}
 use mathlib.Core.Bool.{true, false}
 use mathlib.Core.Option.{none, some}
 use mathlib.Core.List.{List}
@@ -17,8 +17,8 @@ use Rattle.plan_text.specs.declared.Scan.{Scan}
 use Rattle.plan_text.specs.declared.Scanned.{Scanned}
 use Rattle.plan_text.specs.declared.Scanned.the-variants.{Malformed, Whole}
 use Rattle.plan_text.specs.Text.{Read, mostBytes, readText}
-use Rattle.plan_text.specs.Entry.{mostSymbols, mostBounds, isEnough, readFault, PlanRead, endWith, unread, stored, readTested, readPlan}
-use Rattle.plan_text.specs.inner.Scanning.{calendarsAt, workTimesAt, heightsAt, section, storedPlan, storedBoxes, Holds, Scans}
+use Rattle.plan_text.specs.Entry.{mostSymbols, mostBounds, isEnough, readFault, endWith, unread, stored, readTested, readPlan}
+use Rattle.plan_text.specs.inner.Scanning.{calendarsAt, workTimesAt, heightsAt, section, storedBoxes, Holds, Scans}
 use Rattle.plan_text.proofs.Following.{plan-held, boxes-held}
 use Rattle.plan_text.proofs.Judging.{read-passed}
 

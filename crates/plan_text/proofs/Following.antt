@@ -6,15 +6,15 @@ use mathlib.Core.List.{List, [], _∷_, _++_, map, append-assoc, append-nil}
 use Prim.Native.Nat.{ℕ, _+_, _-_, _*_, _≤_, _<_}
 use native.Mathlib.Nat.{mul-suc}
 use native.Mathlib.Omega.{arith}
-use lib.Dec.{eqb, leb}
-use lib.ListN.{length, getD, drop, set, length-append, length-drop, length-map, length-set}
+use lib.Dec.{eqb}
+use lib.ListN.{length, getD, drop, set, length-append, length-drop, length-map}
 use borrow.Author.Tests.{eq-eqb, ne-eqb, eqb-true}
 use Rattle.units.specs.Choice.{_and_, onOption}
 use Rattle.units.specs.Cells.{writtenAt}
 use Rattle.units.specs.Limits.{mostTasks}
 use Rattle.units.proofs.Choices.{some-if, none-if, if-true, if-false, if-all}
 use Rattle.units.proofs.Cells.{written-one, written-length}
-use Rattle.plan.specs.Plan.{Plan, plan}
+use Rattle.plan.specs.Plan.{plan}
 use Rattle.plan_text.specs.declared.Scan.{Scan}
 use Rattle.plan_text.specs.declared.MaybeScan.{MaybeScan}
 use Rattle.plan_text.specs.declared.MaybeScan.the-variants.{Broken, Next}

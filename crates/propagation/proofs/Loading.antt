@@ -25,7 +25,6 @@ use Rattle.calendar.specs.declared.Fit.the-variants.{Never, Within}
 use Rattle.calendar.specs.Rule.{lst, ect}
 use Rattle.steps.specs.Load.{mustRun}
 use Rattle.propagation.specs.inner.Kept.{loadOf}
-use Rattle.propagation.specs.inner.Ready.{Ready}
 use Rattle.propagation.specs.inner.Finding.{partAt, Loaded}
 
 -- ---- the compulsory part of a task with a window

@@ -1,21 +1,21 @@
 -- Laws of the search for the first admitted step, over the answers that are kept: where a step of each kind is admitted, and what the search finds
 -- once it has passed over the tasks and the hours in which none is. Assumes nothing.
-use mathlib.Core.Path.{_≡_, refl, sym, ap, ap₂, _∙_}
+use mathlib.Core.Path.{_≡_, refl, sym, ap, _∙_}
 use mathlib.Core.Bool.{Bool, true, false, not}
 use mathlib.Core.Option.{Option, none, some}
 use mathlib.Core.List.{List}
-use Prim.Native.Nat.{ℕ, zero, suc, _+_, _≤_, _<_, min}
+use Prim.Native.Nat.{ℕ, _+_, _≤_, _<_, min}
 use native.Mathlib.Omega.{arith}
 use lib.Dec.{leb, ltb}
 use lib.ListN.{length, getD}
-use borrow.Author.Tests.{lt-ltb, le-ltb, le-leb, lt-leb, ltb-true, ltb-false}
+use borrow.Author.Tests.{lt-ltb, le-ltb, le-leb, lt-leb}
 use Rattle.units.specs.Choice.{_and_, if_then_else_, someIf, _orElse_, firstOf}
 use Rattle.units.specs.Limits.{hour, height, isHour}
 use Rattle.units.specs.declared.Hour.{Hour}
 use Rattle.units.specs.declared.Height.{Height}
 use Rattle.units.specs.declared.Bounds.{Bounds}
 use Rattle.units.proofs.Choices.{and-both, not-left, not-right, if-true, if-all, none-if}
-use Rattle.units.proofs.Choices.{else-none, else-some, first-none, first-all-none, first-next}
+use Rattle.units.proofs.Choices.{first-all-none, first-next}
 use Rattle.units.proofs.Choices.{first-hit}
 use Rattle.plan.specs.Boxes.{boundsAt}
 use Rattle.units.proofs.Choices.{and-rest, first-eq, first-rest, outer-ends, outer-goes-on}
@@ -29,7 +29,6 @@ use Rattle.steps.specs.declared.Judged.the-variants.{Unknown, NotAdmitted, Impo
 use Rattle.steps.specs.Steps.{step, letterC, letterO, Kind, kindC, kindO, kindL, kindU, kindOf, isStep, onFit, sameBounds}
 use Rattle.steps.specs.Filter.{firstOfKind, firstBy, filterOrder}
 use Rattle.propagation.specs.inner.Kept.{loadOf, exceeds, onJudged, calendarBy, lowerBy, upperBy, moveBy, boundBy, judgeKindBy, judgeBy, admittedBy}
-use Rattle.propagation.specs.inner.Ready.{Ready}
 use Rattle.propagation.specs.inner.Finding.{admits, letterOf, firstHour, endHour, Loaded, firstCalendar, firstOverload, firstExcess}
 
 -- ---- the first of several

@@ -1,5 +1,5 @@
 -- Laws of a turn: the step that the code finds and judges is the step that stands next, with what it comes to. Assumes nothing.
-use mathlib.Core.Path.{_≡_, refl, sym, ap, ap₂, _∙_}
+use mathlib.Core.Path.{_≡_, sym, ap, ap₂, _∙_}
 use mathlib.Core.Option.{Option, none, some}
 use mathlib.Core.List.{List}
 use Prim.Native.Nat.{ℕ}
@@ -14,7 +14,7 @@ use Rattle.calendar.specs.declared.Fit.{Fit}
 use Rattle.steps.specs.declared.Step.{Step}
 use Rattle.steps.specs.declared.Judged.{Judged}
 use Rattle.steps.specs.declared.Judged.the-variants.{Unknown, NotAdmitted, Impossible, Moved}
-use Rattle.steps.specs.Steps.{Judgement, impossible, moved, judge}
+use Rattle.steps.specs.Steps.{impossible, moved, judge}
 use Rattle.steps.specs.Filter.{Admitted, stops, moves, stepOf, firstBy, filterOrder, next}
 use Rattle.steps.proofs.Searches.{Rightly, next-rightly}
 use Rattle.propagation.specs.declared.turn.Turn.{Turn}

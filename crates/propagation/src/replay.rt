@@ -2,13 +2,11 @@
 use crate::entry;
 use crate::judge;
 use crate::kept;
-use calendar::Fit;
 use plan::Refusal;
 use plan::Tested;
 use steps::Judged;
 use steps::LogChecked;
 use steps::Step;
-use units::Bounds;
 use units::Duration;
 use units::Height;
 ghost use mathlib.Core.Bool.{true};

@@ -1,13 +1,13 @@
 -- The whole claim about logs holds for every plan that passes the tests, with boxes of the right number: for any log checker that replays the log
 -- and any filter that leaves what the run leaves, and so for those over three slices. Assumes nothing.
-use mathlib.Core.Path.{_≡_, refl, sym, ap, _∙_, subst}
+use mathlib.Core.Path.{_≡_, refl, sym, subst}
 use mathlib.Core.Option.{none}
-use mathlib.Core.List.{List, map}
-use Prim.Native.Nat.{ℕ, _*_}
+use mathlib.Core.List.{List}
+use Prim.Native.Nat.{ℕ}
 use lib.ListN.{length, length-map}
 use Rattle.units.specs.Cells.{written}
 use Rattle.units.specs.Choice.{onOption}
-use Rattle.plan.specs.Plan.{Plan, taskCount}
+use Rattle.plan.specs.Plan.{Plan}
 use Rattle.plan.specs.Faults.{inputFault}
 use Rattle.steps.specs.declared.Step.{Step}
 use Rattle.steps.specs.Log.{LogEnd, replay}

@@ -1,6 +1,6 @@
 -- The claims that the contracts of the log checker and of the filter carry, over their definitions. Assumes nothing.
 use mathlib.Core.Path.{_≡_, refl, sym, ap, _∙_, subst}
-use mathlib.Core.Bool.{Bool, true, false, false≢true}
+use mathlib.Core.Bool.{true, false, false≢true}
 use mathlib.Core.Option.{Option, none, some}
 use mathlib.Core.List.{List, [], _∷_, _++_, map, append-nil}
 use Prim.Native.Nat.{ℕ, zero, suc, _+_, _*_, _<_}
@@ -9,12 +9,12 @@ use native.Mathlib.Omega.{arith}
 use lib.ListN.{length, length-map}
 use borrow.Author.Tests.{eq-eqb, eqb-true}
 use Rattle.units.specs.Cells.{written}
-use Rattle.units.specs.Choice.{onOption, _orElse_, firstOf}
-use Rattle.units.proofs.Choices.{and-both, and-left, and-right, none≢some, option-all, if-some, else-case, neither, first-at}
+use Rattle.units.specs.Choice.{onOption}
+use Rattle.units.proofs.Choices.{and-both, and-left, and-right, none≢some, option-all, neither}
 use Rattle.plan.specs.Plan.{Plan, taskCount}
 use Rattle.plan.specs.Boxes.{boundsAt}
-use Rattle.plan.specs.Refusals.{Fault, fault, unless, refused, answered, answerUnless}
-use Rattle.plan.specs.Faults.{oneForEachTask, planFault, inputFault}
+use Rattle.plan.specs.Refusals.{Fault, fault, refused, answered, answerUnless}
+use Rattle.plan.specs.Faults.{oneForEachTask, inputFault}
 use Rattle.plan.proofs.Refusals.{unless-none, go-on}
 use Rattle.plan.proofs.Numbers.{by-unless, by-either, plan-numbers, input-numbers}
 use Rattle.steps.specs.declared.Step.{Step}

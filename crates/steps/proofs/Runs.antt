@@ -1,7 +1,7 @@
 -- Laws of a run (Filter), for any choice of the step that stands next: one turn, the replay of its own log, its count, how it ends, and that it goes
 -- on; then for the filter. Assumes nothing.
 use mathlib.Core.Path.{_≡_, refl, ap, _∙_}
-use mathlib.Core.Bool.{true, false}
+use mathlib.Core.Bool.{false}
 use mathlib.Core.Option.{Option, none, some}
 use mathlib.Core.List.{List, [], _∷_, _++_}
 use Prim.Native.Nat.{ℕ, zero, suc, _+_, _*_, _≤_}

@@ -8,7 +8,7 @@ use native.Mathlib.Numerals.{add-one}
 use native.Mathlib.Omega.{arith}
 use lib.Dec.{ltb}
 use lib.ListN.{length, take, drop, set, length-append, length-set}
-use lib.Seq.{take-all, take-length, take-append-le, take-suc-set}
+use lib.Seq.{take-all, take-append-le, take-suc-set}
 use borrow.Author.Tests.{ltb-true, ltb-false}
 use Rattle.units.specs.Choice.{onOption}
 use Rattle.text.specs.Fields.{tab, parts, firstAt}
@@ -16,7 +16,7 @@ use Rattle.text.specs.Numbers.{numberOf, numbersOf}
 use Rattle.text.specs.Reading.{Gathers, NumbersMade}
 use Rattle.text.specs.declared.MaybeNumbers.{MaybeNumbers}
 use Rattle.text.specs.declared.MaybeNumbers.the-variants.{NotNumbers, Count}
-use Rattle.text.proofs.Parts.{rest-of, end-in, part-length, part-first, part-last, part-more, next-in, rest-length}
+use Rattle.text.proofs.Parts.{rest-of, end-in, part-length, part-first, part-last, part-more, next-in}
 use Rattle.text.proofs.Numbers.{number-some}
 
 -- numbers read before others

@@ -1,4 +1,4 @@
-use mathlib.Core.Path.{refl, sym, _∙_}
+use mathlib.Core.Path.{_∙_}
 use Rattle.plan_text.proofs.Entry.{scans-malformed, scans-whole, read-malformed, read-whole}
 use borrow.Author.Needs.{needs}
 use Rattle.plan_text.proofs.read_plan.Statement.{statement}

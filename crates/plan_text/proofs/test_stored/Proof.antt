@@ -1,9 +1,6 @@
-use mathlib.Core.Path.{_≡_, sym, ap₂, _∙_}
-use mathlib.Core.List.{List}
-use Prim.Native.Nat.{ℕ, _*_}
+use mathlib.Core.Path.{sym}
+use Prim.Native.Nat.{_*_}
 use native.Mathlib.Omega.{arith}
-use Rattle.plan.specs.Faults.{oneForEachTask, planFault}
-use Rattle.plan.specs.Plan.{Plan, plan}
 use Rattle.plan_text.specs.inner.Scanning.{calendarsAt, workTimesAt, heightsAt, boxesAt}
 use Rattle.plan_text.proofs.Sections.{section-part, section-length}
 use Rattle.plan_text.proofs.Judging.{parts-each}

@@ -1,5 +1,4 @@
 use mathlib.Core.Path.{sym, ap, _∙_}
-use Prim.Native.Nat.{_*_}
 use native.Mathlib.Omega.{arith}
 use Rattle.plan_text.specs.declared.PlanReading.{PlanReading}
 use Rattle.units.specs.Limits.{mostTasks}

@@ -7,7 +7,7 @@ use borrow.Author.Needs.{needs}
 use Rattle.units.specs.Choice.{someIf, firstOf}
 use Rattle.units.specs.Limits.{height}
 use Rattle.units.specs.declared.Hour.{Hour}
-use Rattle.units.proofs.Choices.{some-if, none-if, first-next, first-end}
+use Rattle.units.proofs.Choices.{some-if, none-if, first-end}
 use Rattle.units.proofs.Hours.{before, not-before}
 use Rattle.units.proofs.Heights.{number-of}
 use Rattle.steps.specs.Steps.{step}

@@ -1,4 +1,4 @@
-use mathlib.Core.Path.{sym, ap, _∙_}
+use mathlib.Core.Path.{ap}
 use native.Mathlib.Omega.{arith}
 use Rattle.propagation.specs.inner.Kept.{foundStep}
 use Rattle.propagation.proofs.Searching.{by-load, next-calendar, next-by-load}

@@ -1,6 +1,4 @@
-use mathlib.Core.Path.{ap, _∙_}
-use Rattle.steps.specs.declared.Judged.{Judged}
-use Rattle.propagation.specs.declared.turn.Turn.{Turn}
+use mathlib.Core.Path.{ap}
 use Rattle.propagation.specs.inner.Kept.{foundStep}
 use Rattle.propagation.proofs.Keeping.{moved-there}
 use Rattle.propagation.proofs.Turning.{turn-settles, turn-found, judged-of, never-moves}
