@@ -7,20 +7,20 @@ use Prim.Native.Nat.{ℕ, _+_, _-_, _≤_, _<_, min}
 use native.Mathlib.Omega.{arith}
 use lib.ListN.{length, take, drop, take-append-drop, length-take, length-drop}
 use lib.Seq.{length-take-le, take-all, drop-drop}
-use borrow.Author.Tests.{leb-true, leb-false, eq-eqb}
-use Rattle.units.specs.Choice.{_and_, onOption, _orElse_}
-use Rattle.units.proofs.Choices.{none≢some, and-both}
+use borrow.Author.Tests.{leb-true, leb-false}
+use Rattle.units.specs.Choice.{onOption}
+use Rattle.units.proofs.Choices.{none≢some}
 use Rattle.plan.specs.Plan.{Plan}
-use Rattle.plan.specs.Refusals.{Fault, unless, Answer, refused, answered, answerUnless, faultOf}
-use Rattle.plan.specs.Faults.{oneForEachTask, planFault, inputFault}
+use Rattle.plan.specs.Refusals.{Fault, Answer, refused, answered, answerUnless, faultOf}
+use Rattle.plan.specs.Faults.{inputFault}
 use Rattle.plan.specs.declared.Refusal.{Refusal}
 use Rattle.steps.specs.declared.Step.{Step}
 use Rattle.steps.specs.declared.LogChecked.{LogChecked}
 use Rattle.steps.specs.declared.LogChecked.the-variants as checked
 use Rattle.steps.specs.Log.{LogEnd, logEnd, replayFrom, replay}
-use Rattle.steps.specs.Entry.{oneForEachStep, entryFault, Accepted, checkAnswer, logAnswer}
+use Rattle.steps.specs.Entry.{entryFault, Accepted, checkAnswer, logAnswer}
 use Rattle.steps.specs.inner.From.{checkFrom}
-use Rattle.steps.proofs.Contracts.{refused≢answered}
+use Rattle.steps.proofs.Contracts.{refused≢answered, same-fault}
 use Rattle.log.specs.declared.part.Part.{Part}
 use Rattle.log.specs.declared.part.PartChecked.{PartChecked}
 use Rattle.log.specs.Entry.{checkSteps}
@@ -54,28 +54,8 @@ accepted-end e k said q = go (e .refusal) q
         (refl, ap (λ (a : Accepted). a .steps) z, ap (λ (a : Accepted). a .impossible) z)
     go (some g) r = refused≢answered (sym r)
 
-pub end-refused : (e : LogEnd) (f : Fault) → e .refusal ≡ some f → refused f ≡ checkAnswer e
-unfolding checkAnswer answerUnless
-end-refused e f q = rw q
+-- ---- the core's faults, lent the first cells of three arrays
 
-pub end-accepted : (e : LogEnd) → e .refusal ≡ none → answered (record { steps = e .steps; impossible = e .impossible }) ≡ checkAnswer e
-unfolding checkAnswer answerUnless
-end-accepted e q = rw q
-
--- ---- the core's faults, lent three slices of one length
-
-pub same-fault : (P : Plan) (boxes ks ts hs : List ℕ) → length ts ≡ length ks → length hs ≡ length ks → entryFault P boxes ks ts hs ≡ inputFault P boxes
-unfolding entryFault inputFault oneForEachStep
-same-fault P boxes ks ts hs t h =
-    ap (λ (b : Bool). unless b 31 0 orElse planFault P boxes)
-    (and-true (oneForEachTask (P .shifts .taskCalendars) (P .shifts .workTimes) (P .heights) boxes) _
-    (and-both _ _ (eq-eqb (length ts) (length ks) t) (eq-eqb (length hs) (length ks) h)))
-  where
-    and-true : (a b : Bool) → b ≡ true → (a and b) ≡ a
-    and-true true b e = unfold _and_ in e
-    and-true false b e = unfold _and_ in refl
-
--- the first cells of three arrays
 pub lent-fault : (P : Plan) (boxes ks ts hs : List ℕ) (n : ℕ) → n ≤ length ks → n ≤ length ts → n ≤ length hs
     → entryFault P boxes (take n ks) (take n ts) (take n hs) ≡ inputFault P boxes
 lent-fault P boxes ks ts hs n l m o =

@@ -42,9 +42,6 @@ module _ (w : Window) (height load capacity t : ℕ) where
   unfolding exceeds
   exceeds-out e = ap (ltb capacity) (if-false _ _ _ e)
 
-  pub exceeds-by : (n : ℕ) (r : Bool) → n ≡ load → r ≡ exceeds w height n capacity t → r ≡ exceeds w height load capacity t
-  exceeds-by n r e q = rw (← e) q
-
 -- ---- a task with no valid triple, and one with a window
 
 module _ {A : Type 0} (fit : Fit) (a : A) (f : Window → A) where

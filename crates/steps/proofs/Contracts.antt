@@ -1,6 +1,6 @@
 -- The claims that the contracts of the log checker and of the filter carry, over their definitions. Assumes nothing.
 use mathlib.Core.Path.{_≡_, refl, sym, ap, _∙_, subst}
-use mathlib.Core.Bool.{true, false, false≢true}
+use mathlib.Core.Bool.{Bool, true, false, false≢true}
 use mathlib.Core.Option.{Option, none, some}
 use mathlib.Core.List.{List, [], _∷_, _++_, map, append-nil}
 use Prim.Native.Nat.{ℕ, zero, suc, _+_, _*_, _<_}
@@ -9,12 +9,12 @@ use native.Mathlib.Omega.{arith}
 use lib.ListN.{length, length-map}
 use borrow.Author.Tests.{eq-eqb, eqb-true}
 use Rattle.units.specs.Cells.{written}
-use Rattle.units.specs.Choice.{onOption}
+use Rattle.units.specs.Choice.{_and_, onOption, _orElse_}
 use Rattle.units.proofs.Choices.{and-both, and-left, and-right, none≢some, option-all, neither}
 use Rattle.plan.specs.Plan.{Plan, taskCount}
 use Rattle.plan.specs.Boxes.{boundsAt}
-use Rattle.plan.specs.Refusals.{Fault, fault, refused, answered, answerUnless}
-use Rattle.plan.specs.Faults.{oneForEachTask, inputFault}
+use Rattle.plan.specs.Refusals.{Fault, fault, unless, refused, answered, answerUnless}
+use Rattle.plan.specs.Faults.{oneForEachTask, planFault, inputFault}
 use Rattle.plan.proofs.Refusals.{unless-none, go-on}
 use Rattle.plan.proofs.Numbers.{by-unless, by-either, plan-numbers, input-numbers}
 use Rattle.steps.specs.declared.Step.{Step}
@@ -52,19 +52,25 @@ module _ (P : Plan) (boxes : List ℕ) where
   unfolding inputFault oneForEachTask taskCount
   first-sized e = eqb-true _ _ (and-right _ _ (and-right _ _ (unless-none _ 31 0 (neither _ _ e .0))))
 
-  -- the tests of a log checker and of a filter are those of the plan and the boxes, and that of the log's slices
+  -- the tests of a log checker and of a filter are those of the plan and the boxes, and that of the log's slices; where these are of one length, just
+  -- the former
   entry-input : (kinds tasks hours : List ℕ) → entryFault P boxes kinds tasks hours ≡ none → inputFault P boxes ≡ none
   unfolding entryFault inputFault
   entry-input kinds tasks hours e =
       let faults = neither _ _ e in
       go-on _ 31 0 _ (and-left _ _ (unless-none _ 31 0 (faults .0))) ∙ faults .1
 
-  input-entry : (kinds tasks hours : List ℕ) → inputFault P boxes ≡ none → oneForEachStep kinds tasks hours ≡ true
-      → entryFault P boxes kinds tasks hours ≡ none
-  unfolding entryFault inputFault
-  input-entry kinds tasks hours e each =
-      let faults = neither _ _ e in
-      go-on _ 31 0 _ (and-both _ _ (unless-none _ 31 0 (faults .0)) each) ∙ faults .1
+  pub same-fault : (kinds tasks hours : List ℕ) → length tasks ≡ length kinds → length hours ≡ length kinds
+      → entryFault P boxes kinds tasks hours ≡ inputFault P boxes
+  unfolding entryFault inputFault oneForEachStep
+  same-fault kinds tasks hours t h =
+      ap (λ (b : Bool). unless b 31 0 orElse planFault P boxes)
+      (and-true (oneForEachTask (P .shifts .taskCalendars) (P .shifts .workTimes) (P .heights) boxes) _
+      (and-both _ _ (eq-eqb (length tasks) (length kinds) t) (eq-eqb (length hours) (length kinds) h)))
+    where
+      and-true : (a b : Bool) → b ≡ true → (a and b) ≡ a
+      and-true true b e = unfold _and_ in e
+      and-true false b e = unfold _and_ in refl
 
 -- ---- the log checker
 
@@ -238,13 +244,12 @@ records-in log =
     ∙ steps-written log [] [] []
 
 module _ (P : Plan) (boxes : List ℕ) where
-  -- they number one for each step
+  -- they are of one length
   pub records-pass : inputFault P boxes ≡ none
       → (log : List Step) → entryFault P boxes (map (λ x. x .kind) log) (map (λ x. x .task) log) (map (λ x. x .hour) log) ≡ none
-  unfolding oneForEachStep
   records-pass e log =
       let same = sym (length-map log (λ x. x .kind)) in
-      input-entry P boxes _ _ _ e (and-both _ _ (eq-eqb _ _ (length-map log (λ x. x .task) ∙ same)) (eq-eqb _ _ (length-map log (λ x. x .hour) ∙ same)))
+      same-fault P boxes _ _ _ (length-map log (λ x. x .task) ∙ same) (length-map log (λ x. x .hour) ∙ same) ∙ e
 
   pub records-replay : inputFault P boxes ≡ none → (log : List Step) → checkRecords P boxes log ≡ replay P boxes log
   unfolding checkRecords checkLog onOption

@@ -43,18 +43,6 @@ module _ (kind : ℕ → Bool) (lower upper : ℕ) where
   unfolding isRange
   is-range p q r = and-both _ _ p (and-both _ _ q (le-leb lower upper r))
 
-  pub lower-out : kind lower ≡ false → isRange kind lower upper ≡ false
-  unfolding isRange
-  lower-out p = not-left _ _ p
-
-  pub upper-out : kind upper ≡ false → isRange kind lower upper ≡ false
-  unfolding isRange
-  upper-out p = not-right _ _ (not-left _ _ p)
-
-  pub crossed : upper < lower → isRange kind lower upper ≡ false
-  unfolding isRange
-  crossed p = not-right _ _ (not-right _ _ (lt-leb lower upper p))
-
   pub lower-in : isRange kind lower upper ≡ true → kind lower ≡ true
   unfolding isRange
   lower-in e = and-left _ _ e
