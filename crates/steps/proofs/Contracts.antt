@@ -243,6 +243,23 @@ records-in log =
     (sym (append-nil (map (λ x. x .hour) log)) i) 0 (length log))
     ∙ steps-written log [] [] []
 
+-- and any three slices of one length are those of a list of records
+pub slices-of : (kinds tasks hours : List ℕ) → length tasks ≡ length kinds → length hours ≡ length kinds
+    → let log = stepsIn kinds tasks hours in
+    (map (λ x. x .kind) log ≡ kinds) × (map (λ x. x .task) log ≡ tasks) × (map (λ x. x .hour) log ≡ hours)
+unfolding stepsIn stepsFrom stepAt
+slices-of [] [] [] t h = (refl, refl, refl)
+slices-of [] (b ∷ ts) hs t h = absurd (omega arith)
+slices-of [] [] (c ∷ hs) t h = absurd (omega arith)
+slices-of (a ∷ ks) [] hs t h = absurd (omega arith)
+slices-of (a ∷ ks) (b ∷ ts) [] t h = absurd (omega arith)
+slices-of (a ∷ ks) (b ∷ ts) (c ∷ hs) t h =
+    let u : length ts ≡ length ks = omega arith in
+    let i : length hs ≡ length ks = omega arith in
+    let rest = slices-of ks ts hs u i in
+    rw (steps-shift a b c ks ts hs 0 (length ks))
+    (ap (λ (l : List ℕ). a ∷ l) (rest .0), ap (λ (l : List ℕ). b ∷ l) (rest .1), ap (λ (l : List ℕ). c ∷ l) (rest .2))
+
 module _ (P : Plan) (boxes : List ℕ) where
   -- they are of one length
   pub records-pass : inputFault P boxes ≡ none
