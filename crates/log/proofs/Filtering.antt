@@ -21,13 +21,13 @@ use Rattle.steps.specs.declared.Step.{Step}
 use Rattle.steps.specs.declared.Filtered.{Filtered}
 use Rattle.steps.specs.Log.{LogEnd, replay}
 use Rattle.steps.specs.Filter.{next, Ending, settled, impossible, noRoom, Run, count, ended, after, run}
-use Rattle.steps.specs.Entry.{stepsFrom, FilterAnswer, refusedBy, endingAnswer, FilterEnd, filterEnd, filterAnswer}
+use Rattle.steps.specs.Entry.{stepsFrom, FilterAnswer, countOf, refusedBy, endingAnswer, FilterEnd, filterEnd, filterAnswer}
 use Rattle.steps.specs.inner.From.{loggedFrom, filterFrom}
 use Rattle.steps.proofs.Runs.{run-settled, run-stops, run-moves, run-all, run-replays, run-fits, resumed, run-resumes}
 use Rattle.steps.proofs.Contracts.{steps-written}
 use Rattle.log.specs.declared.part.PartFiltered.{PartFiltered}
 use Rattle.log.specs.Entry.{stepsEnd, loggedSteps, filterSteps}
-use Rattle.log.specs.inner.Parts.{partSize, partSteps, countOf, goesOn, filteredPart, partRun, RanAs, RefusedAs, FilteredAs}
+use Rattle.log.specs.inner.Parts.{partSize, partSteps, goesOn, filteredPart, partRun, RanAs, RefusedAs, FilteredAs}
 use Rattle.log.proofs.Passing.{replay-passes}
 use Rattle.log.proofs.Checking.{lent-fault}
 

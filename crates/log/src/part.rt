@@ -6,8 +6,8 @@ ghost use mathlib.Core.Path.{_≡_};
 ghost use mathlib.Core.List.{[], _∷_, _++_};
 ghost use Prim.Native.Nat.{_+_, _-_, _^_, _≤_, _<_, min};
 ghost use Rattle.plan.specs.Lent.{old, left, oldPlan};
-ghost use Rattle.steps.specs.Entry.{stepAt, filterAnswer};
-ghost use Rattle.log.specs.inner.Parts.{partSize, partSteps, Sized, checkedPart, checkStepsFrom, CheckedAs, countOf, goesOn, filteredPart, FilteredAs};
+ghost use Rattle.steps.specs.Entry.{stepAt, countOf, filterAnswer};
+ghost use Rattle.log.specs.inner.Parts.{partSize, partSteps, Sized, checkedPart, checkStepsFrom, CheckedAs, goesOn, filteredPart, FilteredAs};
 
 // The kinds, the tasks and the hours of its steps stand in the first cells, as many as the count.
 pub struct Part {

@@ -21,7 +21,7 @@ use Rattle.steps.specs.Filter.{onAdmitted, ifAdmitted, firstOfKind, firs
 use Rattle.units.specs.Extremes.{least, greatest}
 use Rattle.plan.specs.HourKinds.{isSymbol, isKind}
 use Rattle.steps.specs.Entry.{stepAt, stepsFrom, oneForEachStep, entryFault, endingAnswer, logged, filterPlan, leftBy, filterRecords}
-use Rattle.steps.specs.Weeks.{weeks, countOf, left, outcomeOf, hoursHeld}
+use Rattle.steps.specs.Weeks.{weeks, left, outcomeOf, hoursHeld}
 use Rattle.units.specs.Cells.{written}
 
 pub weeks-come-out : map (λ w. outcomeOf (w .week)) weeks ≡ map (λ w. w .outcome) weeks
@@ -31,5 +31,5 @@ unfolding _and_ if_then_else_ someIf onOption _orElse_ firstOf sumTo sumWhere co
     oneTaskFault taskFault tasksFault planFault inputFault isKind hoursOf overtimeEnds valid each over lasting starting validTriples least greatest
     spread fitOf ruleOf oneTask calendarRule fitAt mustRun load othersLoad excess kindOf isStep onJudgement onFit sameBounds withEarliest withLatest
     judgeC judgeO judgeL judgeU judgeKind judge onAdmitted ifAdmitted firstOfKind firstBy filterOrder nextBy after runBy written stepAt stepsFrom
-    oneForEachStep entryFault endingAnswer logged filterPlan leftBy filterRecords weeks countOf left outcomeOf hoursHeld
+    oneForEachStep entryFault endingAnswer logged filterPlan leftBy filterRecords weeks left outcomeOf hoursHeld
 weeks-come-out = refl

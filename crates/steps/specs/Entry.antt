@@ -65,6 +65,13 @@ pub data FilterAnswer : Type 0 where
   noRoomFor : Fault → ℕ → FilterAnswer
   settledAfter impossibleAfter : ℕ → FilterAnswer
 
+-- the steps taken by an answer, of which so many before; a refusal takes none
+abbrev pub countOf : ℕ → FilterAnswer → ℕ
+countOf taken (refusedBy f) = taken
+countOf taken (noRoomFor f n) = n
+countOf taken (settledAfter n) = n
+countOf taken (impossibleAfter n) = n
+
 unfoldable pub endingAnswer : Ending → ℕ → FilterAnswer
 endingAnswer settled n = settledAfter n
 endingAnswer impossible n = impossibleAfter n

@@ -19,7 +19,7 @@ use Rattle.steps.specs.Load.{mustRun}
 use Rattle.steps.specs.Steps.{step, letterC, letterO, letterL, letterU}
 use Rattle.plan.specs.HourKinds.{regular, closed, overtime}
 use Rattle.steps.specs.declared.Step.{Step}
-use Rattle.steps.specs.Entry.{FilterAnswer, refusedBy, noRoomFor, settledAfter, impossibleAfter, FilterLeft, filterRecords}
+use Rattle.steps.specs.Entry.{FilterAnswer, noRoomFor, settledAfter, impossibleAfter, countOf, FilterLeft, filterRecords}
 
 abbrev pub bounds : ℕ → ℕ → ℕ → ℕ → ℕ → ℕ → Bounds
 bounds s₁ s₂ e₁ e₂ o₁ o₂ =
@@ -55,14 +55,8 @@ hoursHeld fit zero = []
 hoursHeld fit (suc n) = hoursHeld fit n ++ (if mustRun fit n then n ∷ [] else [])
 
 -- what the filter answers, the boxes that it leaves, and its own log: the first cells, as many as its count
-unfoldable pub countOf : FilterAnswer → ℕ
-countOf (refusedBy f) = 0
-countOf (noRoomFor f n) = n
-countOf (settledAfter n) = n
-countOf (impossibleAfter n) = n
-
 unfoldable pub left : FilterLeft → Outcome
-left l = leaves (l .answer) (l .boxes) (l .first (countOf (l .answer)))
+left l = leaves (l .answer) (l .boxes) (l .first (countOf 0 (l .answer)))
 
 unfoldable pub outcomeOf : Week → Outcome
 outcomeOf (rule cal p b) = fits (calendarRule cal p b)

@@ -3,10 +3,10 @@ use mathlib.Core.Path.{_≡_, refl, ap, _∙_}
 use mathlib.Core.List.{List, [], _∷_, _++_}
 use Prim.Native.Nat.{ℕ, _+_, _≤_, _<_}
 use native.Mathlib.Omega.{arith}
-use lib.ListN.{length, set, length-append}
+use lib.ListN.{length, set, getD, length-append}
 use lib.Seq.{paste, paste-zero}
 use Rattle.units.specs.Cells.{written}
-use Rattle.units.proofs.Cells.{paste-end, written-one, written-both, written-start, written-length}
+use Rattle.units.proofs.Cells.{paste-next, paste-end, written-one, written-both, written-start, written-length}
 use Rattle.text.specs.Putting.{Put}
 
 pub put-none : (at : ℕ) (cells : List ℕ) → Put [] at cells at cells
@@ -15,7 +15,11 @@ put-none at cells = record { place = omega arith; cells-left = paste-zero cells 
 pub put-one : (x at : ℕ) (cells : List ℕ) → at < length cells → Put (x ∷ []) at cells (at + 1) (set cells at x)
 put-one x at cells l = record { place = refl; cells-left = written-one at x cells l }
 
--- cell by cell, up to the last
+-- cell by cell: one more, and up to the last
+pub paste-more : (cells : List ℕ) (at : ℕ) (xs : List ℕ) (i : ℕ) {left : List ℕ} → left ≡ paste cells at xs i → at + i < length cells → i < length xs
+    → set left (at + i) (getD xs i 0) ≡ paste cells at xs (i + 1)
+paste-more cells at xs i e h k = ap (λ (l : List ℕ). set l (at + i) (getD xs i 0)) e ∙ paste-next cells at xs i 0 h k
+
 pub put-pasted : {xs : List ℕ} {at i : ℕ} {cells left : List ℕ} → left ≡ paste cells at xs i → i ≡ length xs → Put xs at cells (at + length xs) left
 put-pasted {xs} {at} {i} {cells} e h =
     record { place = refl; cells-left = e ∙ ap (λ (n : ℕ). paste cells at xs n) h ∙ paste-end cells at xs }

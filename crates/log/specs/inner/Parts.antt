@@ -19,7 +19,7 @@ use Rattle.steps.specs.Steps as steps
 use Rattle.steps.specs.Log.{LogEnd, logEnd, replayFrom}
 use Rattle.steps.specs.Filter.{Run, noRoom, count, run}
 use Rattle.steps.specs.Entry.{stepsFrom, Accepted, checkAnswer, logAnswer, FilterAnswer, refusedBy}
-use Rattle.steps.specs.Entry.{noRoomFor, settledAfter, impossibleAfter, endingAnswer, filterAnswer}
+use Rattle.steps.specs.Entry.{countOf, noRoomFor, settledAfter, impossibleAfter, endingAnswer, filterAnswer}
 use Rattle.log.specs.declared.part.Part.{Part}
 use Rattle.log.specs.declared.part.PartChecked.{PartChecked}
 use Rattle.log.specs.declared.part.PartFiltered.{PartFiltered}
@@ -58,13 +58,6 @@ pub record CheckedAs (e : LogEnd) (count : ℕ) (r : PartChecked) (left : List �
   pub ends : r .more ≡ false → e .refusal ≡ none → count < partSize
 
 -- ---- the filter
-
--- the steps taken by an answer, of which so many before; a refusal takes none
-abbrev pub countOf : ℕ → FilterAnswer → ℕ
-countOf taken (refusedBy f) = taken
-countOf taken (noRoomFor f n) = n
-countOf taken (settledAfter n) = n
-countOf taken (impossibleAfter n) = n
 
 -- it goes on only where it stopped for room, with room in all
 abbrev pub goesOn : ℕ → FilterAnswer → Bool
