@@ -1,4 +1,5 @@
-"""Document 01 in plain Python, written from its text alone and from no code of the product. tests/compare holds the library to it.
+"""Document 01, with 02's W-201, in plain Python, written from their text alone and from no code of the product. tests/compare holds the library
+to it.
 
 A calendar is bytes of r, c, o. A box is six numbers: S, E, O, the lower bound first. A step is (kind, task, hour), its kind a byte's number. A
 refusal is (number, place)."""
@@ -14,6 +15,7 @@ MOST_HEIGHT = 1000
 MOST_CAPACITY = 60000
 MOST_NUMBER = 65535
 MOST_BYTES = 32768
+MOST_WRITTEN = 19296
 PROGRAM_ROOM = 2048
 
 # The valid triples of a box with more triples than this are found by counts, and of any other by listing; tests/compare holds the two to each
@@ -395,6 +397,26 @@ def read_plan(text, enough=True):
     boxes = [tuple(task[3:]) if len(task) == 9 else (0, hours - 1, task[1], hours, 0, task[1]) for task in tasks]
     refusal = plan_fault(plan, boxes)
     return (refusal, None) if refusal else (None, (plan, len(calendars), boxes))
+
+
+def plan_text(plan, boxes):
+    """A plan as text, every task line with all its bounds."""
+    lines = [b"plan\t%d\t%d\n" % (plan.hours, plan.capacity)]
+    for first in range(0, len(plan.calendars), plan.hours):
+        lines.append(b"cal\t" + plan.calendars[first : first + plan.hours] + b"\n")
+    for task, box in enumerate(boxes):
+        fields = (plan.task_calendars[task], plan.work_times[task], plan.heights[task], *box)
+        lines.append(b"task\t" + b"\t".join(b"%d" % n for n in fields) + b"\n")
+    return b"".join(lines)
+
+
+def write_plan(plan, boxes, room):
+    """A refusal and None, or None and the text; the room is the length of the memory to write to."""
+    refusal = plan_fault(plan, boxes)
+    if refusal:
+        return refusal, None
+    text = plan_text(plan, boxes)
+    return ((33, 0), None) if room < len(text) else (None, text)
 
 
 def listing(text):

@@ -25,13 +25,14 @@
 extern "C" {
 #endif
 
-/* The limits of a plan; the most bytes of a plan text. */
+/* The limits of a plan; the most bytes of a plan text that is read, and the bytes that hold every text that is written. */
 #define SHIMLANTERN_MOST_HOURS 1008
 #define SHIMLANTERN_MOST_CALENDARS 16
 #define SHIMLANTERN_MOST_TASKS 64
 #define SHIMLANTERN_MOST_HEIGHT 1000
 #define SHIMLANTERN_MOST_CAPACITY 60000
 #define SHIMLANTERN_MOST_TEXT 32768
+#define SHIMLANTERN_MOST_WRITTEN 19296
 
 /* The memory that reading a plan needs: so many symbols, SHIMLANTERN_MOST_TASKS cells for each field of a task, so many bounds. And the bytes that
    hold every listing. */
@@ -59,7 +60,8 @@ enum {
     SHIMLANTERN_REFUSED_NOT_VALID = 15,        /* a triple that is not valid; the task */
     SHIMLANTERN_REFUSED_OVER_CAPACITY = 16,    /* the running tasks exceed the capacity; the first such hour */
     SHIMLANTERN_REFUSED_MEMORY_SIZE = 31,      /* lent memory is of the wrong size */
-    SHIMLANTERN_REFUSED_NO_ROOM = 32           /* the log has no room for the next step */
+    SHIMLANTERN_REFUSED_NO_ROOM = 32,          /* the log has no room for the next step */
+    SHIMLANTERN_REFUSED_OUTPUT_SIZE = 33       /* the memory to write to is shorter than the text */
 };
 
 /* The places of a box and of a triple. */
@@ -133,6 +135,15 @@ enum {
 void shimlantern_read_plan(const uint8_t *text, size_t text_length, uint8_t *calendars, size_t calendars_length, uint16_t *task_calendars,
                            size_t task_calendars_length, uint16_t *work_times, size_t work_times_length, uint16_t *heights,
                            size_t heights_length, uint16_t *boxes, size_t boxes_length, uint64_t answer[6]);
+
+/* Writes a plan as plan text, every task line with all its bounds; read again, it gives the same plan. `out` may have any length; less than the
+   text needs is 33. SHIMLANTERN_MOST_WRITTEN bytes hold every text. Bytes past the length are untouched.
+   answer: number (0, 2 to 10, 31 or 33), place, length of the text. */
+enum { SHIMLANTERN_WRITE_LENGTH = 2, SHIMLANTERN_WRITE_NUMBERS = 3 };
+void shimlantern_write_plan(uint16_t hours, uint16_t capacity, const uint8_t *calendars, size_t calendars_length,
+                            const uint16_t *task_calendars, size_t task_calendars_length, const uint16_t *work_times,
+                            size_t work_times_length, const uint16_t *heights, size_t heights_length, const uint16_t *boxes,
+                            size_t boxes_length, uint8_t *out, size_t out_length, uint64_t answer[3]);
 
 /* Writes what the program prints for a plan text, and returns its length. Bytes past it are untouched. */
 size_t shimlantern_list_text(const uint8_t *text, size_t text_length, uint8_t out[SHIMLANTERN_MOST_LISTING]);

@@ -1,4 +1,5 @@
-/* Reads a plan text from a file or from standard input, filters it, has its log checked, and prints the bounds that are left. */
+/* Reads a plan text from a file or from standard input, filters it, has its log checked, and prints the bounds that are left. Given a second file,
+   writes the plan with these bounds to it, as plan text. */
 
 #include "shimlantern.h"
 
@@ -9,6 +10,7 @@ enum { ROOM = 2048, TASKS = SHIMLANTERN_MOST_TASKS, BOUNDS = SHIMLANTERN_MOST_BO
 
 /* One byte more than the longest text, so that a longer one is refused and not cut. */
 static uint8_t text[SHIMLANTERN_MOST_TEXT + 1], calendars[SHIMLANTERN_MOST_SYMBOLS], kinds[ROOM];
+static uint8_t narrowed[SHIMLANTERN_MOST_WRITTEN];
 static uint16_t task_calendars[TASKS], work_times[TASKS], heights[TASKS], boxes[BOUNDS], opening[BOUNDS], tasks[ROOM], hours[ROOM];
 
 static int refused(const char *what, const uint64_t *answer) {
@@ -24,7 +26,8 @@ int main(int argc, char **argv) {
         return 2;
     }
 
-    uint64_t plan[SHIMLANTERN_READ_NUMBERS], run[SHIMLANTERN_FILTER_NUMBERS], checked[SHIMLANTERN_LOG_NUMBERS];
+    uint64_t plan[SHIMLANTERN_READ_NUMBERS], run[SHIMLANTERN_FILTER_NUMBERS], checked[SHIMLANTERN_LOG_NUMBERS],
+        written[SHIMLANTERN_WRITE_NUMBERS];
     shimlantern_read_plan(text, length, calendars, sizeof calendars, task_calendars, TASKS, work_times, TASKS, heights, TASKS, boxes, BOUNDS, plan);
     if (plan[SHIMLANTERN_NUMBER]) return refused("plan", plan);
     uint16_t h = plan[SHIMLANTERN_READ_HOURS], capacity = plan[SHIMLANTERN_READ_CAPACITY];
@@ -45,6 +48,17 @@ int main(int argc, char **argv) {
         const uint16_t *b = boxes + SHIMLANTERN_BOX_NUMBERS * i;
         printf("task %zu: start %u to %u, elapsed %u to %u, overtime %u to %u\n", i, b[SHIMLANTERN_BOX_EARLIEST], b[SHIMLANTERN_BOX_LATEST],
                b[SHIMLANTERN_BOX_SHORTEST], b[SHIMLANTERN_BOX_LONGEST], b[SHIMLANTERN_BOX_FEWEST], b[SHIMLANTERN_BOX_MOST]);
+    }
+
+    if (argc > 2) {
+        shimlantern_write_plan(h, capacity, calendars, symbols, task_calendars, n, work_times, n, heights, n, boxes, bounds, narrowed,
+                               sizeof narrowed, written);
+        if (written[SHIMLANTERN_NUMBER]) return refused("writing", written);
+        FILE *out = fopen(argv[2], "wb");
+        if (!out || fwrite(narrowed, 1, written[SHIMLANTERN_WRITE_LENGTH], out) != written[SHIMLANTERN_WRITE_LENGTH] || fclose(out)) {
+            perror(argv[2]);
+            return 2;
+        }
     }
     return 0;
 }

@@ -5,8 +5,9 @@ use Prim.Native.Nat.{ℕ}
 use Rattle.plan.specs.Refusals.{Answer}
 use Rattle.steps.specs.Log.{LogEnd}
 use Rattle.steps.specs.Entry.{Accepted, checkAnswer, FilterAnswer, FilterEnd, filterEnd}
-use Rattle.plan_text.specs.Entry.{PlanRead, ReadEnd, endWith}
-use Rattle.capi.specs.Numbers.{logNumbers, filterNumbers, readNumbers}
+use Rattle.plan_format.specs.Reading.{PlanRead, ReadEnd, endWith}
+use Rattle.plan_format.specs.Writing.{WriteEnd, writeEnd}
+use Rattle.capi.specs.Numbers.{logNumbers, filterNumbers, readNumbers, writeNumbers}
 
 module _ {numbers boxes : List ℕ} where
   pub left-log : (e : LogEnd) {a : Answer Accepted} → numbers ≡ logNumbers a → (a ≡ checkAnswer e) × (boxes ≡ e .boxes)
@@ -21,3 +22,7 @@ module _ {numbers boxes : List ℕ} where
       → endWith a calendars taskCalendars workTimes heights boxes ≡ e
       → (numbers ≡ readNumbers (e .answer)) × (endWith (e .answer) calendars taskCalendars workTimes heights boxes ≡ e)
   left-plan n is = rw (← is) (n, refl)
+
+pub left-text : {e : WriteEnd} {a : Answer ℕ} {numbers out : List ℕ} → numbers ≡ writeNumbers a → writeEnd a out ≡ e
+    → (numbers ≡ writeNumbers (e .answer)) × (out ≡ e .out)
+left-text n is = rw (← is) (n, refl)

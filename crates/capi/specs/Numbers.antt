@@ -7,7 +7,7 @@ use Rattle.plan.specs.Refusals.{Answer, refused, answered}
 use Rattle.calendar.specs.declared.Fit.{Fit}
 use Rattle.calendar.specs.declared.Fit.the-variants.{Never, Within}
 use Rattle.steps.specs.Entry.{Accepted, FilterAnswer, refusedBy, noRoomFor, settledAfter, impossibleAfter}
-use Rattle.plan_text.specs.Entry.{PlanRead}
+use Rattle.plan_format.specs.Reading.{PlanRead}
 
 -- whether there is a valid triple; S, E and O, the lower bound first; ect, lct
 unfoldable pub ruleNumbers : Answer Fit → List ℕ
@@ -41,3 +41,8 @@ filterNumbers (impossibleAfter n) = 0 ∷ 0 ∷ n ∷ 1 ∷ []
 unfoldable pub readNumbers : Answer PlanRead → List ℕ
 readNumbers (refused f) = f .number ∷ f .place ∷ 0 ∷ 0 ∷ 0 ∷ 0 ∷ []
 readNumbers (answered a) = 0 ∷ 0 ∷ a .hours ∷ a .capacity ∷ a .calendars ∷ a .tasks ∷ []
+
+-- the length of the text
+unfoldable pub writeNumbers : Answer ℕ → List ℕ
+writeNumbers (refused f) = f .number ∷ f .place ∷ 0 ∷ []
+writeNumbers (answered n) = 0 ∷ 0 ∷ n ∷ []

@@ -9,9 +9,10 @@ ghost use Rattle.plan.specs.Lent.{old, left, oldPlan};
 ghost use Rattle.calendar.specs.Entry.{calendarRule};
 ghost use Rattle.schedule.specs.Entry.{checkSchedule};
 ghost use Rattle.steps.specs.Entry.{checkLog, checkAnswer, filterEnd, filterPlan};
-ghost use Rattle.plan_text.specs.Entry.{endWith, readPlan};
+ghost use Rattle.plan_format.specs.Reading.{endWith, readPlan};
+ghost use Rattle.plan_format.specs.Writing.{writePlan};
 ghost use Rattle.text_listing.specs.Program.{textListing};
-ghost use Rattle.capi.specs.Numbers.{ruleNumbers, scheduleNumbers, logNumbers, filterNumbers, readNumbers};
+ghost use Rattle.capi.specs.Numbers.{ruleNumbers, scheduleNumbers, logNumbers, filterNumbers, readNumbers, writeNumbers};
 
 mod numbers;
 
@@ -149,6 +150,37 @@ pub extern "C" fn shimlantern_read_plan(
 {
     let reading = plan_text::read_plan(text, calendars, task_calendars, work_times, heights, boxes);
     *answer = numbers::read_numbers(reading);
+}
+
+// Writes a plan as text.
+#[no_mangle]
+pub extern "C" fn shimlantern_write_plan(
+    hours: u16,
+    capacity: u16,
+    calendars: &[u8],
+    task_calendars: &[u16],
+    work_times: &[u16],
+    heights: &[u16],
+    boxes: &[u16],
+    out: &mut [u8],
+    answer: &mut [u64; 3],
+)
+    ensures { λ _.
+        let P = oldPlan hours capacity calendars «task_calendars» «work_times» heights in
+        let e = writePlan P (old boxes) (old out) in
+        ⌜ (left answer ≡ writeNumbers (e .answer)) × (left out ≡ e .out) ⌝ }
+{
+    let writing = plan_writing::write_plan(
+        hours,
+        capacity,
+        calendars,
+        task_calendars,
+        work_times,
+        heights,
+        boxes,
+        out,
+    );
+    *answer = numbers::write_numbers(writing);
 }
 
 // What the program prints for a plan text, and its length; the bytes past it are untouched.

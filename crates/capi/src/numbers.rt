@@ -2,6 +2,7 @@
 use calendar::RuleAnswer;
 use plan::fault_of;
 use plan_text::PlanReading;
+use plan_writing::PlanWriting;
 use schedule::ScheduleChecked;
 use steps::Filtered;
 use steps::LogChecked;
@@ -10,7 +11,8 @@ ghost use Rattle.calendar.specs.Entry.{ruleAnswer};
 ghost use Rattle.schedule.specs.Entry.{scheduleAnswer};
 ghost use Rattle.steps.specs.Entry.{logAnswer, filterAnswer};
 ghost use Rattle.plan_text.specs.Entry.{readingAnswer};
-ghost use Rattle.capi.specs.Numbers.{ruleNumbers, scheduleNumbers, logNumbers, filterNumbers, readNumbers};
+ghost use Rattle.plan_writing.specs.Entry.{writingAnswer};
+ghost use Rattle.capi.specs.Numbers.{ruleNumbers, scheduleNumbers, logNumbers, filterNumbers, readNumbers, writeNumbers};
 
 pub fn rule_numbers(answer: RuleAnswer) -> [u64; 11]
     ensures { λ r. ⌜ r ≡ ruleNumbers (ruleAnswer answer) ⌝ }
@@ -104,5 +106,17 @@ pub fn read_numbers(answer: PlanReading) -> [u64; 6]
             calendars as u64,
             tasks as u64,
         ],
+    }
+}
+
+pub fn write_numbers(answer: PlanWriting) -> [u64; 3]
+    ensures { λ r. ⌜ r ≡ writeNumbers (writingAnswer answer) ⌝ }
+{
+    match answer {
+        PlanWriting::Refused(refusal) => {
+            let f = fault_of(refusal);
+            [f.0 as u64, f.1 as u64, 0]
+        }
+        PlanWriting::Written(length) => [0, 0, length as u64],
     }
 }

@@ -14,13 +14,14 @@ use Rattle.plan.specs.Plan.{Plan}
 use Rattle.plan.specs.Refusals.{Fault, Answer, refused, answered, answerUnless, faultOf}
 use Rattle.plan.specs.Faults.{inputFault}
 use Rattle.plan.specs.declared.Refusal.{Refusal}
+use Rattle.plan.proofs.Refusals.{refused≢answered}
 use Rattle.steps.specs.declared.Step.{Step}
 use Rattle.steps.specs.declared.LogChecked.{LogChecked}
 use Rattle.steps.specs.declared.LogChecked.the-variants as checked
 use Rattle.steps.specs.Log.{LogEnd, logEnd, replayFrom, replay}
 use Rattle.steps.specs.Entry.{entryFault, Accepted, checkAnswer, logAnswer}
 use Rattle.steps.specs.inner.From.{checkFrom}
-use Rattle.steps.proofs.Contracts.{refused≢answered, same-fault}
+use Rattle.steps.proofs.Contracts.{same-fault}
 use Rattle.log.specs.declared.part.Part.{Part}
 use Rattle.log.specs.declared.part.PartChecked.{PartChecked}
 use Rattle.log.specs.Entry.{checkSteps}

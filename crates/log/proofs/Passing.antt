@@ -4,22 +4,14 @@ use mathlib.Core.Bool.{Bool, true, false}
 use mathlib.Core.Option.{none}
 use mathlib.Core.List.{List, [], _∷_}
 use Prim.Native.Nat.{ℕ, _+_}
-use Rattle.units.proofs.Choices.{neither}
 use Rattle.plan.specs.Plan.{Plan}
 use Rattle.plan.specs.Faults.{inputFault}
-use Rattle.plan.specs.Passed.{Passed}
-use Rattle.plan.proofs.Refusals.{unless-none}
-use Rattle.plan.proofs.Passed.{passed, input-again}
+use Rattle.plan.proofs.Passed.{input-passed, input-again}
 use Rattle.steps.specs.declared.Step.{Step}
 use Rattle.steps.specs.Steps.{judge}
 use Rattle.steps.specs.Log.{LogEnd, replayBy, replayFrom}
 use Rattle.steps.proofs.Judgements.{judgement-all}
 use Rattle.steps.proofs.Changes.{judge-change, change-length, change-passes}
-
-module _ (P : Plan) (boxes : List ℕ) where
-  pub first-passed : inputFault P boxes ≡ none → Passed P boxes
-  unfolding inputFault
-  first-passed e = let (one, rest) = neither _ _ e in passed P boxes (unless-none _ 31 0 one) rest
 
 -- with the boxes at the end of any log
 module _ (P : Plan) where
@@ -38,4 +30,4 @@ module _ (P : Plan) where
       (λ left q.
       let c = judge-change P boxes x left q in
       replay-passes (k + 1) false left xs
-      (input-again P boxes left (change-passes P boxes left c (first-passed P boxes e)) (change-length P boxes left c) e))
+      (input-again P boxes left (change-passes P boxes left c (input-passed P boxes e)) (change-length P boxes left c) e))

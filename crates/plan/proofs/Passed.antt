@@ -8,10 +8,11 @@ use native.Mathlib.Nat.{div-add-mod', mul-le-mul-right, add-mul}
 use native.Mathlib.Omega.{arith}
 use lib.ListN.{length, length-take, length-drop}
 use borrow.Author.Tests.{eqb-true, leb-true, ltb-true}
-use Rattle.units.specs.Limits.{mostHours, mostTasks, mostCapacity, boxNumbers, isPlanLength, isWorkTime, isHeight, isCapacity, isCalendarNumber, isTaskCount}
+use Rattle.units.specs.Limits.{mostHours, mostCalendars, mostTasks, mostCapacity, boxNumbers}
+use Rattle.units.specs.Limits.{within, isPlanLength, isWorkTime, isHeight, isCapacity, isCalendarCount, isCalendarNumber, isTaskCount}
 use Rattle.units.proofs.Choices.{and-left, and-right, else-none, neither, first-none, first-all-none}
 use Rattle.units.proofs.Ranges.{boxed, is-boxed, from-least, to-most}
-use Rattle.plan.specs.Plan.{Plan, taskCount, calendarCount, firstSymbol, calendarAt, calendarOf, heightOf}
+use Rattle.plan.specs.Plan.{Shifts, Plan, taskCount, calendarCount, firstSymbol, calendarAt, calendarOf, heightOf}
 use Rattle.plan.specs.HourKinds.{isSymbol}
 use Rattle.plan.specs.Faults.{oneForEachTask, isCalendars, symbolFault, calendarsFault}
 use Rattle.plan.specs.Faults.{countsFault, oneTaskFault, taskFault, tasksFault, planFault}
@@ -71,28 +72,35 @@ counts-passed e =
 
 -- ---- a task
 
--- a calendar among those there are ends within the symbols
-calendar-fits : (n h k : ℕ) → n % h ≡ 0 → k < n / h → k * h + h ≤ n
-calendar-fits n h k whole l = omega (arith, div-add-mod' n h, mul-le-mul-right {m = k + 1} {n = n / h} h (omega arith), add-mul k 1 h)
+-- a calendar among those there are ends within the symbols, and has H of them
+module _ (S : Shifts) (k : ℕ) (l : k < calendarCount S) where
+  pub calendar-in : firstSymbol (S .hours) k + S .hours ≤ length (S .calendars)
+  unfolding calendarCount firstSymbol
+  calendar-in =
+      omega (
+        arith,
+        div-add-mod' (length (S .calendars)) (S .hours),
+        mul-le-mul-right {m = k + 1} {n = length (S .calendars) / S .hours} (S .hours) (omega arith),
+        add-mul k 1 (S .hours),
+      )
+
+  pub calendar-hours : length (calendarAt S k) ≡ S .hours
+  unfolding calendarAt
+  calendar-hours = simp (length-take, length-drop) (omega (arith, calendar-in))
 
 module _ (P : Plan) (boxes : List ℕ) where
-  calendar-length : (number : ℕ) → firstSymbol (P .shifts .hours) number + P .shifts .hours ≤ length (P .shifts .calendars)
-      → length (calendarAt (P .shifts) number) ≡ P .shifts .hours
-  unfolding calendarAt
-  calendar-length number l = simp (length-take, length-drop) (omega arith)
-
-  passed-task : (i : ℕ) → isCalendars (P .shifts .hours) (P .shifts .calendars) ≡ true → taskFault (P .shifts) (P .heights) boxes i ≡ none
-      → PassedTask P boxes i
-  unfolding taskFault oneTaskFault isCalendars calendarCount calendarOf firstSymbol heightOf isCalendarNumber isWorkTime isHeight
-  passed-task i whole e =
+  passed-task : (i : ℕ) → taskFault (P .shifts) (P .heights) boxes i ≡ none → PassedTask P boxes i
+  unfolding taskFault oneTaskFault calendarOf heightOf isCalendarNumber isWorkTime isHeight
+  passed-task i e =
       let (six, rest) = neither _ _ e in
       let (seven, rest) = neither _ _ rest in
       let (eight, nine) = neither _ _ rest in
-      let fits = calendar-fits _ _ _ (eqb-true _ _ (and-left _ _ whole)) (ltb-true _ _ (unless-none _ 6 i six)) in
+      let there = ltb-true _ _ (unless-none _ 6 i six) in
       let work = unless-none _ 7 i seven in
       record {
-        calendar = fits;
-        calendar-length = calendar-length _ fits;
+        number = there;
+        calendar = calendar-in (P .shifts) _ there;
+        calendar-length = calendar-hours (P .shifts) _ there;
         some-work = from-least 1 (P .shifts .hours) _ work;
         work-time = to-most 1 (P .shifts .hours) _ work;
         height = leb-true _ _ (unless-none _ 8 i eight);
@@ -100,6 +108,17 @@ module _ (P : Plan) (boxes : List ℕ) where
       }
 
   -- ---- all
+
+  count : isCalendars (P .shifts .hours) (P .shifts .calendars) ≡ true → within 1 mostCalendars (calendarCount (P .shifts)) ≡ true
+  unfolding isCalendars isCalendarCount calendarCount
+  count e = and-right _ _ e
+
+  joins : isCalendars (P .shifts .hours) (P .shifts .calendars) ≡ true
+      → length (P .shifts .calendars) ≡ calendarCount (P .shifts) * P .shifts .hours
+  unfolding isCalendars calendarCount
+  joins e =
+      let even : length (P .shifts .calendars) % P .shifts .hours ≡ 0 = eqb-true _ _ (and-left _ _ e) in
+      omega (arith, div-add-mod' (length (P .shifts .calendars)) (P .shifts .hours))
 
   pub passed : oneForEachTask (P .shifts .taskCalendars) (P .shifts .workTimes) (P .heights) boxes ≡ true → planFault P boxes ≡ none → Passed P boxes
   unfolding planFault tasksFault taskCount
@@ -112,14 +131,25 @@ module _ (P : Plan) (boxes : List ℕ) where
       record {
         some-hours = c .some-hours;
         hours = c .short;
+        some-calendar = from-least 1 mostCalendars _ (count (c .whole));
+        calendars = to-most 1 mostCalendars _ (count (c .whole));
+        whole = joins (c .whole);
         symbols = c .symbols;
         tasks = n .tasks;
         capacity = n .capacity;
         work-times = size .work-times;
         heights = size .heights;
         boxes = size .boxes;
-        task = λ i l. passed-task i (c .whole) (first-none _ _ tasks i l);
+        task = λ i l. passed-task i (first-none _ _ tasks i l);
       }
+
+  pub input-sized : inputFault P boxes ≡ none → oneForEachTask (P .shifts .taskCalendars) (P .shifts .workTimes) (P .heights) boxes ≡ true
+  unfolding inputFault
+  input-sized e = unless-none _ 31 0 (neither _ _ e .0)
+
+  pub input-passed : inputFault P boxes ≡ none → Passed P boxes
+  unfolding inputFault
+  input-passed e = passed (input-sized e) (neither _ _ e .1)
 
   -- ---- with other boxes
 

@@ -3,10 +3,11 @@ use mathlib.Core.Path.{_≡_, ap}
 use mathlib.Core.Bool.{Bool, true, false, not}
 use mathlib.Core.Option.{Option, none, some}
 use Prim.Native.Nat.{ℕ}
+use native.Mathlib.Omega.{arith}
 use borrow.Author.Tests.{not-false}
 use Rattle.units.specs.Choice.{_orElse_}
 use Rattle.units.proofs.Choices.{some-if, none-if, if-none, else-none, else-some}
-use Rattle.plan.specs.Refusals.{Fault, fault, unless}
+use Rattle.plan.specs.Refusals.{Fault, fault, unless, refused, answered}
 
 module _ (test : Bool) (number place : ℕ) where
   pub unless-true : test ≡ true → unless test number place ≡ none
@@ -27,3 +28,7 @@ module _ (test : Bool) (number place : ℕ) where
 
   pub refuse : (rest : Option Fault) → test ≡ false → (unless test number place orElse rest) ≡ some (fault number place)
   refuse rest e = else-some _ rest _ (unless-false e)
+
+-- a refusal is no answer
+pub refused≢answered : {A C : Type 0} {f : Fault} {a : A} → refused f ≡ answered a → C
+refused≢answered e = absurd (let z : _≡_ {A = ℕ} 0 1 = cc in omega arith)

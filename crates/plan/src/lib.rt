@@ -22,7 +22,7 @@ ghost use Rattle.plan.specs.Faults.{oneForEachTask, isCalendars, symbolF
 ghost use Rattle.plan.specs.Lent.{old, left, shiftsOf, oldShifts, oldPlan};
 ghost use Rattle.plan.specs.inner.Ready.{TasksReady};
 
-// Why a call is refused, in document 01's order of numbers, with the place where 01 names one.
+// Why a call is refused, in the order of the papers' numbers, with the place where they name one.
 pub enum Refusal {
     // 1, at a line counted from 1.
     Malformed(usize),
@@ -52,6 +52,8 @@ pub enum Refusal {
     OverCapacity(usize),
     // 31
     MemorySize,
+    // 33
+    OutputSize,
 }
 
 // A refusal as 01 gives it: its number, then its place.
@@ -84,6 +86,7 @@ pub fn fault_of(r: Refusal) -> Fault
         Refusal::NotValid(task) => Fault(15, task),
         Refusal::OverCapacity(hour) => Fault(16, hour),
         Refusal::MemorySize => Fault(31, 0),
+        Refusal::OutputSize => Fault(33, 0),
     }
 }
 
@@ -158,7 +161,7 @@ pub fn calendar_at(calendars: &[u8], hours: Duration, number: u16) -> &[u8]
 }
 
 // How many calendars of so many hours there are.
-fn calendar_count(calendars: &[u8], hours: Duration) -> usize
+pub fn calendar_count(calendars: &[u8], hours: Duration) -> usize
     requires { ⌜ 1 ≤ hours .0 ⌝ }
     ensures { λ r. ⌜ r ≡ length (old calendars) / hours .0 ⌝ }
 {

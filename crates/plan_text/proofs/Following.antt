@@ -2,77 +2,29 @@
 use mathlib.Core.Path.{_≡_, refl, sym, ap, ap₂, subst, _∙_}
 use mathlib.Core.Bool.{Bool, true, false}
 use mathlib.Core.Option.{Option, none, some}
-use mathlib.Core.List.{List, [], _∷_, _++_, map, append-assoc, append-nil}
-use Prim.Native.Nat.{ℕ, _+_, _-_, _*_, _≤_, _<_}
-use native.Mathlib.Nat.{mul-suc}
+use mathlib.Core.List.{List, [], _∷_, _++_, map}
+use Prim.Native.Nat.{ℕ, _+_, _*_, _≤_, _<_}
 use native.Mathlib.Omega.{arith}
 use lib.Dec.{eqb}
-use lib.ListN.{length, getD, drop, set, length-append, length-drop, length-map}
-use borrow.Author.Tests.{eq-eqb, ne-eqb, eqb-true}
+use lib.ListN.{length, getD, set, length-append, length-map}
 use Rattle.units.specs.Choice.{_and_, onOption}
 use Rattle.units.specs.Cells.{writtenAt}
 use Rattle.units.specs.Limits.{mostTasks}
-use Rattle.units.proofs.Choices.{some-if, none-if, if-true, if-false, if-all}
+use Rattle.units.proofs.Choices.{some-if, none-if}
 use Rattle.units.proofs.Cells.{written-one, written-length}
+use Rattle.units.proofs.Lists.{map-more}
 use Rattle.plan.specs.Plan.{plan}
 use Rattle.plan_text.specs.declared.Scan.{Scan}
 use Rattle.plan_text.specs.declared.MaybeScan.{MaybeScan}
 use Rattle.plan_text.specs.declared.MaybeScan.the-variants.{Broken, Next}
-use Rattle.plan_text.specs.Records.{Record, planRecord, calRecord, taskRecord, recordOf}
-use Rattle.plan_text.specs.Text.{Read, planSection, calSection, taskSection, comes, withRecord, withLine}
-use Rattle.plan_text.specs.Entry.{joined, boxOf, planIn, boxesIn, allOf, mostSymbols, mostBounds}
+use Rattle.plan_format.specs.Records.{Record, planRecord, calRecord, taskRecord, recordOf}
+use Rattle.plan_format.specs.Text.{Read, planSection, calSection, taskSection, comes, withRecord, withLine}
+use Rattle.plan_format.specs.Reading.{joined, boxOf, planIn, boxesIn, allOf, mostSymbols, mostBounds}
+use Rattle.plan_format.proofs.Boxes.{box-length, boxes-length}
+use Rattle.plan_format.proofs.Joined.{joined-more, all-more}
 use Rattle.plan_text.specs.inner.Scanning.{calendarsAt, workTimesAt, heightsAt, boxesAt, storeSize, section}
 use Rattle.plan_text.specs.inner.Scanning.{Kept, Keeps, KeepsTasks, storedPlan, storedBoxes, Holds, Follows}
 use Rattle.plan_text.proofs.Sections.{kept-none, kept-over, kept-section, keeps-calendar, keeps-work-time, keeps-height, keeps-box}
-
--- ---- lists that grow at their end
-
-joined-more : (ls : List (List ℕ)) (l : List ℕ) → joined (ls ++ (l ∷ [])) ≡ joined ls ++ l
-unfolding joined
-joined-more [] l = append-nil l
-joined-more (k ∷ ls) l = ap (λ m. k ++ m) (joined-more ls l) ∙ sym (append-assoc k (joined ls) l)
-
-map-more : {A B : Type 0} (f : A → B) (xs : List A) (x : A) → map f (xs ++ (x ∷ [])) ≡ map f xs ++ (f x ∷ [])
-map-more f [] x = refl
-map-more f (y ∷ xs) x = ap (λ l. f y ∷ l) (map-more f xs x)
-
-and-assoc : (a b c : Bool) → a and (b and c) ≡ (a and b) and c
-unfolding _and_
-and-assoc true b c = refl
-and-assoc false b c = refl
-
-and-true : (a : Bool) → a and true ≡ a
-unfolding _and_
-and-true true = refl
-and-true false = refl
-
-all-more : (h : ℕ) (ls : List (List ℕ)) (l : List ℕ) → allOf h (ls ++ (l ∷ [])) ≡ allOf h ls and eqb (length l) h
-unfolding allOf _and_
-all-more h [] l = and-true (eqb (length l) h)
-all-more h (k ∷ ls) l = ap (λ b. eqb (length k) h and b) (all-more h ls l) ∙ and-assoc (eqb (length k) h) (allOf h ls) (eqb (length l) h)
-
--- a task's box, by how many numbers its line has
-pub box-long : (h : ℕ) (task : List ℕ) → length task ≡ 9 → drop 3 task ≡ boxOf h task
-unfolding boxOf
-box-long h task e = sym (if-true _ _ _ (eq-eqb (length task) 9 e))
-
-pub box-short : (h last : ℕ) (task : List ℕ) → last ≡ h - 1 → (length task ≡ 9 → ⊥)
-    → 0 ∷ last ∷ getD task 1 0 ∷ h ∷ 0 ∷ getD task 1 0 ∷ [] ≡ boxOf h task
-unfolding boxOf
-box-short h last task e k = rw e (sym (if-false _ _ _ (ne-eqb (length task) 9 k)))
-
-pub box-length : (h : ℕ) (task : List ℕ) → length (boxOf h task) ≡ 6
-unfolding boxOf
-box-length h task =
-    if-all (λ (l : List ℕ). length l ≡ 6) (eqb (length task) 9) _ _
-    (λ e. omega (arith, length-drop 3 task, eqb-true (length task) 9 e))
-    (λ e. refl)
-
-pub boxes-length : (h : ℕ) (tasks : List (List ℕ)) → length (joined (map (boxOf h) tasks)) ≡ 6 * length tasks
-unfolding joined
-boxes-length h [] = refl
-boxes-length h (t ∷ ts) =
-    omega (arith, length-append (boxOf h t) (joined (map (boxOf h) ts)), box-length h t, boxes-length h ts, mul-suc 6 (length ts))
 
 -- ---- a task more in the store
 

@@ -18,8 +18,8 @@ use Rattle.plan.specs.Faults.{oneForEachTask, countsFault, tasksFault, planFaul
 use Rattle.plan.proofs.Refusals.{unless-true, unless-none, unless-false, go-on, refuse}
 use Rattle.plan.proofs.Passed.{counts-passed}
 use Rattle.plan_text.specs.declared.Scan.{Scan}
-use Rattle.plan_text.specs.Text.{Read}
-use Rattle.plan_text.specs.Entry.{joined, planIn, boxesIn, allOf, mostSymbols, lineFault, readFault}
+use Rattle.plan_format.specs.Text.{Read}
+use Rattle.plan_format.specs.Reading.{joined, planIn, boxesIn, allOf, mostSymbols, lineFault, readFault}
 use Rattle.plan_text.specs.inner.Scanning.{calendarsAt, workTimesAt, heightsAt, boxesAt, storeSize, section, storedPlan, storedBoxes, Holds}
 use Rattle.plan_text.proofs.Sections.{section-length}
 use Rattle.plan_text.proofs.Following.{task-count, symbols-held, plan-held, boxes-held}

@@ -4,4 +4,3 @@ pub mod Following
 pub mod Lining
 pub mod Judging
 pub mod Entry
-pub mod Holding

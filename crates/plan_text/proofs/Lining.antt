@@ -19,7 +19,7 @@ use Rattle.plan_text.specs.declared.MaybeScan.{MaybeScan}
 use Rattle.plan_text.specs.declared.MaybeScan.the-variants.{Broken, Next}
 use Rattle.plan_text.specs.declared.Scanned.{Scanned}
 use Rattle.plan_text.specs.declared.Scanned.the-variants.{Malformed, Whole}
-use Rattle.plan_text.specs.Text.{Read, mostBytes, planSection, nothing, withLine, readLines, readText}
+use Rattle.plan_format.specs.Text.{Read, mostBytes, planSection, nothing, withLine, readLines, readText}
 use Rattle.plan_text.specs.inner.Scanning.{counted, Sized, Holds, Follows, Scans}
 use Rattle.plan_text.proofs.Following.{holds-empty, holds-later}
 

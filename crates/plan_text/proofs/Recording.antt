@@ -20,7 +20,7 @@ use Rattle.text.proofs.Parts.{parts-more, parts-last, parts-first, first-within
 use Rattle.plan_text.specs.declared.LineRecord.{LineRecord}
 use Rattle.plan_text.specs.declared.LineRecord.the-variants as line
 use Rattle.plan_text.specs.inner.Lines.{mostFields, Finds}
-use Rattle.plan_text.specs.Records.{Record, planRecord, calRecord, taskRecord, numbersIf, planOf, calOf, taskOf, byWord, recordOf}
+use Rattle.plan_format.specs.Records.{Record, planRecord, calRecord, taskRecord, numbersIf, planOf, calOf, taskOf, byWord, recordOf}
 
 -- ---- cal
 

@@ -8,7 +8,7 @@ use lib.Seq.{length-take-le, take-add, take-take, take-append-le, drop-append-le
 use Rattle.units.specs.Cells.{writtenAt}
 use Rattle.units.proofs.Cells.{written-length, written-front, written-rest}
 use Rattle.units.specs.Limits.{mostTasks}
-use Rattle.plan_text.specs.Entry.{mostBounds}
+use Rattle.plan_format.specs.Reading.{mostBounds}
 use Rattle.plan_text.specs.inner.Scanning.{calendarsAt, workTimesAt, heightsAt, boxesAt, storeSize, section, Kept, Keeps}
 
 section-swap : (from n : ℕ) (cells : List ℕ) → from ≤ length cells → section from n cells ≡ drop from (take (from + n) cells)

@@ -1,4 +1,2 @@
-pub mod Records
-pub mod Text
 pub mod Entry
 pub mod inner

@@ -17,8 +17,9 @@ ghost use Rattle.units.specs.Limits.{mostTasks};
 ghost use Rattle.plan.specs.Refusals.{testedFault};
 ghost use Rattle.plan.specs.Lent.{old, left};
 ghost use Rattle.plan.specs.Faults.{planFault};
-ghost use Rattle.plan_text.specs.Text.{Read, mostBytes};
-ghost use Rattle.plan_text.specs.Entry.{mostSymbols, isEnough, lineFault, readFault, endWith, readTested, readPlan, readingAnswer};
+ghost use Rattle.plan_format.specs.Text.{Read, mostBytes};
+ghost use Rattle.plan_format.specs.Reading.{mostSymbols, isEnough, lineFault, readFault, endWith, readTested, readPlan};
+ghost use Rattle.plan_text.specs.Entry.{readingAnswer};
 ghost use Rattle.plan_text.specs.inner.Scanning.{calendarsAt, workTimesAt, heightsAt, storeSize, section, storedPlan, storedBoxes};
 ghost use Rattle.plan_text.specs.inner.Scanning.{Holds, Stored};
 

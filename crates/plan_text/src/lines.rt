@@ -23,9 +23,9 @@ ghost use Rattle.units.specs.Cells.{writtenAt};
 ghost use Rattle.units.specs.Limits.{mostTasks, boxNumbers};
 ghost use Rattle.plan.specs.Lent.{old, left};
 ghost use Rattle.text.specs.Fields.{lf, parts};
-ghost use Rattle.plan_text.specs.Records.{planRecord, calRecord, taskRecord};
-ghost use Rattle.plan_text.specs.Text.{Read, mostBytes, planSection, nothing, comes, withRecord, withLine, readLines, readText};
-ghost use Rattle.plan_text.specs.Entry.{boxOf, mostSymbols};
+ghost use Rattle.plan_format.specs.Records.{planRecord, calRecord, taskRecord};
+ghost use Rattle.plan_format.specs.Text.{Read, mostBytes, planSection, nothing, comes, withRecord, withLine, readLines, readText};
+ghost use Rattle.plan_format.specs.Reading.{boxOf, mostSymbols};
 ghost use Rattle.plan_text.specs.inner.Scanning.{boxesAt, storeSize, Kept, KeepsTasks, counted, Sized, Holds, Follows, Scans};
 
 // The sections of a text, in their order; before the plan line it is 0.

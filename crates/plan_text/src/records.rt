@@ -12,7 +12,7 @@ ghost use lib.ListN.{length, drop};
 ghost use Rattle.plan.specs.Lent.{old, left};
 ghost use Rattle.text.specs.Fields.{tab, parts};
 ghost use Rattle.text.specs.Reading.{NumbersMade};
-ghost use Rattle.plan_text.specs.Records.{numbersIf, planOf, calOf, taskOf, recordOf};
+ghost use Rattle.plan_format.specs.Records.{numbersIf, planOf, calOf, taskOf, recordOf};
 ghost use Rattle.plan_text.specs.inner.Lines.{mostFields, Finds};
 
 // The numbers in the fields from an index of the line on, if there are `least` or `most` of them.

@@ -210,6 +210,9 @@ change-passes P boxes left c passed =
     record {
       some-hours = passed .some-hours;
       hours = passed .hours;
+      some-calendar = passed .some-calendar;
+      calendars = passed .calendars;
+      whole = passed .whole;
       symbols = passed .symbols;
       tasks = passed .tasks;
       capacity = passed .capacity;
@@ -223,6 +226,7 @@ change-passes P boxes left c passed =
     with-box j l box =
         let task = passed .task j l in
         record {
+          number = task .number;
           calendar = task .calendar;
           calendar-length = task .calendar-length;
           some-work = task .some-work;

@@ -15,7 +15,7 @@ use Rattle.plan.specs.Plan.{Plan, taskCount}
 use Rattle.plan.specs.Boxes.{boundsAt}
 use Rattle.plan.specs.Refusals.{Fault, fault, unless, refused, answered, answerUnless}
 use Rattle.plan.specs.Faults.{oneForEachTask, planFault, inputFault}
-use Rattle.plan.proofs.Refusals.{unless-none, go-on}
+use Rattle.plan.proofs.Refusals.{unless-none, go-on, refused≢answered}
 use Rattle.plan.proofs.Numbers.{by-unless, by-either, plan-numbers, input-numbers}
 use Rattle.steps.specs.declared.Step.{Step}
 use Rattle.calendar.specs.declared.Triple.{Triple}
@@ -73,9 +73,6 @@ module _ (P : Plan) (boxes : List ℕ) where
       and-true false b e = unfold _and_ in refl
 
 -- ---- the log checker
-
-pub refused≢answered : {A C : Type 0} {f : Fault} {a : A} → refused f ≡ answered a → C
-refused≢answered e = absurd (let z : _≡_ {A = ℕ} 0 1 = cc in omega arith)
 
 -- a record that follows one which said impossible is refused by 13, and only such a one
 After-impossible : LogEnd → Type 0

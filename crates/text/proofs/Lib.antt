@@ -5,3 +5,4 @@ pub mod Gathering
 pub mod Puts
 pub mod Decimals
 pub mod Lines
+pub mod Parting

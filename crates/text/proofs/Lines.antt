@@ -27,6 +27,9 @@ module _ (ns : List ℕ) (i : ℕ) (h : i < length ns) where
   unfolding numberFields
   fields-next = rw (add-one, take-suc ns i 0 h) (fields-append (take i ns) (getD ns i 0 ∷ []) ∙ ap (λ l. numberFields (take i ns) ++ (tab ∷ l)) (append-nil _))
 
+  pub fields-longer : length (numberFields (take (i + 1) ns)) ≡ length (numberFields (take i ns)) + (1 + length (decimalText (getD ns i 0)))
+  fields-longer = omega (arith, ap length fields-next, length-append (numberFields (take i ns)) (tab ∷ decimalText (getD ns i 0)))
+
   -- what was put and one number more are no longer than all
   pub fields-room : length (numberFields (take i ns)) + (1 + length (decimalText (getD ns i 0))) ≤ length (numberFields ns)
   unfolding numberFields

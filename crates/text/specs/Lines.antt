@@ -9,6 +9,10 @@ unfoldable pub numberFields : List ℕ → List ℕ
 numberFields [] = []
 numberFields (n ∷ ns) = tab ∷ (decimalText n ++ numberFields ns)
 
+-- LF at a line's end
+abbrev pub ended : List ℕ → List ℕ
+ended line = line ++ (lf ∷ [])
+
 -- a word and numbers, as a line
 unfoldable pub lineOf : List ℕ → List ℕ → List ℕ
-lineOf word numbers = word ++ numberFields numbers ++ (lf ∷ [])
+lineOf word numbers = ended (word ++ numberFields numbers)

@@ -21,9 +21,9 @@ use Rattle.steps.specs.Entry.{oneForEachStep, entryFault, endingAnswer, logged,
 use Rattle.text.specs.Fields.{parts, intoFirst, same}
 use Rattle.text.specs.Numbers.{isDigits, decimal, isPlain, isNumber, numberOf, numbersOf, digitsBy, decimalText}
 use Rattle.text.specs.Lines.{numberFields, lineOf}
-use Rattle.plan_text.specs.Records.{numbersIf, planOf, calOf, taskOf, byWord, recordOf}
-use Rattle.plan_text.specs.Text.{comes, withRecord, withLine, readLines, readText}
-use Rattle.plan_text.specs.Entry.{joined, boxOf, planIn, boxesIn, allOf, isEnough, lineFault, readFault, stored, readTested, readPlan}
+use Rattle.plan_format.specs.Records.{numbersIf, planOf, calOf, taskOf, byWord, recordOf}
+use Rattle.plan_format.specs.Text.{comes, withRecord, withLine, readLines, readText}
+use Rattle.plan_format.specs.Reading.{joined, boxOf, planIn, boxesIn, allOf, isEnough, lineFault, readFault, stored, readTested, readPlan}
 use Rattle.listing.specs.Listing.{taskLine, taskLines, listing}
 use Rattle.text_listing.specs.Program.{zeros, planListing, readEnd, readListing, textListing}
 use Rattle.text_listing.specs.Printed.{bytes, printedText, printedListing}

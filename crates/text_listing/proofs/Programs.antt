@@ -7,8 +7,8 @@ use Rattle.units.specs.Cells.{written}
 use Rattle.plan.specs.Plan.{Plan, plan, taskCount}
 use Rattle.plan.specs.Refusals.{Fault, refused, answered, onAnswer}
 use Rattle.steps.specs.Entry.{FilterAnswer, FilterEnd, filterEnd, filterPlan}
-use Rattle.plan_text.specs.Entry.{PlanRead, ReadEnd, endWith}
-use Rattle.plan_text.proofs.Holding.{Holds, read-holds}
+use Rattle.plan_format.specs.Reading.{PlanRead, ReadEnd, endWith}
+use Rattle.plan_format.proofs.Holding.{Holds, read-holds}
 use Rattle.listing.specs.Listing.{refusedLine, listing}
 use Rattle.text_listing.specs.Program.{zeros, stepRoom, planListing, readEnd, readListing, textListing}
 

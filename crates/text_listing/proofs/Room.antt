@@ -6,7 +6,7 @@ use native.Mathlib.Omega.{arith}
 use lib.ListN.{length, drop, take, length-append, length-take}
 use Rattle.units.specs.Cells.{written}
 use Rattle.units.specs.Limits.{mostTasks}
-use Rattle.plan_text.specs.Entry.{mostBounds}
+use Rattle.plan_format.specs.Reading.{mostBounds}
 
 pub within-room : (xs cells left : List ℕ) (n : ℕ) → n ≡ length xs → left ≡ written xs cells → n ≤ length left
 unfolding written

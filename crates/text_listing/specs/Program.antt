@@ -6,7 +6,7 @@ use Rattle.units.specs.Limits.{mostTasks, boxNumbers}
 use Rattle.plan.specs.Plan.{Plan, plan, taskCount}
 use Rattle.plan.specs.Refusals.{onAnswer}
 use Rattle.steps.specs.Entry.{filterPlan}
-use Rattle.plan_text.specs.Entry.{mostSymbols, mostBounds, PlanRead, ReadEnd, readPlan}
+use Rattle.plan_format.specs.Reading.{mostSymbols, mostBounds, PlanRead, ReadEnd, readPlan}
 use Rattle.listing.specs.Listing.{refusedLine, listing}
 
 -- memory as the program lends it

@@ -5,6 +5,7 @@ pub mod Summing
 pub mod Extremes
 pub mod Multiples
 pub mod Ranges
+pub mod Lists
 pub mod Cells
 pub mod Hours
 pub mod Heights

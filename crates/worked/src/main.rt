@@ -1,14 +1,22 @@
-// 01's worked weeks without a star, and logs of step records: each is run, and its answer printed on a line.
+// 01's worked weeks without a star, logs of step records, and plans written back as text: each is run, and its answer printed on a line.
 use libc::STDOUT_FILENO;
 use plan::Refusal;
 use plan::fault_of;
+use plan_text::MOST_BOUNDS;
+use plan_text::MOST_BYTES;
+use plan_text::MOST_SYMBOLS;
+use plan_text::PlanReading;
+use plan_writing::PlanWriting;
 use schedule::ScheduleChecked;
 use steps::Filtered;
 use steps::LogChecked;
 use steps::Step;
+use text::fields::end_of;
+use units::Bounds;
 ghost use mathlib.Core.Path.{_≡_};
 ghost use Prim.Native.Nat.{_≤_};
 ghost use lib.ListN.{length};
+ghost use Rattle.plan_format.specs.Text.{mostBytes};
 ghost use Rattle.worked.specs.Logs.{cells};
 
 fn print_word(word: &[u8]) {
@@ -91,15 +99,23 @@ fn schedule_that_ends_closed() {
 // Memory for a plan text.
 const BYTES: usize = plan_text::TEXT_ROOM;
 
-// The name of a plan text of data/, and what the program prints for it.
-fn print_listing(name: &[u8]) {
-    let mut text = [0u8; BYTES];
-    let mut out = [0u8; listing::ROOM];
+// Prints the name of a plan text of data/, and reads it.
+fn read_data(name: &[u8], text: &mut [u8; BYTES]) -> usize
+    ensures { λ r. ⌜ r ≤ length (now (text .exit)) ⌝ }
+{
     io::write_all(STDOUT_FILENO, name);
     end_line();
     let file = os::open_read(name);
-    let n = io::read_full(file, &mut text);
+    let n = io::read_full(file, text);
     libc::close(file);
+    n
+}
+
+// What the program prints for a plan text.
+fn print_listing(name: &[u8]) {
+    let mut text = [0u8; BYTES];
+    let mut out = [0u8; listing::ROOM];
+    let n = read_data(name, &mut text);
     let k = text_listing::list_text(&text[..n], &mut out);
     io::write_all(STDOUT_FILENO, &out[..k]);
 }
@@ -343,6 +359,104 @@ fn log_of_two_parts() {
     check_week(130, 0, &calendar, opening, log, 129);
 }
 
+fn report_writing(answer: PlanWriting) {
+    match answer {
+        PlanWriting::Refused(refusal) => report_refusal(refusal),
+        PlanWriting::Written(length) => print_count(b"written", length),
+    }
+}
+
+// Reads a plan text and writes the plan back.
+fn rewrite(text: &[u8], out: &mut [u8]) -> PlanWriting {
+    let mut symbols = [0u8; MOST_SYMBOLS];
+    let mut task_calendars = [0u16; Bounds::MOST];
+    let mut work_times = [0u16; Bounds::MOST];
+    let mut heights = [0u16; Bounds::MOST];
+    let mut boxes = [0u16; MOST_BOUNDS];
+    let reading = plan_text::read_plan(
+        text,
+        &mut symbols,
+        &mut task_calendars,
+        &mut work_times,
+        &mut heights,
+        &mut boxes,
+    );
+    match reading {
+        PlanReading::Refused(refusal) => PlanWriting::Refused(refusal),
+        PlanReading::Read {
+            hours,
+            capacity,
+            calendars,
+            tasks,
+        } => {
+            let all = calendars * hours as usize;
+            let cells = Bounds::NUMBERS * tasks;
+            plan_writing::write_plan(
+                hours,
+                capacity,
+                &symbols[..all],
+                &task_calendars[..tasks],
+                &work_times[..tasks],
+                &heights[..tasks],
+                &boxes[..cells],
+                out,
+            )
+        }
+    }
+}
+
+// What marks the bytes that writing left as they were: no plan text has it.
+const MARK: u8 = b'.';
+
+fn marks() -> [u8; MOST_BYTES]
+    ensures { λ r. ⌜ length r ≡ mostBytes ⌝ }
+{
+    [MARK; MOST_BYTES]
+}
+
+// A plan text of data/ read, and written back into the memory lent: prints the answer, and says how many bytes were written.
+fn rewrite_data(name: &[u8], out: &mut [u8]) -> usize
+    ensures { λ r. ⌜ r ≤ length (now (out .exit)) ⌝ }
+{
+    let mut text = [0u8; BYTES];
+    let n = read_data(name, &mut text);
+    let answer = rewrite(&text[..n], out);
+    report_writing(answer);
+    end_of(out, MARK)
+}
+
+// A plan text written back: the text.
+fn print_rewritten(name: &[u8]) {
+    let mut out = marks();
+    let end = rewrite_data(name, &mut out);
+    io::write_all(STDOUT_FILENO, &out[..end]);
+}
+
+// A plan text written back into so many bytes: how many were written.
+fn count_rewritten(name: &[u8], room: usize)
+    requires { ⌜ room ≤ mostBytes ⌝ }
+{
+    let mut out = marks();
+    let end = rewrite_data(name, &mut out[..room]);
+    print_count(b"bytes", end);
+}
+
+// Plans written back: with bounds and without, without tasks, one that is refused, the printed week of 66 bytes, and the longest text.
+fn print_rewritings() {
+    print_rewritten(b"printed-week.plan");
+    print_rewritten(b"own-part-is-no-excess.plan");
+    print_rewritten(b"no-tasks.plan");
+    print_rewritten(b"bakery-week.plan");
+    print_rewritten(b"refused-9.plan");
+    count_rewritten(b"printed-week.plan", 0);
+    count_rewritten(b"printed-week.plan", 65);
+    count_rewritten(b"printed-week.plan", 66);
+    count_rewritten(b"printed-week.plan", 67);
+    count_rewritten(b"longest.plan", 19295);
+    count_rewritten(b"longest.plan", 19296);
+    count_rewritten(b"longest.plan", 19297);
+}
+
 fn main() {
     feasible_schedule();
     schedule_over_capacity();
@@ -351,4 +465,5 @@ fn main() {
     printed_week_log(CELLS);
     printed_week_log(2);
     log_of_two_parts();
+    print_rewritings();
 }

@@ -1,7 +1,7 @@
 use mathlib.Core.Path.{sym, _∙_}
 use borrow.Author.Tests.{le-leb, lt-leb}
 use Rattle.units.proofs.Choices.{not-left, not-right, and-rest}
-use Rattle.plan_text.specs.Entry.{isEnough}
+use Rattle.plan_format.specs.Reading.{isEnough}
 use Rattle.plan_text.proofs.is_enough.Statement.{statement}
 use Rattle.plan_text.proofs.is_enough.Tie as tie
 

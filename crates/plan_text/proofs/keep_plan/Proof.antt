@@ -5,11 +5,12 @@ use native.Mathlib.Omega.{arith}
 use lib.Seq.{length-take-le}
 use borrow.Author.Tests.{not-true, not-false}
 use Rattle.plan.specs.Refusals.{testedFault}
-use Rattle.plan_text.specs.Text.{Read, mostBytes}
-use Rattle.plan_text.specs.Entry.{readFault}
+use Rattle.plan_format.specs.Text.{Read, mostBytes}
+use Rattle.plan_format.specs.Reading.{readFault}
 use Rattle.plan_text.specs.inner.Scanning.{Holds}
 use Rattle.plan_text.proofs.Judging.{read-passed}
-use Rattle.plan_text.proofs.Entry.{too-small, not-passed, passed}
+use Rattle.plan_format.proofs.Readings.{too-small, not-passed}
+use Rattle.plan_text.proofs.Entry.{passed}
 use borrow.Author.Needs.{needs}
 use Rattle.plan_text.proofs.keep_plan.Statement.{statement}
 use Rattle.plan_text.proofs.keep_plan.Tie as tie

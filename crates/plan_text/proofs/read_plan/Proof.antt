@@ -1,5 +1,6 @@
 use mathlib.Core.Path.{_∙_}
-use Rattle.plan_text.proofs.Entry.{scans-malformed, scans-whole, read-malformed, read-whole}
+use Rattle.plan_format.proofs.Readings.{read-malformed, read-whole}
+use Rattle.plan_text.proofs.Entry.{scans-malformed, scans-whole}
 use borrow.Author.Needs.{needs}
 use Rattle.plan_text.proofs.read_plan.Statement.{statement}
 use Rattle.plan_text.proofs.read_plan.Tie as tie

@@ -6,7 +6,7 @@ use Rattle.units.specs.Cells.{written}
 use Rattle.units.proofs.Cells.{written-start}
 use Rattle.plan_text.specs.inner.Scanning.{calendarsAt, workTimesAt, heightsAt, boxesAt}
 use Rattle.plan_text.proofs.Sections.{section-part, section-length, part-length}
-use Rattle.plan_text.proofs.Entry.{enough}
+use Rattle.plan_format.proofs.Readings.{enough}
 use borrow.Author.Needs.{needs}
 use Rattle.plan_text.proofs.store_plan.Statement.{statement}
 use Rattle.plan_text.proofs.store_plan.Tie as tie

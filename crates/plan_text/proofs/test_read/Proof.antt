@@ -6,8 +6,8 @@ use borrow.Author.Tests.{leb-true, leb-false}
 use Rattle.units.specs.Limits.{isTaskCount}
 use Rattle.units.proofs.Choices.{else-none, else-some}
 use Rattle.plan.specs.Refusals.{testedFault}
-use Rattle.plan_text.specs.Entry.{lineFault}
-use Rattle.plan_text.specs.Text.{Read, mostBytes}
+use Rattle.plan_format.specs.Reading.{lineFault}
+use Rattle.plan_format.specs.Text.{Read, mostBytes}
 use Rattle.plan_text.specs.inner.Scanning.{Holds}
 use Rattle.plan_text.proofs.Judging.{lines-refuse, symbols-fit, read-plan, read-too-many}
 use borrow.Author.Needs.{needs}

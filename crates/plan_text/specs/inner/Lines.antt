@@ -6,7 +6,7 @@ use Prim.Native.Nat.{ℕ, _≤_}
 use lib.ListN.{length, take, drop, getD}
 use Rattle.plan_text.specs.declared.LineRecord.{LineRecord}
 use Rattle.plan_text.specs.declared.LineRecord.the-variants as line
-use Rattle.plan_text.specs.Records.{Record, planRecord, calRecord, taskRecord}
+use Rattle.plan_format.specs.Records.{Record, planRecord, calRecord, taskRecord}
 
 -- the most numbers of a record
 abbrev pub mostFields : ℕ

@@ -12,8 +12,8 @@ use Rattle.plan_text.specs.declared.MaybeScan.{MaybeScan}
 use Rattle.plan_text.specs.declared.MaybeScan.the-variants.{Broken, Next}
 use Rattle.plan_text.specs.declared.Scanned.{Scanned}
 use Rattle.plan_text.specs.declared.Scanned.the-variants.{Malformed, Whole}
-use Rattle.plan_text.specs.Text.{Read, mostBytes}
-use Rattle.plan_text.specs.Entry.{joined, boxOf, allOf, mostSymbols, mostBounds}
+use Rattle.plan_format.specs.Text.{Read, mostBytes}
+use Rattle.plan_format.specs.Reading.{joined, boxOf, allOf, mostSymbols, mostBounds}
 
 -- ---- the store and its sections
 

@@ -2,8 +2,9 @@ use mathlib.Core.Path.{sym, ap, _∙_}
 use native.Mathlib.Omega.{arith}
 use Rattle.plan_text.specs.declared.PlanReading.{PlanReading}
 use Rattle.units.specs.Limits.{mostTasks}
-use Rattle.plan_text.specs.Entry.{mostSymbols, mostBounds, ReadEnd, endWith, readingAnswer}
-use Rattle.plan_text.proofs.Holding.{Holds}
+use Rattle.plan_format.specs.Reading.{mostSymbols, mostBounds, ReadEnd, endWith}
+use Rattle.plan_text.specs.Entry.{readingAnswer}
+use Rattle.plan_format.proofs.Holding.{Holds}
 use Rattle.text_listing.specs.Program.{zeros, readEnd}
 use Rattle.text_listing.proofs.Room.{part-length, parts-ready}
 use Rattle.text_listing.proofs.Programs.{put-as, text-refused, text-holds, text-read}

@@ -4,6 +4,9 @@ use Rattle.text_listing.proofs.Room.{within-room, part-length}
 use Rattle.worked.proofs.print_listing.Statement.{statement}
 use Rattle.worked.proofs.print_listing.Tie as tie
 
+slice-aggregate-list-text : tie.Need-slice-aggregate-list-text
+slice-aggregate-list-text c = part-length _ _ _ refl (c .before .read-data .ensures)
+
 array-share-prefix-out : tie.Need-array-share-prefix-out
 array-share-prefix-out c = within-room _ _ _ _ (c .list-text .ensures .0) (c .list-text .ensures .1)
 
@@ -15,13 +18,8 @@ print-listing-spec =
     tie.close
     (tie.spec
     (λ c κs. search needs)
-    (λ c κs. search needs)
-    (λ c κs. search needs)
     (λ c. search needs)
-    (λ c κs. search needs)
-    (λ c κs. search needs)
-    (λ c. search needs)
-    (λ c. search needs)
+    slice-aggregate-list-text
     (λ c κs. search needs)
     array-share-prefix-out
     slice-aggregate-write-all

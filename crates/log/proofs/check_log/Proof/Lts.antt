@@ -96,7 +96,7 @@ abbrev pub τ9 : Syntax.Ty
     (Syntax.ttcons (Syntax.tcons (Syntax.tyInt Syntax.w64) Syntax.tnil) (Syntax.ttcons (Syntax.tcons (Syntax.tyInt Syntax.w64) Syntax.tnil) (Syntax.ttcons (Syntax.tcons (Syntax.tyInt Syntax.w64)
     Syntax.tnil) (Syntax.ttcons Syntax.tnil (Syntax.ttcons (Syntax.tcons (Syntax.tyInt Syntax.w64) Syntax.tnil) (Syntax.ttcons (Syntax.tcons (Syntax.tyInt Syntax.w64) Syntax.tnil) (Syntax.ttcons
     (Syntax.tcons (Syntax.tyInt Syntax.w64) Syntax.tnil) (Syntax.ttcons (Syntax.tcons (Syntax.tyInt Syntax.w64) Syntax.tnil) (Syntax.ttcons (Syntax.tcons (Syntax.tyInt Syntax.w64) Syntax.tnil)
-    (Syntax.ttcons (Syntax.tcons (Syntax.tyInt Syntax.w64) Syntax.tnil) (Syntax.ttcons Syntax.tnil Syntax.ttnil)))))))))))))))))
+    (Syntax.ttcons (Syntax.tcons (Syntax.tyInt Syntax.w64) Syntax.tnil) (Syntax.ttcons Syntax.tnil (Syntax.ttcons Syntax.tnil Syntax.ttnil))))))))))))))))))
 
 abbrev pub τ10 : Syntax.Ty
 τ10 = Syntax.tyEnum (115 ∷ 116 ∷ 101 ∷ 112 ∷ 115 ∷ 58 ∷ 58 ∷ 76 ∷ 111 ∷ 103 ∷ 67 ∷ 104 ∷ 101 ∷ 99 ∷ 107 ∷ 101 ∷ 100 ∷ []) (Syntax.ttcons (Syntax.tcons τ9 Syntax.tnil) (Syntax.ttcons (Syntax.tcons

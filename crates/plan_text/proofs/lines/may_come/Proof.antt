@@ -2,7 +2,7 @@ use mathlib.Core.Path.{sym, _∙_}
 use borrow.Author.Tests.{eq-eqb, ne-eqb}
 use Rattle.units.proofs.Choices.{if-true, if-false}
 use Rattle.units.proofs.Ranges.{too-small, by-most}
-use Rattle.plan_text.specs.Text.{comes}
+use Rattle.plan_format.specs.Text.{comes}
 use Rattle.plan_text.proofs.lines.may_come.Statement.{statement}
 use Rattle.plan_text.proofs.lines.may_come.Tie as tie
 

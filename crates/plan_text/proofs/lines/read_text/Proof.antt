@@ -2,7 +2,7 @@ use mathlib.Core.Path.{_≡_, sym}
 use native.Mathlib.Omega.{arith}
 use lib.ListN.{length, take}
 use lib.Seq.{length-take-le}
-use Rattle.plan_text.specs.Text.{mostBytes}
+use Rattle.plan_format.specs.Text.{mostBytes}
 use Rattle.plan_text.proofs.Lining.{text-short, text-long, scans}
 use borrow.Author.Needs.{needs}
 use Rattle.plan_text.proofs.lines.read_text.Statement.{statement}

@@ -4,7 +4,7 @@ use Prim.Native.Nat.{ℕ, _+_, _*_}
 use Rattle.units.specs.Cells.{writtenAt}
 use Rattle.text.proofs.Parts.{to-end}
 use Rattle.plan_text.specs.inner.Scanning.{boxesAt}
-use Rattle.plan_text.proofs.Following.{box-long, box-short}
+use Rattle.plan_format.proofs.Boxes.{box-long, box-short}
 use borrow.Author.Needs.{needs}
 use Rattle.plan_text.proofs.lines.store_box.Statement.{statement}
 use Rattle.plan_text.proofs.lines.store_box.Tie as tie

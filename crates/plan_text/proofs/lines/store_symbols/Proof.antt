@@ -1,6 +1,6 @@
 use native.Mathlib.Omega.{arith}
 use lib.ListN.{length-append}
-use Rattle.plan_text.specs.Entry.{mostSymbols}
+use Rattle.plan_format.specs.Reading.{mostSymbols}
 use Rattle.plan_text.proofs.Sections.{kept-more, kept-over}
 use borrow.Author.Needs.{needs}
 use Rattle.plan_text.proofs.lines.store_symbols.Statement.{statement}

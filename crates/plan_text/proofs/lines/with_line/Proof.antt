@@ -5,8 +5,8 @@ use native.Mathlib.Omega.{arith}
 use lib.ListN.{length}
 use lib.Seq.{length-take-le}
 use Rattle.text.proofs.Parts.{rest-of, to-end, rest-length}
-use Rattle.plan_text.specs.Records.{calRecord}
-use Rattle.plan_text.specs.Text.{withRecord}
+use Rattle.plan_format.specs.Records.{calRecord}
+use Rattle.plan_format.specs.Text.{withRecord}
 use Rattle.plan_text.specs.inner.Scanning.{Follows}
 use Rattle.plan_text.proofs.Recording.{finds-other, finds-plan, finds-cal, finds-task}
 use Rattle.plan_text.proofs.Following.{line-none, line-is, follows}

@@ -1,7 +1,7 @@
 -- The records of plan text, one a line (01, "Plan text and listing").
 use mathlib.Core.Bool.{true}
 use mathlib.Core.Option.{Option, none, some}
-use mathlib.Core.List.{List, [], _∷_}
+use mathlib.Core.List.{List, [], _∷_, _++_}
 use Prim.Native.Nat.{ℕ}
 use lib.Dec.{leb, eqb}
 use lib.ListN.{length, getD}
@@ -9,12 +9,15 @@ use Rattle.units.specs.Choice.{_and_, if_then_else_, someIf, onOption}
 use Rattle.text.specs.Words.{wordPlan, wordCal, wordTask}
 use Rattle.text.specs.Fields.{tab, parts, same}
 use Rattle.text.specs.Numbers.{numbersOf}
+use Rattle.text.specs.Lines.{numberFields}
 
 -- `plan`, H, capacity; `cal` and the symbols; `task` and three or nine numbers: calendar, p, height, and all six bounds or none
 pub data Record : Type 0 where
   planRecord : ℕ → ℕ → Record
   calRecord : List ℕ → Record
   taskRecord : List ℕ → Record
+
+-- ---- read
 
 -- the fields' numbers, if there are a or b of them
 unfoldable pub numbersIf : ℕ → ℕ → List (List ℕ) → Option (List ℕ)
@@ -44,3 +47,11 @@ byWord (word ∷ fields) =
 -- a line's record, if it is one
 unfoldable pub recordOf : List ℕ → Option Record
 recordOf line = byWord (parts tab line)
+
+-- ---- written
+
+-- a record's line, without its LF
+unfoldable pub recordLine : Record → List ℕ
+recordLine (planRecord h c) = wordPlan ++ numberFields (h ∷ c ∷ [])
+recordLine (calRecord symbols) = wordCal ++ (tab ∷ symbols)
+recordLine (taskRecord numbers) = wordTask ++ numberFields numbers

@@ -1,4 +1,5 @@
--- Plan text, line by line (01, "Plan text and listing"): the first line that breaks the rules, or the plan's records.
+-- Plan text, line by line (01, "Plan text and listing"). Read: the first line that breaks the rules, or the plan's records. Written: each record's
+-- line.
 use mathlib.Core.Bool.{Bool}
 use mathlib.Core.Option.{Option, none}
 use mathlib.Core.List.{List, [], _∷_, _++_}
@@ -9,7 +10,10 @@ use Rattle.units.specs.Choice.{_and_, if_then_else_, someIf, onOption}
 use Rattle.units.specs.Limits.{within}
 use Rattle.plan.specs.Refusals.{fault, Answer, refused, answered}
 use Rattle.text.specs.Fields.{lf, parts}
-use Rattle.plan_text.specs.Records.{Record, planRecord, calRecord, taskRecord, recordOf}
+use Rattle.text.specs.Lines.{ended}
+use Rattle.plan_format.specs.Records.{Record, planRecord, calRecord, taskRecord, recordOf, recordLine}
+
+-- ---- read
 
 -- the most bytes of a text
 abbrev pub mostBytes : ℕ
@@ -64,3 +68,10 @@ readLines whole k r (line ∷ (next ∷ lines)) =
 -- lines count from 1; the line that holds byte 32,769 is the one after the last LF before it
 unfoldable pub readText : List ℕ → Answer Read
 readText text = readLines (leb (length text) mostBytes) 1 nothing (parts lf (take mostBytes text))
+
+-- ---- written
+
+-- one record a line
+unfoldable pub textOf : List Record → List ℕ
+textOf [] = []
+textOf (x ∷ xs) = ended (recordLine x) ++ textOf xs

@@ -14,10 +14,10 @@ use Rattle.units.proofs.Ranges.{to-most}
 use Rattle.plan.specs.Plan.{taskCount}
 use Rattle.plan.specs.Refusals.{Fault, Answer, refused, answered, onAnswer}
 use Rattle.plan.specs.Faults.{planFault}
-use Rattle.plan.proofs.Refusals.{unless-none}
+use Rattle.plan.proofs.Refusals.{unless-none, refused≢answered}
 use Rattle.plan.proofs.Passed.{counts-passed}
-use Rattle.plan_text.specs.Text.{Read, readText}
-use Rattle.plan_text.specs.Entry.{planIn, mostSymbols, lineFault, readFault, isEnough, PlanRead, unread, stored, readTested, readPlan}
+use Rattle.plan_format.specs.Text.{Read, readText}
+use Rattle.plan_format.specs.Reading.{planIn, mostSymbols, lineFault, readFault, isEnough, PlanRead, unread, stored, readTested, readPlan}
 
 pub record Holds (a : PlanRead) : Type 0 where
   pub hours : a .hours ≤ mostHours
@@ -42,9 +42,6 @@ fault-free enough r e =
       tasks = few;
       symbols = mul-le-mul c h;
     }
-
-refused≢answered : {A C : Type 0} {f : Fault} {a : A} → refused f ≡ answered a → C
-refused≢answered e = absurd (let z : _≡_ {A = ℕ} 0 1 = cc in omega arith)
 
 module _ (calendars taskCalendars workTimes heights boxes : List ℕ) where
   from-tested : (r : Read) (a : PlanRead) → readTested calendars taskCalendars workTimes heights boxes r .answer ≡ answered a → Holds a

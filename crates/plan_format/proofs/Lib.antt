@@ -1,0 +1,12 @@
+pub mod Lines
+pub mod Texts
+pub mod Boxes
+pub mod Joined
+pub mod Written
+pub mod Rereading
+pub mod Growing
+pub mod Size
+pub mod Holding
+pub mod Readings
+pub mod Writings
+pub mod Again

@@ -1,0 +1,4 @@
+pub mod Records
+pub mod Text
+pub mod Reading
+pub mod Writing

@@ -1,0 +1,259 @@
+// Plan text: writing a plan.
+use plan::Refusal;
+use plan::Tested;
+use plan::bounds_at;
+use plan::calendar_at;
+use plan::calendar_count;
+use text::LF;
+use text::lengths::line_length;
+use text::put::put_byte;
+use text::put::put_bytes;
+use text::put::put_line;
+use units::Duration;
+ghost use mathlib.Core.Bool.{true};
+ghost use mathlib.Core.List.{[]};
+ghost use mathlib.Core.Option.{none};
+ghost use mathlib.Core.Path.{_≡_};
+ghost use Prim.Native.Nat.{ℕ, _+_, _*_, _≤_, _<_};
+ghost use lib.ListN.{length, take};
+ghost use Rattle.units.specs.Limits.{mostCalendars, mostTasks};
+ghost use Rattle.text.specs.Lines.{ended};
+ghost use Rattle.text.specs.Putting.{Put};
+ghost use Rattle.plan.specs.Plan.{shifts, calendarCount};
+ghost use Rattle.plan.specs.Refusals.{answered};
+ghost use Rattle.plan.specs.Faults.{oneForEachTask, inputFault};
+ghost use Rattle.plan.specs.Lent.{old, left, planOf, oldPlan};
+ghost use Rattle.plan_format.specs.Records.{calRecord, recordLine};
+ghost use Rattle.plan_format.specs.Text.{textOf};
+ghost use Rattle.plan_format.specs.Writing.{calRecords, taskNumbers, taskRecords, planText, writeEnd, writePlan, ReadsBack};
+ghost use Rattle.plan_writing.specs.Entry.{writingAnswer};
+
+// What writing a plan answers: a refusal, or the length of its text.
+pub enum PlanWriting {
+    Refused(Refusal),
+    Written(usize),
+}
+
+// The numbers of the line of task i: calendar, work time, height and six bounds.
+fn task_numbers(
+    task_calendars: &[u16],
+    work_times: &[u16],
+    heights: &[u16],
+    boxes: &[u16],
+    i: usize,
+) -> [usize; 9]
+    requires { ⌜ (oneForEachTask (now «task_calendars») (now «work_times») (now heights) (now boxes) ≡ true)
+        × (i < length (now «task_calendars»)) ⌝ }
+    ensures { λ r. ⌜ r ≡ taskNumbers (old «task_calendars») (old «work_times») (old heights) (old boxes) i ⌝ }
+{
+    let b = bounds_at(boxes, i);
+    [
+        task_calendars[i] as usize,
+        work_times[i] as usize,
+        heights[i] as usize,
+        b.earliest.0 as usize,
+        b.latest.0 as usize,
+        b.shortest.0 as usize,
+        b.longest.0 as usize,
+        b.fewest.0 as usize,
+        b.most.0 as usize,
+    ]
+}
+
+// How many bytes the tasks' lines have, 200 a line at most.
+fn tasks_length(task_calendars: &[u16], work_times: &[u16], heights: &[u16], boxes: &[u16]) -> usize
+    requires { ⌜ (oneForEachTask (now «task_calendars») (now «work_times») (now heights) (now boxes) ≡ true)
+        × (length (now «task_calendars») ≤ mostTasks) ⌝ }
+    ensures { λ r.
+        let records = taskRecords (old «task_calendars») (old «work_times») (old heights) (old boxes) (length (old «task_calendars»)) in
+        ⌜ (r ≡ length (textOf records)) × (r ≤ 200 * mostTasks) ⌝ }
+{
+    let mut bytes = 0;
+    for i in 0..task_calendars.len() {
+        let numbers = task_numbers(task_calendars, work_times, heights, boxes, i);
+        bytes += line_length(b"task", &numbers);
+    }
+    bytes
+}
+
+// What a calendar's line has beside its symbols: the word, a tab and LF.
+const CALENDAR_FRAME: usize = 5;
+
+// How many bytes the plan's text has.
+fn text_length(
+    hours: Duration,
+    capacity: u16,
+    calendars: &[u8],
+    task_calendars: &[u16],
+    work_times: &[u16],
+    heights: &[u16],
+    boxes: &[u16],
+) -> usize
+    requires { ⌜ inputFault (planOf (hours .0) capacity calendars «task_calendars» «work_times» heights) (now boxes) ≡ none ⌝ }
+    ensures { λ r.
+        let P = oldPlan (hours .0) capacity calendars «task_calendars» «work_times» heights in
+        ⌜ r ≡ length (planText P (old boxes)) ⌝ }
+{
+    let numbers = [hours.0 as usize, capacity as usize];
+    let first = line_length(b"plan", &numbers);
+    let symbols = calendars.len() + CALENDAR_FRAME * calendar_count(calendars, hours);
+    first + symbols + tasks_length(task_calendars, work_times, heights, boxes)
+}
+
+// The line of a calendar.
+fn put_calendar(out: &mut [u8], at: usize, calendar: &[u8]) -> usize
+    requires { ⌜ at + length (ended (recordLine (calRecord (now calendar)))) ≤ length (now out) ⌝ }
+    ensures { λ r. ⌜ Put (ended (recordLine (calRecord (old calendar)))) at (old out) r (left out) ⌝ }
+{
+    let symbols = put_bytes(out, at, b"cal\t");
+    let end = put_bytes(out, symbols, calendar);
+    put_byte(out, end, LF)
+}
+
+// The lines of the calendars; no task is looked at.
+fn put_calendars(out: &mut [u8], at: usize, calendars: &[u8], hours: Duration) -> usize
+    requires { let S = shifts (hours .0) (now calendars) [] [] in
+        ⌜ (1 ≤ hours .0)
+        × (calendarCount S ≤ mostCalendars)
+        × (at + length (textOf (calRecords S (calendarCount S))) ≤ length (now out)) ⌝ }
+    ensures { λ r. let S = shifts (hours .0) (old calendars) [] [] in
+        ⌜ Put (textOf (calRecords S (calendarCount S))) at (old out) r (left out) ⌝ }
+{
+    let mut end = at;
+    for k in 0..calendar_count(calendars, hours) {
+        let calendar = calendar_at(calendars, hours, k as u16);
+        end = put_calendar(out, end, calendar);
+    }
+    end
+}
+
+// The lines of the tasks.
+fn put_tasks(
+    out: &mut [u8],
+    at: usize,
+    task_calendars: &[u16],
+    work_times: &[u16],
+    heights: &[u16],
+    boxes: &[u16],
+) -> usize
+    requires { let records = taskRecords (now «task_calendars») (now «work_times») (now heights) (now boxes) (length (now «task_calendars»)) in
+        ⌜ (oneForEachTask (now «task_calendars») (now «work_times») (now heights) (now boxes) ≡ true)
+        × (length (now «task_calendars») ≤ mostTasks)
+        × (at + length (textOf records) ≤ length (now out)) ⌝ }
+    ensures { λ r.
+        let records = taskRecords (old «task_calendars») (old «work_times») (old heights) (old boxes) (length (old «task_calendars»)) in
+        ⌜ Put (textOf records) at (old out) r (left out) ⌝ }
+{
+    let mut end = at;
+    for i in 0..task_calendars.len() {
+        let numbers = task_numbers(task_calendars, work_times, heights, boxes, i);
+        end = put_line(out, end, b"task", &numbers);
+    }
+    end
+}
+
+// The plan's text: the plan line, the calendars' lines, the tasks' lines.
+fn put_text(
+    hours: Duration,
+    capacity: u16,
+    calendars: &[u8],
+    task_calendars: &[u16],
+    work_times: &[u16],
+    heights: &[u16],
+    boxes: &[u16],
+    out: &mut [u8],
+) -> usize
+    requires { let P = planOf (hours .0) capacity calendars «task_calendars» «work_times» heights in
+        ⌜ (inputFault P (now boxes) ≡ none) × (length (planText P (now boxes)) ≤ length (now out)) ⌝ }
+    ensures { λ r.
+        let P = oldPlan (hours .0) capacity calendars «task_calendars» «work_times» heights in
+        ⌜ Put (planText P (old boxes)) 0 (old out) r (left out) ⌝ }
+{
+    let numbers = [hours.0 as usize, capacity as usize];
+    let first = put_line(out, 0, b"plan", &numbers);
+    let middle = put_calendars(out, first, calendars, hours);
+    put_tasks(out, middle, task_calendars, work_times, heights, boxes)
+}
+
+// Writes a plan that passes the tests, if there is room for its text; else no byte is written.
+fn write_passed(
+    hours: Duration,
+    capacity: u16,
+    calendars: &[u8],
+    task_calendars: &[u16],
+    work_times: &[u16],
+    heights: &[u16],
+    boxes: &[u16],
+    out: &mut [u8],
+) -> PlanWriting
+    requires { ⌜ inputFault (planOf (hours .0) capacity calendars «task_calendars» «work_times» heights) (now boxes) ≡ none ⌝ }
+    ensures { λ x.
+        let P = oldPlan (hours .0) capacity calendars «task_calendars» «work_times» heights in
+        ⌜ writeEnd (writingAnswer x) (left out) ≡ writePlan P (old boxes) (old out) ⌝ }
+{
+    let length = text_length(
+        hours,
+        capacity,
+        calendars,
+        task_calendars,
+        work_times,
+        heights,
+        boxes,
+    );
+    if out.len() < length {
+        return PlanWriting::Refused(Refusal::OutputSize);
+    }
+    PlanWriting::Written(put_text(
+        hours,
+        capacity,
+        calendars,
+        task_calendars,
+        work_times,
+        heights,
+        boxes,
+        out,
+    ))
+}
+
+// Writes a plan as text, every task line with all its bounds. The memory lent stays as it is until the plan has passed every test and its text is
+// known to fit; the bytes past the text are untouched.
+pub fn write_plan(
+    hours: u16,
+    capacity: u16,
+    calendars: &[u8],
+    task_calendars: &[u16],
+    work_times: &[u16],
+    heights: &[u16],
+    boxes: &[u16],
+    out: &mut [u8],
+) -> PlanWriting
+    ensures { λ x.
+        let P = oldPlan hours capacity calendars «task_calendars» «work_times» heights in
+        ⌜ writeEnd (writingAnswer x) (left out) ≡ writePlan P (old boxes) (old out) ⌝ }
+    ensures back { λ x.
+        let P = oldPlan hours capacity calendars «task_calendars» «work_times» heights in
+        ⌜ ((n : ℕ) → writingAnswer x ≡ answered n → ReadsBack P (old boxes) (take n (left out))) ⌝ }
+{
+    let tested = plan::test_input(
+        hours,
+        capacity,
+        calendars,
+        task_calendars,
+        work_times,
+        heights,
+        boxes,
+    );
+    if let Tested::Refused(refusal) = tested {
+        return PlanWriting::Refused(refusal);
+    }
+    write_passed(
+        Duration(hours),
+        capacity,
+        calendars,
+        task_calendars,
+        work_times,
+        heights,
+        boxes,
+        out,
+    )
+}
