@@ -1,6 +1,6 @@
 /* Times the library against a plain implementation of the same definitions in C: same plans, same memory, one run. Both must leave the same
    answer, boxes and log before a time is printed. The plain one keeps each task's answer of the calendar rule and makes the load of each hour
-   once a turn, as the library does; its calendar rule tries each start and each elapsed time with running counts. */
+   in each room once a turn, as the library does; its calendar rule tries each start and each elapsed time with running counts. */
 
 #include "../crates/capi/shimlantern.h"
 
@@ -9,13 +9,14 @@
 #include <string.h>
 #include <time.h>
 
-enum { HOURS = 1008, TASKS = 64, ROOM = 2048, CALENDARS = 4 };
+enum { HOURS = 1008, TASKS = 64, ROOM = 2048, CALENDARS = 4, ROOMS = 8 };
 
+/* Of TASKS tasks, so that room r's heights begin at cell r * TASKS. */
 struct plan {
-    uint16_t hours, capacity;
-    size_t calendars, tasks;
+    uint16_t hours;
+    size_t rooms, calendars, tasks;
     uint8_t symbols[CALENDARS * HOURS];
-    uint16_t task_calendars[TASKS], work_times[TASKS], heights[TASKS];
+    uint16_t capacities[ROOMS], task_calendars[TASKS], work_times[TASKS], heights[ROOMS * TASKS];
 };
 
 struct memory {
@@ -76,21 +77,26 @@ struct found {
 
 /* The first admitted step, in 01's order; kind 0 if there is none. */
 static struct found next_step(const struct plan *p, const uint16_t *boxes, const struct fit *fits) {
-    static unsigned load[HOURS];
+    static unsigned load[ROOMS][HOURS];
     for (size_t i = 0; i < p->tasks; i++)
         if (!fits[i].any || memcmp(fits[i].box, boxes + 6 * i, sizeof fits[i].box)) return (struct found){'C', i, 0};
-    memset(load, 0, sizeof load);
-    for (size_t i = 0; i < p->tasks; i++)
-        for (unsigned t = fits[i].box[1]; t < fits[i].ect; t++) load[t] += p->heights[i];
-    for (unsigned t = 0; t < p->hours; t++)
-        if (load[t] > p->capacity) return (struct found){'O', 0, t};
+    memset(load, 0, p->rooms * sizeof *load);
+    for (size_t r = 0; r < p->rooms; r++)
+        for (size_t i = 0; i < p->tasks; i++)
+            for (unsigned t = fits[i].box[1]; t < fits[i].ect; t++) load[r][t] += p->heights[r * TASKS + i];
+    for (size_t r = 0; r < p->rooms; r++)
+        for (unsigned t = 0; t < p->hours; t++)
+            if (load[r][t] > p->capacities[r]) return (struct found){'O', r, t};
     for (int upper = 0; upper < 2; upper++)
         for (size_t i = 0; i < p->tasks; i++)
             for (unsigned t = 0; t < p->hours; t++) {
                 const uint16_t *b = boxes + 6 * i;
                 if (upper ? !(fits[i].box[1] <= t && t < b[1] + b[2]) : !(t < fits[i].ect && b[0] <= t)) continue;
-                unsigned others = load[t] - (must_run(&fits[i], t) ? p->heights[i] : 0);
-                if (p->heights[i] + others > p->capacity) return (struct found){upper ? 'U' : 'L', i, t};
+                int own = must_run(&fits[i], t);
+                for (size_t r = 0; r < p->rooms; r++) {
+                    unsigned height = p->heights[r * TASKS + i], others = load[r][t] - (own ? height : 0);
+                    if (height + others > p->capacities[r]) return (struct found){upper ? 'U' : 'L', i, t};
+                }
             }
     return (struct found){0, 0, 0};
 }
@@ -125,12 +131,14 @@ static void plain_filter(const struct plan *p, struct memory *m) {
 /* The library. */
 
 static void library_filter(const struct plan *p, struct memory *m) {
-    shimlantern_filter(p->hours, p->capacity, p->symbols, p->calendars * p->hours, p->task_calendars, p->tasks, p->work_times, p->tasks,
-                       p->heights, p->tasks, m->boxes, 6 * p->tasks, m->kinds, ROOM, m->tasks, ROOM, m->hours, ROOM, m->answer);
+    shimlantern_filter(p->hours, p->capacities, p->rooms, p->symbols, p->calendars * p->hours, p->task_calendars, p->tasks, p->work_times,
+                       p->tasks, p->heights, p->rooms * p->tasks, m->boxes, 6 * p->tasks, m->kinds, ROOM, m->tasks, ROOM, m->hours, ROOM,
+                       m->answer);
 }
 
 /* The plans. */
 
+/* A task of a plan with one room. */
 static void add_task(struct plan *p, uint16_t *boxes, uint16_t calendar, uint16_t work_time, uint16_t height, const uint16_t box[6]) {
     size_t i = p->tasks++;
     p->task_calendars[i] = calendar;
@@ -143,7 +151,7 @@ static void add_task(struct plan *p, uint16_t *boxes, uint16_t calendar, uint16_
    the others start between. */
 static void mostly_regular(struct plan *p, uint16_t *boxes) {
     const char *day = "rrrrrrrrrrrrrrrrrrrroocc";
-    *p = (struct plan){.hours = HOURS, .capacity = 4, .calendars = CALENDARS};
+    *p = (struct plan){.hours = HOURS, .rooms = 1, .capacities = {4}, .calendars = CALENDARS};
     for (size_t k = 0; k < CALENDARS * HOURS; k++) p->symbols[k] = day[(k % HOURS + 5 * (k / HOURS)) % 24];
     for (uint16_t i = 0; i < TASKS; i++) {
         uint16_t first = i >= 4 && i < 8 ? 890 : 0, last = i < 8 ? first : 920;
@@ -152,10 +160,20 @@ static void mostly_regular(struct plan *p, uint16_t *boxes) {
     }
 }
 
+/* The same weeks in eight rooms, with other heights in each. */
+static void eight_rooms(struct plan *p, uint16_t *boxes) {
+    mostly_regular(p, boxes);
+    p->rooms = ROOMS;
+    for (size_t r = 1; r < ROOMS; r++) {
+        p->capacities[r] = p->capacities[0];
+        for (size_t i = 0; i < TASKS; i++) p->heights[r * TASKS + i] = i < 8 ? 1 : 1 + (i + r) % 3;
+    }
+}
+
 /* Regular and overtime hours by turns; task 0 fills the capacity of 1 for its first 200 hours, the others may start at any hour. */
 static void by_turns(struct plan *p, uint16_t *boxes) {
     enum { WORK = 200 };
-    *p = (struct plan){.hours = HOURS, .capacity = 1, .calendars = 1};
+    *p = (struct plan){.hours = HOURS, .rooms = 1, .capacities = {1}, .calendars = 1};
     for (size_t k = 0; k < HOURS; k++) p->symbols[k] = "ro"[k % 2];
     add_task(p, boxes, 0, WORK, 1, (uint16_t[]){0, 0, WORK, WORK, 0, WORK});
     while (p->tasks < TASKS) add_task(p, boxes, 0, WORK, 1, (uint16_t[]){0, HOURS - 1, 1, HOURS, 0, WORK});
@@ -174,7 +192,7 @@ static double lesser(double a, double b) {
 }
 
 static void print_times(const char *name, double library, double plain) {
-    printf("%-50s library %9.3f ms   plain C %9.3f ms   ratio %6.2f\n", name, 1e3 * library, 1e3 * plain, library / plain);
+    printf("%-54s library %9.3f ms   plain C %9.3f ms   ratio %6.2f\n", name, 1e3 * library, 1e3 * plain, library / plain);
 }
 
 /* The two take turns, and the least time of each counts. */
@@ -226,6 +244,7 @@ static void time_rule(const char *name, int times) {
 
 int main(void) {
     time_filter("filter, mostly regular hours", mostly_regular, 10);
+    time_filter("filter, mostly regular hours, eight rooms", eight_rooms, 10);
     time_filter("filter, regular and overtime by turns", by_turns, 3);
     time_rule("calendar rule, all overtime, p = 504", 200);
     return 0;

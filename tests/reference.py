@@ -1,8 +1,8 @@
-"""Document 01, with 02's W-201, in plain Python, written from their text alone and from no code of the product. tests/compare holds the library
-to it.
+"""Document 01, with 02's W-201 and W-202, in plain Python, written from their text alone and from no code of the product. tests/compare holds the
+library to it.
 
-A calendar is bytes of r, c, o. A box is six numbers: S, E, O, the lower bound first. A step is (kind, task, hour), its kind a byte's number. A
-refusal is (number, place)."""
+A calendar is bytes of r, c, o. A box is six numbers: S, E, O, the lower bound first. Heights lie room by room, each room's of all tasks. A step is
+(kind, task, hour), its kind a byte's number, its task a room's number where the kind is O. A refusal is (number, place)."""
 
 from functools import cached_property, lru_cache
 from itertools import accumulate
@@ -11,11 +11,12 @@ from typing import NamedTuple
 MOST_HOURS = 1008
 MOST_CALENDARS = 16
 MOST_TASKS = 64
+MOST_ROOMS = 8
 MOST_HEIGHT = 1000
 MOST_CAPACITY = 60000
 MOST_NUMBER = 65535
 MOST_BYTES = 32768
-MOST_WRITTEN = 19296
+MOST_WRITTEN = 21578
 PROGRAM_ROOM = 2048
 
 # The valid triples of a box with more triples than this are found by counts, and of any other by listing; tests/compare holds the two to each
@@ -25,7 +26,7 @@ MOST_LISTED = 2000
 
 class Plan(NamedTuple):
     hours: int
-    capacity: int
+    capacities: tuple
     calendars: bytes
     task_calendars: tuple
     work_times: tuple
@@ -33,6 +34,17 @@ class Plan(NamedTuple):
 
     def tasks(self):
         return len(self.task_calendars)
+
+    def rooms(self):
+        return len(self.capacities)
+
+    def heights_in(self, room):
+        """The tasks' heights in a room."""
+        return self.heights[room * self.tasks() : (room + 1) * self.tasks()]
+
+    def heights_of(self, task):
+        """The task's heights in the rooms."""
+        return self.heights[task :: self.tasks()]
 
     def calendar(self, task):
         first = self.task_calendars[task] * self.hours
@@ -126,7 +138,7 @@ def fit_of(calendar, p, box):
 
 
 class State:
-    """The boxes as they stand at a turn, with each task's fit and each hour's load."""
+    """The boxes as they stand at a turn, with each task's fit and each hour's load in each room."""
 
     def __init__(self, plan, boxes):
         self.plan = plan
@@ -134,27 +146,28 @@ class State:
         self.fits = [fit_of(plan.calendar(i), plan.work_times[i], boxes[i]) for i in range(plan.tasks())]
         self.compulsory = [fit.compulsory() if fit else range(0) for fit in self.fits]
 
-    def part(self, task, hour):
-        """What a task adds to the load of an hour: its height, if its compulsory part holds the hour."""
-        return self.plan.heights[task] if hour in self.compulsory[task] else 0
-
     @cached_property
     def loads(self):
-        """Each hour's load: the heights of the tasks whose compulsory part holds it."""
+        """In each room each hour's load: the heights of the tasks whose compulsory part holds it."""
+        return [self.loads_of(self.plan.heights_in(room)) for room in range(self.plan.rooms())]
+
+    def loads_of(self, heights):
         loads = [0] * self.plan.hours
-        for height, part in zip(self.plan.heights, self.compulsory):
+        for height, part in zip(heights, self.compulsory):
             for hour in part:
                 loads[hour] += height
         return loads
 
-    def exceeds(self, task, hour):
-        """The task's height plus the other tasks' load exceeds the capacity."""
-        return self.plan.heights[task] + self.loads[hour] - self.part(task, hour) > self.plan.capacity
+    def exceeded(self, task, hour):
+        """The rooms in which the task's height plus the other tasks' load exceeds the capacity."""
+        own = hour in self.compulsory[task]
+        rooms = enumerate(zip(self.plan.heights_of(task), self.loads, self.plan.capacities))
+        return [room for room, (height, loads, capacity) in rooms if height + (loads[hour] - own * height) > capacity]
 
 
 def calendar_rule(calendar, p, box):
     """A refusal and None, or None and the fit, which is None where there is no valid triple."""
-    refusal = plan_fault(Plan(len(calendar), 0, calendar, (0,), (p,), (0,)), [box])
+    refusal = plan_fault(Plan(len(calendar), (0,), calendar, (0,), (p,), (0,)), [box])
     return (refusal, None) if refusal else (None, fit_of(calendar, p, box))
 
 
@@ -169,7 +182,7 @@ def task_fault(plan, boxes, task):
         return 6, task
     if not 1 <= p <= hours:
         return 7, task
-    if plan.heights[task] > MOST_HEIGHT:
+    if any(height > MOST_HEIGHT for height in plan.heights_of(task)):
         return 8, task
     if not (0 <= s0 <= s1 <= hours - 1 and 1 <= e0 <= e1 <= hours and 0 <= o0 <= o1 <= p):
         return 9, task
@@ -177,7 +190,7 @@ def task_fault(plan, boxes, task):
 
 
 def plan_fault(plan, boxes):
-    """The first of 2, 3, 4, 5, 10 and, task by task, 6 to 9."""
+    """The first of 2, 3, 4, 5, 17, 10 and, task by task, 6 to 9."""
     if not 1 <= plan.hours <= MOST_HOURS:
         return 2, 0
     if len(plan.calendars) % plan.hours or not 1 <= len(plan.calendars) // plan.hours <= MOST_CALENDARS:
@@ -187,7 +200,9 @@ def plan_fault(plan, boxes):
             return 4, index
     if plan.tasks() > MOST_TASKS:
         return 5, 0
-    if plan.capacity > MOST_CAPACITY:
+    if not 1 <= plan.rooms() <= MOST_ROOMS:
+        return 17, 0
+    if any(capacity > MOST_CAPACITY for capacity in plan.capacities):
         return 10, 0
     for task in range(plan.tasks()):
         refusal = task_fault(plan, boxes, task)
@@ -206,9 +221,10 @@ def schedule_fault(plan, boxes, schedule):
             return 14, task
         if not valid(plan.calendar(task), plan.work_times[task], *triple):
             return 15, task
+    rooms = [(plan.heights_in(room), capacity) for room, capacity in enumerate(plan.capacities)]
     for hour in range(plan.hours):
-        running = [plan.heights[i] for i, (s, e, _) in enumerate(schedule) if s <= hour < s + e]
-        if sum(running) > plan.capacity:
+        running = [i for i, (s, e, _) in enumerate(schedule) if s <= hour < s + e]
+        if any(sum(heights[i] for i in running) > capacity for heights, capacity in rooms):
             return 16, hour
     return None
 
@@ -234,13 +250,13 @@ def judge(state, step):
     plan, boxes = state.plan, state.boxes
     if kind not in b"COLU":
         return UNKNOWN
-    if task >= plan.tasks() if kind in b"CLU" else task != 0:
+    if task >= (plan.rooms() if kind == ord("O") else plan.tasks()):
         return UNKNOWN
     if hour >= plan.hours if kind in b"OLU" else hour != 0:
         return UNKNOWN
 
     if kind == ord("O"):
-        return IMPOSSIBLE if state.loads[hour] > plan.capacity else NOT_ADMITTED
+        return IMPOSSIBLE if state.loads[task][hour] > plan.capacities[task] else NOT_ADMITTED
 
     fit = state.fits[task]
     s0, s1, e0, e1, o0, o1 = boxes[task]
@@ -252,11 +268,11 @@ def judge(state, step):
     if fit is None:
         return NOT_ADMITTED
     if kind == ord("L"):
-        if not (fit.ect > hour and s0 <= hour and state.exceeds(task, hour)):
+        if not (fit.ect > hour and s0 <= hour and state.exceeded(task, hour)):
             return NOT_ADMITTED
         return IMPOSSIBLE if hour >= s1 else moved(boxes, task, (hour + 1, s1, e0, e1, o0, o1))
     lst = fit.box[1]
-    if not (lst <= hour and s1 > hour - e0 and state.exceeds(task, hour)):
+    if not (lst <= hour and s1 > hour - e0 and state.exceeded(task, hour)):
         return NOT_ADMITTED
     return IMPOSSIBLE if hour - e0 < s0 else moved(boxes, task, (s0, hour - e0, e0, e1, o0, o1))
 
@@ -297,14 +313,14 @@ def check_log(plan, boxes, log):
 def steps_in_order(plan):
     tasks, hours = range(plan.tasks()), range(plan.hours)
     yield from ((ord("C"), task, 0) for task in tasks)
-    yield from ((ord("O"), 0, hour) for hour in hours)
+    yield from ((ord("O"), room, hour) for room in range(plan.rooms()) for hour in hours)
     yield from ((ord("L"), task, hour) for task in tasks for hour in hours)
     yield from ((ord("U"), task, hour) for task in tasks for hour in hours)
 
 
 @lru_cache(maxsize=4096)
 def next_step(plan, boxes):
-    """The first admitted step and what it comes to, or None; boxes as a tuple, so that runs at several rooms share what was found."""
+    """The first admitted step and what it comes to, or None; boxes as a tuple, so that runs with other room for the log share what was found."""
     state = State(plan, list(boxes))
     for step in steps_in_order(plan):
         judged = judge(state, step)
@@ -359,7 +375,7 @@ def numbers(fields):
 
 
 def parse(text):
-    """The number of the first line that breaks the rules and None, or None and (H, capacity, calendar lines, task lines)."""
+    """The number of the first line that breaks the rules and None, or None and (H, capacities, calendar lines, task lines)."""
     head, calendars, tasks = None, [], []
     lines = text.split(b"\n")
     too_long = text[:MOST_BYTES].count(b"\n") + 1 if len(text) > MOST_BYTES else None
@@ -370,15 +386,15 @@ def parse(text):
         if last or at == too_long:
             return at, None
         word, *fields = line.split(b"\t")
-        if word == b"plan" and at == 1 and len(fields) == 2 and numbers(fields) is not None:
+        if word == b"plan" and at == 1 and fields and numbers(fields) is not None:
             head = numbers(fields)
         elif word == b"cal" and head and not tasks and len(fields) == 1 and fields[0] != b"":
             calendars.append(fields[0])
-        elif word == b"task" and head and len(fields) in (3, 9) and numbers(fields) is not None:
+        elif word == b"task" and head and len(fields) - len(head[1:]) in (2, 8) and numbers(fields) is not None:
             tasks.append(numbers(fields))
         else:
             return at, None
-    return None, (*head, calendars, tasks)
+    return None, (head[0], head[1:], calendars, tasks)
 
 
 def read_plan(text, enough=True):
@@ -388,25 +404,32 @@ def read_plan(text, enough=True):
         return (1, broken), None
     if not enough:
         return (31, 0), None
-    hours, capacity, calendars, tasks = read
+    hours, capacities, calendars, tasks = read
+    rooms = len(capacities)
     if not 1 <= hours <= MOST_HOURS:
         return (2, 0), None
     if not 1 <= len(calendars) <= MOST_CALENDARS or any(len(symbols) != hours for symbols in calendars):
         return (3, 0), None
-    plan = Plan(hours, capacity, b"".join(calendars), *(tuple(task[k] for task in tasks) for k in range(3)))
-    boxes = [tuple(task[3:]) if len(task) == 9 else (0, hours - 1, task[1], hours, 0, task[1]) for task in tasks]
+    task_calendars, work_times = (tuple(task[k] for task in tasks) for k in range(2))
+    heights = tuple(task[2 + room] for room in range(rooms) for task in tasks)
+    plan = Plan(hours, tuple(capacities), b"".join(calendars), task_calendars, work_times, heights)
+    boxes = [tuple(task[2 + rooms :]) or (0, hours - 1, task[1], hours, 0, task[1]) for task in tasks]
     refusal = plan_fault(plan, boxes)
     return (refusal, None) if refusal else (None, (plan, len(calendars), boxes))
 
 
+def record(word, *fields):
+    """A line of a word and numbers."""
+    return b"\t".join([word, *(b"%d" % n for n in fields)]) + b"\n"
+
+
 def plan_text(plan, boxes):
     """A plan as text, every task line with all its bounds."""
-    lines = [b"plan\t%d\t%d\n" % (plan.hours, plan.capacity)]
+    lines = [record(b"plan", plan.hours, *plan.capacities)]
     for first in range(0, len(plan.calendars), plan.hours):
         lines.append(b"cal\t" + plan.calendars[first : first + plan.hours] + b"\n")
     for task, box in enumerate(boxes):
-        fields = (plan.task_calendars[task], plan.work_times[task], plan.heights[task], *box)
-        lines.append(b"task\t" + b"\t".join(b"%d" % n for n in fields) + b"\n")
+        lines.append(record(b"task", plan.task_calendars[task], plan.work_times[task], *plan.heights_of(task), *box))
     return b"".join(lines)
 
 
@@ -422,10 +445,9 @@ def write_plan(plan, boxes, room):
 def listing(text):
     refusal, read = read_plan(text)
     if refusal:
-        return b"refused\t%d\t%d\n" % refusal
+        return record(b"refused", *refusal)
     plan, _, boxes = read
     run = run_filter(plan, boxes, PROGRAM_ROOM)
-    lines = [b"%s\t%d\n" % (run.ending.encode(), len(run.log))]
-    for task, box in enumerate(run.boxes):
-        lines.append(b"task\t" + b"\t".join(b"%d" % n for n in (task, *box)) + b"\n")
+    lines = [record(run.ending.encode(), len(run.log))]
+    lines += [record(b"task", task, *box) for task, box in enumerate(run.boxes)]
     return b"".join(lines)

@@ -23,13 +23,13 @@ use Rattle.calendar.specs.Entry.{oneTask, calendarRule}
 
 module _ (cal : List ℕ) (p : ℕ) (b : Bounds) where
   -- the memory of one task is of the right size
-  one-each : oneForEachTask (0 ∷ []) (p ∷ []) (0 ∷ []) (boxCells b) ≡ true
+  one-each : oneForEachTask (0 ∷ []) (0 ∷ []) (p ∷ []) (0 ∷ []) (boxCells b) ≡ true
   unfolding oneForEachTask _and_
   one-each = refl
 
   -- the test that the code asks for, with H from its constructor
   pub one-test : (h : Duration) → duration (length cal) ≡ h
-      → inputFault (plan (h .0) 0 cal (0 ∷ []) (p ∷ []) (0 ∷ []))
+      → inputFault (plan (h .0) (0 ∷ []) cal (0 ∷ []) (p ∷ []) (0 ∷ []))
       (b .earliest .0 ∷ b .latest .0 ∷ b .shortest .0 ∷ b .longest .0 ∷ b .fewest .0 ∷ b .most .0 ∷ [])
       ≡ inputFault (oneTask cal p) (boxCells b)
   unfolding oneTask

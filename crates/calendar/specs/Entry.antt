@@ -14,9 +14,9 @@ use Rattle.calendar.specs.declared.RuleAnswer.{RuleAnswer}
 use Rattle.calendar.specs.declared.RuleAnswer.the-variants as rule
 use Rattle.calendar.specs.Rule.{ruleOf}
 
--- one calendar, and one task with the work time p, of height 0 in a plan of capacity 0
+-- one calendar, and one task with the work time p, of height 0 in a plan of one room of capacity 0
 unfoldable pub oneTask : List ℕ → ℕ → Plan
-oneTask cal p = plan (length cal) 0 cal (0 ∷ []) (p ∷ []) (0 ∷ [])
+oneTask cal p = plan (length cal) (0 ∷ []) cal (0 ∷ []) (p ∷ []) (0 ∷ [])
 
 unfoldable pub calendarRule : List ℕ → ℕ → Bounds → Answer Fit
 calendarRule cal p b = answerUnless (inputFault (oneTask cal p) (boxCells b)) (ruleOf cal p b)

@@ -217,6 +217,7 @@ pub fn calendar_rule(calendar: &[u8], work_time: Duration, b: Bounds) -> RuleAns
     let MaybeDuration::Within(hours) = Duration::of_plan(calendar.len()) else {
         return RuleAnswer::Refused(Refusal::Hours);
     };
+    let capacity = [0u16];
     let number = [0u16];
     let work = [work_time.0];
     let height = [0u16];
@@ -228,7 +229,15 @@ pub fn calendar_rule(calendar: &[u8], work_time: Duration, b: Bounds) -> RuleAns
         b.fewest.0,
         b.most.0,
     ];
-    let tested = plan::test_input(hours.0, 0, calendar, &number, &work, &height, &cells);
+    let tested = plan::test_input(
+        hours.0,
+        &capacity,
+        calendar,
+        &number,
+        &work,
+        &height,
+        &cells,
+    );
     if let Tested::Refused(r) = tested {
         return RuleAnswer::Refused(r);
     }

@@ -18,9 +18,9 @@ module _ {numbers boxes : List ℕ} where
       → (numbers ≡ filterNumbers (e .answer)) × (filterEnd (e .answer) boxes kinds tasks hours ≡ e)
   left-run n is = rw (← is) (n, refl)
 
-  pub left-plan : {e : ReadEnd} {a : Answer PlanRead} {calendars taskCalendars workTimes heights : List ℕ} → numbers ≡ readNumbers a
-      → endWith a calendars taskCalendars workTimes heights boxes ≡ e
-      → (numbers ≡ readNumbers (e .answer)) × (endWith (e .answer) calendars taskCalendars workTimes heights boxes ≡ e)
+  pub left-plan : {e : ReadEnd} {a : Answer PlanRead} {capacities calendars taskCalendars workTimes heights : List ℕ} → numbers ≡ readNumbers a
+      → endWith a capacities calendars taskCalendars workTimes heights boxes ≡ e
+      → (numbers ≡ readNumbers (e .answer)) × (endWith (e .answer) capacities calendars taskCalendars workTimes heights boxes ≡ e)
   left-plan n is = rw (← is) (n, refl)
 
 pub left-text : {e : WriteEnd} {a : Answer ℕ} {numbers out : List ℕ} → numbers ≡ writeNumbers a → writeEnd a out ≡ e

@@ -37,10 +37,10 @@ filterNumbers (noRoomFor f n) = f .number ∷ f .place ∷ n ∷ 0 ∷ []
 filterNumbers (settledAfter n) = 0 ∷ 0 ∷ n ∷ 0 ∷ []
 filterNumbers (impossibleAfter n) = 0 ∷ 0 ∷ n ∷ 1 ∷ []
 
--- H, the capacity, how many calendars, how many tasks
+-- H, how many rooms, how many calendars, how many tasks
 unfoldable pub readNumbers : Answer PlanRead → List ℕ
 readNumbers (refused f) = f .number ∷ f .place ∷ 0 ∷ 0 ∷ 0 ∷ 0 ∷ []
-readNumbers (answered a) = 0 ∷ 0 ∷ a .hours ∷ a .capacity ∷ a .calendars ∷ a .tasks ∷ []
+readNumbers (answered a) = 0 ∷ 0 ∷ a .hours ∷ a .rooms ∷ a .calendars ∷ a .tasks ∷ []
 
 -- the length of the text
 unfoldable pub writeNumbers : Answer ℕ → List ℕ

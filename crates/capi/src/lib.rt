@@ -35,7 +35,7 @@ pub extern "C" fn shimlantern_calendar_rule(
 #[no_mangle]
 pub extern "C" fn shimlantern_check_schedule(
     hours: u16,
-    capacity: u16,
+    capacities: &[u16],
     calendars: &[u8],
     task_calendars: &[u16],
     work_times: &[u16],
@@ -45,12 +45,12 @@ pub extern "C" fn shimlantern_check_schedule(
     answer: &mut [u64; 3],
 )
     ensures { λ _.
-        let P = oldPlan hours capacity calendars «task_calendars» «work_times» heights in
+        let P = oldPlan hours capacities calendars «task_calendars» «work_times» heights in
         ⌜ left answer ≡ scheduleNumbers (checkSchedule P (old boxes) (old schedule)) ⌝ }
 {
     let checked = schedule::check_schedule(
         hours,
-        capacity,
+        capacities,
         calendars,
         task_calendars,
         work_times,
@@ -65,7 +65,7 @@ pub extern "C" fn shimlantern_check_schedule(
 #[no_mangle]
 pub extern "C" fn shimlantern_check_log(
     hours: u16,
-    capacity: u16,
+    capacities: &[u16],
     calendars: &[u8],
     task_calendars: &[u16],
     work_times: &[u16],
@@ -77,13 +77,13 @@ pub extern "C" fn shimlantern_check_log(
     answer: &mut [u64; 4],
 )
     ensures { λ _.
-        let P = oldPlan hours capacity calendars «task_calendars» «work_times» heights in
+        let P = oldPlan hours capacities calendars «task_calendars» «work_times» heights in
         let e = checkLog P (old boxes) (old «log_kinds») (old «log_tasks») (old «log_hours») in
         ⌜ (left answer ≡ logNumbers (checkAnswer e)) × (left boxes ≡ e .boxes) ⌝ }
 {
     let checked = propagation::replay::check_log(
         hours,
-        capacity,
+        capacities,
         calendars,
         task_calendars,
         work_times,
@@ -100,7 +100,7 @@ pub extern "C" fn shimlantern_check_log(
 #[no_mangle]
 pub extern "C" fn shimlantern_filter(
     hours: u16,
-    capacity: u16,
+    capacities: &[u16],
     calendars: &[u8],
     task_calendars: &[u16],
     work_times: &[u16],
@@ -112,14 +112,14 @@ pub extern "C" fn shimlantern_filter(
     answer: &mut [u64; 4],
 )
     ensures { λ _.
-        let P = oldPlan hours capacity calendars «task_calendars» «work_times» heights in
+        let P = oldPlan hours capacities calendars «task_calendars» «work_times» heights in
         let e = filterPlan P (old boxes) (old «log_kinds») (old «log_tasks») (old «log_hours») in
         ⌜ (left answer ≡ filterNumbers (e .answer))
         × (filterEnd (e .answer) (left boxes) (left «log_kinds») (left «log_tasks») (left «log_hours») ≡ e) ⌝ }
 {
     let filtered = propagation::filter::filter(
         hours,
-        capacity,
+        capacities,
         calendars,
         task_calendars,
         work_times,
@@ -136,6 +136,7 @@ pub extern "C" fn shimlantern_filter(
 #[no_mangle]
 pub extern "C" fn shimlantern_read_plan(
     text: &[u8],
+    capacities: &mut [u16],
     calendars: &mut [u8],
     task_calendars: &mut [u16],
     work_times: &mut [u16],
@@ -144,11 +145,19 @@ pub extern "C" fn shimlantern_read_plan(
     answer: &mut [u64; 6],
 )
     ensures { λ _.
-        let e = readPlan (old calendars) (old «task_calendars») (old «work_times») (old heights) (old boxes) (old text) in
+        let e = readPlan (old capacities) (old calendars) (old «task_calendars») (old «work_times») (old heights) (old boxes) (old text) in
         ⌜ (left answer ≡ readNumbers (e .answer))
-        × (endWith (e .answer) (left calendars) (left «task_calendars») (left «work_times») (left heights) (left boxes) ≡ e) ⌝ }
+        × (endWith (e .answer) (left capacities) (left calendars) (left «task_calendars») (left «work_times») (left heights) (left boxes) ≡ e) ⌝ }
 {
-    let reading = plan_text::read_plan(text, calendars, task_calendars, work_times, heights, boxes);
+    let reading = plan_text::read_plan(
+        text,
+        capacities,
+        calendars,
+        task_calendars,
+        work_times,
+        heights,
+        boxes,
+    );
     *answer = numbers::read_numbers(reading);
 }
 
@@ -156,7 +165,7 @@ pub extern "C" fn shimlantern_read_plan(
 #[no_mangle]
 pub extern "C" fn shimlantern_write_plan(
     hours: u16,
-    capacity: u16,
+    capacities: &[u16],
     calendars: &[u8],
     task_calendars: &[u16],
     work_times: &[u16],
@@ -166,13 +175,13 @@ pub extern "C" fn shimlantern_write_plan(
     answer: &mut [u64; 3],
 )
     ensures { λ _.
-        let P = oldPlan hours capacity calendars «task_calendars» «work_times» heights in
+        let P = oldPlan hours capacities calendars «task_calendars» «work_times» heights in
         let e = writePlan P (old boxes) (old out) in
         ⌜ (left answer ≡ writeNumbers (e .answer)) × (left out ≡ e .out) ⌝ }
 {
     let writing = plan_writing::write_plan(
         hours,
-        capacity,
+        capacities,
         calendars,
         task_calendars,
         work_times,

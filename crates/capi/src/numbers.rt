@@ -95,14 +95,14 @@ pub fn read_numbers(answer: PlanReading) -> [u64; 6]
         }
         PlanReading::Read {
             hours,
-            capacity,
+            rooms,
             calendars,
             tasks,
         } => [
             0,
             0,
             hours as u64,
-            capacity as u64,
+            rooms as u64,
             calendars as u64,
             tasks as u64,
         ],

@@ -65,7 +65,7 @@ fn put_part(log: &mut [Step], from: usize, steps: Part)
 // The log checker. Accepted or refused by 11, 12 or 13, the boxes become those at the log's end; any other refusal changes nothing.
 pub fn check_log(
     hours: u16,
-    capacity: u16,
+    capacities: &[u16],
     calendars: &[u8],
     task_calendars: &[u16],
     work_times: &[u16],
@@ -74,11 +74,11 @@ pub fn check_log(
     log: &[Step],
 ) -> LogChecked
     ensures { λ r.
-        let P = oldPlan hours capacity calendars «task_calendars» «work_times» heights in
+        let P = oldPlan hours capacities calendars «task_calendars» «work_times» heights in
         let e = checkSteps P (old boxes) (old log) in
         ⌜ (logAnswer r ≡ checkAnswer e) × (left boxes ≡ e .boxes) ⌝ }
     ensures holds { λ r.
-        let P = oldPlan hours capacity calendars «task_calendars» «work_times» heights in
+        let P = oldPlan hours capacities calendars «task_calendars» «work_times» heights in
         ⌜ CheckedHolds P (old boxes) (inputFault P (old boxes)) (old log) (logAnswer r) (left boxes) ⌝ }
 {
     let mut from = 0;
@@ -87,7 +87,7 @@ pub fn check_log(
         let steps = part_at(log, from);
         let checked = part::check_part(
             hours,
-            capacity,
+            capacities,
             calendars,
             task_calendars,
             work_times,
@@ -108,7 +108,7 @@ pub fn check_log(
 // The filter, with the log lent as its room. A refused plan changes nothing; log cells past the count are untouched.
 pub fn filter(
     hours: u16,
-    capacity: u16,
+    capacities: &[u16],
     calendars: &[u8],
     task_calendars: &[u16],
     work_times: &[u16],
@@ -117,10 +117,10 @@ pub fn filter(
     log: &mut [Step],
 ) -> Filtered
     ensures { λ r.
-        let P = oldPlan hours capacity calendars «task_calendars» «work_times» heights in
+        let P = oldPlan hours capacities calendars «task_calendars» «work_times» heights in
         ⌜ stepsEnd (filterAnswer r) (left boxes) (left log) ≡ filterSteps P (old boxes) (old log) ⌝ }
     ensures holds { λ r.
-        let P = oldPlan hours capacity calendars «task_calendars» «work_times» heights in
+        let P = oldPlan hours capacities calendars «task_calendars» «work_times» heights in
         ⌜ FilterHolds P (old boxes) (checkSteps P (old boxes)) (length (old log)) (filterAnswer r) (left boxes) (λ n. take n (left log)) ⌝ }
 {
     let room = log.len();
@@ -128,7 +128,7 @@ pub fn filter(
     loop {
         let filtered = part::filter_part(
             hours,
-            capacity,
+            capacities,
             calendars,
             task_calendars,
             work_times,

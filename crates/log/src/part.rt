@@ -109,7 +109,7 @@ fn checked_part(answer: LogChecked, count: usize) -> PartChecked
 // The log checker from a step of the log on, over one part: on the boxes that the step before it left, and whether that one said impossible.
 pub fn check_part(
     hours: u16,
-    capacity: u16,
+    capacities: &[u16],
     calendars: &[u8],
     task_calendars: &[u16],
     work_times: &[u16],
@@ -121,7 +121,7 @@ pub fn check_part(
 ) -> PartChecked
     requires { ⌜ (part .count ≤ partSize) × Sized part × (from + part .count < 2 ^ 64) ⌝ }
     ensures { λ r.
-        let P = oldPlan hours capacity calendars «task_calendars» «work_times» heights in
+        let P = oldPlan hours capacities calendars «task_calendars» «work_times» heights in
         ⌜ CheckedAs (checkStepsFrom P from said (old boxes) (partSteps part)) (part .count) r (left boxes) ⌝ }
 {
     let count = part.count;
@@ -130,7 +130,7 @@ pub fn check_part(
     let task_hours = part.hours;
     let checked = propagation::replay::check_from(
         hours,
-        capacity,
+        capacities,
         calendars,
         task_calendars,
         work_times,
@@ -198,7 +198,7 @@ fn filtered_part(
 // The filter over one part, after so many steps and with room for so many in all, on the boxes that those steps left.
 pub fn filter_part(
     hours: u16,
-    capacity: u16,
+    capacities: &[u16],
     calendars: &[u8],
     task_calendars: &[u16],
     work_times: &[u16],
@@ -209,7 +209,7 @@ pub fn filter_part(
 ) -> PartFiltered
     requires { ⌜ taken ≤ room ⌝ }
     ensures { λ r.
-        let P = oldPlan hours capacity calendars «task_calendars» «work_times» heights in
+        let P = oldPlan hours capacities calendars «task_calendars» «work_times» heights in
         ⌜ FilteredAs P (old boxes) taken room r (left boxes) ⌝ }
 {
     let mut kinds = [0u8; Part::SIZE];
@@ -218,7 +218,7 @@ pub fn filter_part(
     let cells = part_end(taken, room) - taken;
     let answer = propagation::filter::filter_from(
         hours,
-        capacity,
+        capacities,
         calendars,
         task_calendars,
         work_times,

@@ -10,8 +10,9 @@ use Rattle.plan.specs.Boxes.{boundsAt}
 use Rattle.plan.specs.Refusals.{Fault}
 use Rattle.plan.specs.Faults.{oneTaskFault, taskFault}
 
-pub task-is : (S : Shifts) (hs bs : List ℕ) (i count : ℕ) (b : Bounds) (r : Option Fault) → count ≡ length (S .calendars) / S .hours
-    → b ≡ boundsAt bs i → r ≡ oneTaskFault (S .hours) count i (getD (S .taskCalendars) i 0) (getD (S .workTimes) i 0) (getD hs i 0) b
-    → r ≡ taskFault S hs bs i
+pub task-is : (S : Shifts) (rooms : ℕ) (hs bs : List ℕ) (i count : ℕ) (b : Bounds) (r : Option Fault) → count ≡ length (S .calendars) / S .hours
+    → b ≡ boundsAt bs i
+    → r ≡ oneTaskFault (S .hours) count rooms (length (S .taskCalendars)) hs i (getD (S .taskCalendars) i 0) (getD (S .workTimes) i 0) b
+    → r ≡ taskFault S rooms hs bs i
 unfolding taskFault calendarCount workTimeOf
-task-is S hs bs i count b r e f q = rw (← e, ← f) q
+task-is S rooms hs bs i count b r e f q = rw (← e, ← f) q

@@ -4,3 +4,4 @@ pub mod Refusals
 pub mod Faults
 pub mod Passed
 pub mod Numbers
+pub mod Parts

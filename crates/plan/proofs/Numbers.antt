@@ -7,9 +7,9 @@ use Prim.Native.Nat.{ℕ, _≤_}
 use native.Mathlib.Omega.{arith}
 use Rattle.units.specs.Choice.{_orElse_, firstOf}
 use Rattle.units.proofs.Choices.{if-some, else-case, first-at}
-use Rattle.plan.specs.Plan.{Plan}
+use Rattle.plan.specs.Plan.{Plan, roomCount}
 use Rattle.plan.specs.Refusals.{Fault, unless}
-use Rattle.plan.specs.Faults.{symbolFault, calendarsFault, countsFault, oneTaskFault, taskFault, tasksFault, planFault, inputFault}
+use Rattle.plan.specs.Faults.{symbolFault, calendarsFault, capacityFault, countsFault, heightFault, oneTaskFault, taskFault, tasksFault, planFault, inputFault}
 
 -- 11, 12 or 13
 abbrev pub OfSteps : ℕ → Type 0
@@ -31,19 +31,22 @@ by-first : (find : ℕ → Option Fault) (n : ℕ) → ((i : ℕ) → OfInput (f
 by-first find n h = record { other = λ e s. let (i, l, q) = first-at find n _ e in h i .other q s }
 
 module _ (P : Plan) (boxes : List ℕ) where
-  task-numbers : (i : ℕ) → OfInput (taskFault (P .shifts) (P .heights) boxes i)
-  unfolding taskFault oneTaskFault
+  task-numbers : (i : ℕ) → OfInput (taskFault (P .shifts) (roomCount P) (P .heights) boxes i)
+  unfolding taskFault oneTaskFault heightFault
   task-numbers i =
       by-either (by-unless _ 6 i (λ s. omega arith))
-      (by-either (by-unless _ 7 i (λ s. omega arith)) (by-either (by-unless _ 8 i (λ s. omega arith)) (by-unless _ 9 i (λ s. omega arith))))
+      (by-either (by-unless _ 7 i (λ s. omega arith)) (by-either (by-first _ _ (λ r. by-unless _ 8 i (λ s. omega arith))) (by-unless _ 9 i (λ s. omega arith))))
 
   pub plan-numbers : OfInput (planFault P boxes)
-  unfolding planFault calendarsFault symbolFault countsFault tasksFault
+  unfolding planFault calendarsFault symbolFault countsFault capacityFault tasksFault
   plan-numbers =
       by-either
       (by-either (by-unless _ 2 0 (λ s. omega arith))
       (by-either (by-unless _ 3 0 (λ s. omega arith)) (by-first _ _ (λ k. by-unless _ 4 k (λ s. omega arith)))))
-      (by-either (by-either (by-unless _ 5 0 (λ s. omega arith)) (by-unless _ 10 0 (λ s. omega arith))) (by-first _ _ task-numbers))
+      (by-either
+      (by-either (by-unless _ 5 0 (λ s. omega arith))
+      (by-either (by-unless _ 17 0 (λ s. omega arith)) (by-first _ _ (λ r. by-unless _ 10 0 (λ s. omega arith)))))
+      (by-first _ _ task-numbers))
 
   pub input-numbers : OfInput (inputFault P boxes)
   unfolding inputFault

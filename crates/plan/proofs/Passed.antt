@@ -4,33 +4,35 @@ use mathlib.Core.Bool.{true}
 use mathlib.Core.Option.{none}
 use mathlib.Core.List.{List}
 use Prim.Native.Nat.{ℕ, _+_, _*_, _/_, _%_, _≤_, _<_}
-use native.Mathlib.Nat.{div-add-mod', mul-le-mul-right, add-mul}
+use native.Mathlib.Nat.{div-add-mod'}
 use native.Mathlib.Omega.{arith}
-use lib.ListN.{length, length-take, length-drop}
+use lib.ListN.{length, getD, drop, length-take, length-drop}
+use lib.Seq.{getD-take, getD-drop}
 use borrow.Author.Tests.{eqb-true, leb-true, ltb-true}
-use Rattle.units.specs.Limits.{mostHours, mostCalendars, mostTasks, mostCapacity, boxNumbers}
-use Rattle.units.specs.Limits.{within, isPlanLength, isWorkTime, isHeight, isCapacity, isCalendarCount, isCalendarNumber, isTaskCount}
+use Rattle.units.specs.Limits.{mostHours, mostCalendars, mostRooms, mostTasks, mostCapacity, boxNumbers}
+use Rattle.units.specs.Limits.{within, isPlanLength, isWorkTime, isHeight, isCapacity, isCalendarCount, isCalendarNumber, isRoomCount, isTaskCount}
 use Rattle.units.proofs.Choices.{and-left, and-right, else-none, neither, first-none, first-all-none}
+use Rattle.units.proofs.Multiples.{part-within}
 use Rattle.units.proofs.Ranges.{boxed, is-boxed, from-least, to-most}
-use Rattle.plan.specs.Plan.{Shifts, Plan, taskCount, calendarCount, firstSymbol, calendarAt, calendarOf, heightOf}
+use Rattle.plan.specs.Plan.{Shifts, Plan, roomCount, taskCount, calendarCount, firstSymbol, calendarAt, calendarOf, capacityOf, roomPart, heightsOf, heightOf}
 use Rattle.plan.specs.HourKinds.{isSymbol}
-use Rattle.plan.specs.Faults.{oneForEachTask, isCalendars, symbolFault, calendarsFault}
-use Rattle.plan.specs.Faults.{countsFault, oneTaskFault, taskFault, tasksFault, planFault}
+use Rattle.plan.specs.Faults.{oneForEachTask, isRightSize, isCalendars, symbolFault, calendarsFault}
+use Rattle.plan.specs.Faults.{capacityFault, countsFault, heightFault, oneTaskFault, taskFault, tasksFault, planFault}
 use Rattle.plan.specs.Faults.{inputFault}
 use Rattle.plan.specs.Passed.{PassedTask, Passed}
 use Rattle.plan.proofs.Refusals.{unless-true, unless-none}
 
 -- ---- memory of the right size
 
--- the lengths of the work times, the heights and the boxes, by that of the tasks' calendars
-pub record Sized (cs ws hs bs : List ℕ) : Type 0 where
+-- the lengths of the work times, the heights and the boxes, by those of the capacities and the tasks' calendars
+pub record Sized (rs cs ws hs bs : List ℕ) : Type 0 where
   pub work-times : length ws ≡ length cs
-  pub heights : length hs ≡ length cs
+  pub heights : length hs ≡ length rs * length cs
   pub boxes : length bs ≡ boxNumbers * length cs
 
-pub sized : (cs ws hs bs : List ℕ) → oneForEachTask cs ws hs bs ≡ true → Sized cs ws hs bs
+pub sized : (rs cs ws hs bs : List ℕ) → oneForEachTask rs cs ws hs bs ≡ true → Sized rs cs ws hs bs
 unfolding oneForEachTask
-sized cs ws hs bs e =
+sized rs cs ws hs bs e =
     record {
       work-times = eqb-true _ _ (and-left _ _ e);
       heights = eqb-true _ _ (and-left _ _ (and-right _ _ e));
@@ -58,17 +60,42 @@ calendars-passed e =
       symbols = λ k l. unless-none _ 4 k (first-none _ _ four k l);
     }
 
--- ---- counts and the capacity
+-- ---- counts and the capacities
 
-pub record CountsPassed (n c : ℕ) : Type 0 where
+pub record CountsPassed (n : ℕ) (cs : List ℕ) : Type 0 where
   pub tasks : n ≤ mostTasks
-  pub capacity : c ≤ mostCapacity
+  pub some-room : 1 ≤ length cs
+  pub rooms : length cs ≤ mostRooms
+  pub capacity : (r : ℕ) → r < length cs → getD cs r 0 ≤ mostCapacity
 
-pub counts-passed : {tasks capacity : ℕ} → countsFault tasks capacity ≡ none → CountsPassed tasks capacity
-unfolding countsFault isTaskCount isCapacity
+pub counts-passed : {tasks : ℕ} {capacities : List ℕ} → countsFault tasks capacities ≡ none → CountsPassed tasks capacities
+unfolding countsFault capacityFault isTaskCount isRoomCount isCapacity
 counts-passed e =
-    let (five, ten) = neither _ _ e in
-    record { tasks = leb-true _ _ (unless-none _ 5 0 five); capacity = leb-true _ _ (unless-none _ 10 0 ten) }
+    let (five, rest) = neither _ _ e in
+    let (seventeen, ten) = neither _ _ rest in
+    let count = unless-none _ 17 0 seventeen in
+    record {
+      tasks = leb-true _ _ (unless-none _ 5 0 five);
+      some-room = from-least 1 mostRooms _ count;
+      rooms = to-most 1 mostRooms _ count;
+      capacity = λ r l. leb-true _ _ (unless-none _ 10 0 (first-none _ _ ten r l));
+    }
+
+-- ---- rooms
+
+-- a room's numbers lie among those of all rooms, and there are as many as there are a room
+module _ (rooms each : ℕ) (xs : List ℕ) (e : length xs ≡ rooms * each) (r : ℕ) (l : r < rooms) where
+  pub room-in : r * each + each ≤ length xs
+  room-in = omega (arith, part-within each rooms r l)
+
+  pub room-length : length (roomPart each xs r) ≡ each
+  unfolding roomPart
+  room-length = simp (length-take, length-drop) (omega (arith, room-in))
+
+-- a number of a room's, among those of all rooms
+pub room-at : (each : ℕ) (xs : List ℕ) (r i : ℕ) → i < each → getD (roomPart each xs r) i 0 ≡ getD xs (r * each + i) 0
+unfolding roomPart
+room-at each xs r i l = getD-take each (drop (r * each) xs) i 0 l ∙ getD-drop (r * each) xs i 0
 
 -- ---- a task
 
@@ -80,8 +107,7 @@ module _ (S : Shifts) (k : ℕ) (l : k < calendarCount S) where
       omega (
         arith,
         div-add-mod' (length (S .calendars)) (S .hours),
-        mul-le-mul-right {m = k + 1} {n = length (S .calendars) / S .hours} (S .hours) (omega arith),
-        add-mul k 1 (S .hours),
+        part-within (S .hours) (length (S .calendars) / S .hours) k l,
       )
 
   pub calendar-hours : length (calendarAt S k) ≡ S .hours
@@ -89,8 +115,8 @@ module _ (S : Shifts) (k : ℕ) (l : k < calendarCount S) where
   calendar-hours = simp (length-take, length-drop) (omega (arith, calendar-in))
 
 module _ (P : Plan) (boxes : List ℕ) where
-  passed-task : (i : ℕ) → taskFault (P .shifts) (P .heights) boxes i ≡ none → PassedTask P boxes i
-  unfolding taskFault oneTaskFault calendarOf heightOf isCalendarNumber isWorkTime isHeight
+  passed-task : (i : ℕ) → taskFault (P .shifts) (roomCount P) (P .heights) boxes i ≡ none → PassedTask P boxes i
+  unfolding taskFault oneTaskFault heightFault calendarOf taskCount heightsOf heightOf isCalendarNumber isWorkTime isHeight
   passed-task i e =
       let (six, rest) = neither _ _ e in
       let (seven, rest) = neither _ _ rest in
@@ -103,7 +129,7 @@ module _ (P : Plan) (boxes : List ℕ) where
         calendar-length = calendar-hours (P .shifts) _ there;
         some-work = from-least 1 (P .shifts .hours) _ work;
         work-time = to-most 1 (P .shifts .hours) _ work;
-        height = leb-true _ _ (unless-none _ 8 i eight);
+        height = λ r l. leb-true _ _ (unless-none _ 8 i (first-none _ _ eight r l));
         box = boxed _ _ _ (unless-none _ 9 i nine);
       }
 
@@ -120,10 +146,10 @@ module _ (P : Plan) (boxes : List ℕ) where
       let even : length (P .shifts .calendars) % P .shifts .hours ≡ 0 = eqb-true _ _ (and-left _ _ e) in
       omega (arith, div-add-mod' (length (P .shifts .calendars)) (P .shifts .hours))
 
-  pub passed : oneForEachTask (P .shifts .taskCalendars) (P .shifts .workTimes) (P .heights) boxes ≡ true → planFault P boxes ≡ none → Passed P boxes
-  unfolding planFault tasksFault taskCount
+  pub passed : isRightSize P boxes ≡ true → planFault P boxes ≡ none → Passed P boxes
+  unfolding planFault tasksFault roomCount taskCount capacityOf
   passed one e =
-      let size = sized _ _ _ _ one in
+      let size = sized _ _ _ _ _ one in
       let (calendars, rest) = neither _ _ e in
       let (counts, tasks) = neither _ _ rest in
       let c = calendars-passed calendars in
@@ -136,6 +162,8 @@ module _ (P : Plan) (boxes : List ℕ) where
         whole = joins (c .whole);
         symbols = c .symbols;
         tasks = n .tasks;
+        some-room = n .some-room;
+        rooms = n .rooms;
         capacity = n .capacity;
         work-times = size .work-times;
         heights = size .heights;
@@ -143,7 +171,7 @@ module _ (P : Plan) (boxes : List ℕ) where
         task = λ i l. passed-task i (first-none _ _ tasks i l);
       }
 
-  pub input-sized : inputFault P boxes ≡ none → oneForEachTask (P .shifts .taskCalendars) (P .shifts .workTimes) (P .heights) boxes ≡ true
+  pub input-sized : inputFault P boxes ≡ none → isRightSize P boxes ≡ true
   unfolding inputFault
   input-sized e = unless-none _ 31 0 (neither _ _ e .0)
 
@@ -151,11 +179,17 @@ module _ (P : Plan) (boxes : List ℕ) where
   unfolding inputFault
   input-passed e = passed (input-sized e) (neither _ _ e .1)
 
+  -- one height a task in each room
+  pub room-heights : Passed P boxes → (r : ℕ) → r < roomCount P → length (heightsOf P r) ≡ taskCount P
+  unfolding heightsOf
+  room-heights p r l = room-length (roomCount P) (taskCount P) (P .heights) (p .heights) r l
+
   -- ---- with other boxes
 
   -- only 31 and 9 read the boxes, so that a plan passes with others of which it has all that it has when it passes
   module _ (others : List ℕ) (again : Passed P others) (same : length others ≡ length boxes) where
-    task-again : (i : ℕ) → i < taskCount P → taskFault (P .shifts) (P .heights) boxes i ≡ none → taskFault (P .shifts) (P .heights) others i ≡ none
+    task-again : (i : ℕ) → i < taskCount P → taskFault (P .shifts) (roomCount P) (P .heights) boxes i ≡ none
+        → taskFault (P .shifts) (roomCount P) (P .heights) others i ≡ none
     unfolding taskFault oneTaskFault
     task-again i l e =
         let (six, rest) = neither _ _ e in

@@ -24,10 +24,10 @@ shiftsOf hours calendars taskCalendars workTimes = shifts hours (calendars .now)
 abbrev pub oldShifts : ℕ → Lent (List ℕ) → Lent (List ℕ) → Lent (List ℕ) → Shifts
 oldShifts hours calendars taskCalendars workTimes = shifts hours (old calendars) (old taskCalendars) (old workTimes)
 
-abbrev pub planOf : ℕ → ℕ → RefT (List ℕ) → RefT (List ℕ) → RefT (List ℕ) → RefT (List ℕ) → Plan
-planOf hours capacity calendars taskCalendars workTimes heights =
-    plan hours capacity (calendars .now) (taskCalendars .now) (workTimes .now) (heights .now)
+abbrev pub planOf : ℕ → RefT (List ℕ) → RefT (List ℕ) → RefT (List ℕ) → RefT (List ℕ) → RefT (List ℕ) → Plan
+planOf hours capacities calendars taskCalendars workTimes heights =
+    plan hours (capacities .now) (calendars .now) (taskCalendars .now) (workTimes .now) (heights .now)
 
-abbrev pub oldPlan : ℕ → ℕ → Lent (List ℕ) → Lent (List ℕ) → Lent (List ℕ) → Lent (List ℕ) → Plan
-oldPlan hours capacity calendars taskCalendars workTimes heights =
-    plan hours capacity (old calendars) (old taskCalendars) (old workTimes) (old heights)
+abbrev pub oldPlan : ℕ → Lent (List ℕ) → Lent (List ℕ) → Lent (List ℕ) → Lent (List ℕ) → Lent (List ℕ) → Plan
+oldPlan hours capacities calendars taskCalendars workTimes heights =
+    plan hours (old capacities) (old calendars) (old taskCalendars) (old workTimes) (old heights)

@@ -1,4 +1,4 @@
--- A plan as it lies in memory (01, "A plan").
+-- A plan as it lies in memory (01, "A plan"; rooms: 02, W-202).
 use mathlib.Core.Bool.{Bool}
 use mathlib.Core.List.{List}
 use Prim.Native.Nat.{ℕ, _*_, _/_}
@@ -13,21 +13,24 @@ pub record Shifts : Type 0 where
   pub taskCalendars : List ℕ
   pub workTimes : List ℕ
 
--- A plan: that part, the capacity, and one number a task for its height. The boxes are lent beside the plan.
+-- A plan: that part, the capacity of each room, and room by room one number a task for its height there. The boxes are lent beside the plan.
 pub record Plan : Type 0 where
   pub shifts : Shifts
-  pub capacity : ℕ
+  pub capacities : List ℕ
   pub heights : List ℕ
 
 abbrev pub shifts : ℕ → List ℕ → List ℕ → List ℕ → Shifts
 shifts hours calendars taskCalendars workTimes =
     record { hours = hours; calendars = calendars; taskCalendars = taskCalendars; workTimes = workTimes }
 
-abbrev pub plan : ℕ → ℕ → List ℕ → List ℕ → List ℕ → List ℕ → Plan
-plan hours capacity calendars taskCalendars workTimes heights =
-    record { shifts = shifts hours calendars taskCalendars workTimes; capacity = capacity; heights = heights }
+abbrev pub plan : ℕ → List ℕ → List ℕ → List ℕ → List ℕ → List ℕ → Plan
+plan hours capacities calendars taskCalendars workTimes heights =
+    record { shifts = shifts hours calendars taskCalendars workTimes; capacities = capacities; heights = heights }
 
--- how many tasks there are
+-- how many rooms there are, and how many tasks
+unfoldable pub roomCount : Plan → ℕ
+roomCount P = length (P .capacities)
+
 unfoldable pub taskCount : Plan → ℕ
 taskCount P = length (P .shifts .taskCalendars)
 
@@ -41,16 +44,28 @@ firstSymbol hours number = number * hours
 unfoldable pub calendarAt : Shifts → ℕ → List ℕ
 calendarAt S number = take (S .hours) (drop (firstSymbol (S .hours) number) (S .calendars))
 
--- a task's calendar, its work time and its height
+-- a task's calendar and its work time
 unfoldable pub calendarOf : Shifts → ℕ → List ℕ
 calendarOf S i = calendarAt S (getD (S .taskCalendars) i 0)
 
 unfoldable pub workTimeOf : Shifts → ℕ → ℕ
 workTimeOf S i = getD (S .workTimes) i 0
 
-unfoldable pub heightOf : Plan → ℕ → ℕ
-heightOf P i = getD (P .heights) i 0
+-- the capacity of a room
+unfoldable pub capacityOf : Plan → ℕ → ℕ
+capacityOf P room = getD (P .capacities) room 0
 
--- the heights of the tasks that pass a test, added
-unfoldable pub heightsWhere : Plan → (ℕ → Bool) → ℕ
-heightsWhere P test = sumWhere test (heightOf P) (taskCount P)
+-- of numbers that lie room by room, so many a room, those of one: room × so many is the index of its first
+unfoldable pub roomPart : ℕ → List ℕ → ℕ → List ℕ
+roomPart each numbers room = take each (drop (room * each) numbers)
+
+-- the heights of all tasks in a room, and of one
+unfoldable pub heightsOf : Plan → ℕ → List ℕ
+heightsOf P room = roomPart (taskCount P) (P .heights) room
+
+unfoldable pub heightOf : Plan → ℕ → ℕ → ℕ
+heightOf P room i = getD (heightsOf P room) i 0
+
+-- the heights in a room of the tasks that pass a test, added
+unfoldable pub heightsWhere : Plan → ℕ → (ℕ → Bool) → ℕ
+heightsWhere P room test = sumWhere test (heightOf P room) (taskCount P)

@@ -1,4 +1,4 @@
--- Refusals: a number and a place (01, "Refused because of the input" and "Refused because of the state"; 33: 02, W-201).
+-- Refusals: a number and a place (01, "Refused because of the input" and "Refused because of the state"; 33: 02, W-201; 17: 02, W-202).
 use mathlib.Core.Bool.{Bool, not}
 use mathlib.Core.Option.{Option, none, some}
 use Prim.Native.Nat.{ℕ}
@@ -6,7 +6,7 @@ use Rattle.units.specs.Choice.{someIf}
 use Rattle.plan.specs.declared.Refusal.{Refusal}
 use Rattle.plan.specs.declared.Refusal.the-variants.{Malformed, Hours, Calendars, Symbol, Tasks, NoCalendar, WorkTime, TaskHeight, TaskBounds}
 use Rattle.plan.specs.declared.Refusal.the-variants.{Capacity, UnknownStep, NotAdmitted, AfterImpossible, OutsideBounds, NotValid, OverCapacity}
-use Rattle.plan.specs.declared.Refusal.the-variants.{MemorySize, OutputSize}
+use Rattle.plan.specs.declared.Refusal.the-variants.{Rooms, MemorySize, OutputSize}
 use Rattle.plan.specs.declared.Tested.{Tested}
 use Rattle.plan.specs.declared.Tested.the-variants.{Passed, Refused}
 
@@ -53,6 +53,7 @@ faultOf (AfterImpossible step) = fault 13 step
 faultOf (OutsideBounds task) = fault 14 task
 faultOf (NotValid task) = fault 15 task
 faultOf (OverCapacity hour) = fault 16 hour
+faultOf Rooms = fault 17 0
 faultOf MemorySize = fault 31 0
 faultOf OutputSize = fault 33 0
 

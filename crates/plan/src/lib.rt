@@ -8,17 +8,18 @@ use units::MaybeBounds;
 use units::MaybeCalendarNumber;
 use units::MaybeDuration;
 use units::MaybeHeight;
+use units::RoomNumber;
 ghost use mathlib.Core.Bool.{true};
 ghost use mathlib.Core.Path.{_≡_};
 ghost use Prim.Native.Nat.{_+_, _*_, _/_, _≤_, _<_};
 ghost use lib.ListN.{length, getD, take, drop};
 ghost use Rattle.units.specs.Choice.{firstOf};
 ghost use Rattle.units.specs.Limits.{boxNumbers, height};
-ghost use Rattle.plan.specs.Plan.{firstSymbol};
+ghost use Rattle.plan.specs.Plan.{firstSymbol, roomPart};
 ghost use Rattle.plan.specs.HourKinds.{isKind, isSymbol};
 ghost use Rattle.plan.specs.Boxes.{boundsAt, withBounds};
 ghost use Rattle.plan.specs.Refusals.{faultOf, testedFault};
-ghost use Rattle.plan.specs.Faults.{oneForEachTask, isCalendars, symbolFault, calendarsFault, countsFault, oneTaskFault, tasksFault, planFault, inputFault};
+ghost use Rattle.plan.specs.Faults.{oneForEachTask, isCalendars, symbolFault, calendarsFault, capacityFault, countsFault, heightFault, oneTaskFault, tasksFault, planFault, inputFault};
 ghost use Rattle.plan.specs.Lent.{old, left, shiftsOf, oldShifts, oldPlan};
 ghost use Rattle.plan.specs.inner.Ready.{TasksReady};
 
@@ -50,6 +51,8 @@ pub enum Refusal {
     NotValid(usize),
     // 16, at the first such hour.
     OverCapacity(usize),
+    // 17
+    Rooms,
     // 31
     MemorySize,
     // 33
@@ -85,6 +88,7 @@ pub fn fault_of(r: Refusal) -> Fault
         Refusal::OutsideBounds(task) => Fault(14, task),
         Refusal::NotValid(task) => Fault(15, task),
         Refusal::OverCapacity(hour) => Fault(16, hour),
+        Refusal::Rooms => Fault(17, 0),
         Refusal::MemorySize => Fault(31, 0),
         Refusal::OutputSize => Fault(33, 0),
     }
@@ -118,6 +122,15 @@ pub fn put_bounds(boxes: &mut [u16], i: usize, b: Bounds)
     boxes[first + 3] = b.longest.0;
     boxes[first + 4] = b.fewest.0;
     boxes[first + 5] = b.most.0;
+}
+
+// Of numbers that lie room by room, so many a room, those of one: the heights of all tasks in a room, the loads of all hours.
+pub fn room_part(numbers: &[u16], each: usize, room: usize) -> &[u16]
+    requires { ⌜ room * each + each ≤ length (now numbers) ⌝ }
+    ensures { λ r. ⌜ now r ≡ roomPart each (old numbers) room ⌝ }
+{
+    let from = room * each;
+    &numbers[from..from + each]
 }
 
 // The height of task i.
@@ -168,20 +181,21 @@ pub fn calendar_count(calendars: &[u8], hours: Duration) -> usize
     calendars.len() / hours.0 as usize
 }
 
-// Whether the fields and the boxes number one for each task.
+// Whether the fields and the boxes number one for each task, the heights in each room.
 pub fn has_one_for_each_task(
+    capacities: &[u16],
     task_calendars: &[u16],
     work_times: &[u16],
     heights: &[u16],
     boxes: &[u16],
 ) -> bool
-    ensures { λ r. ⌜ r ≡ oneForEachTask (old «task_calendars») (old «work_times») (old heights) (old boxes) ⌝ }
+    ensures { λ r. ⌜ r ≡ oneForEachTask (old capacities) (old «task_calendars») (old «work_times») (old heights) (old boxes) ⌝ }
 {
     let tasks = task_calendars.len();
     if work_times.len() != tasks {
         return false;
     }
-    if heights.len() != tasks {
+    if !units::is_for_each(heights.len(), capacities.len(), tasks) {
         return false;
     }
     units::is_for_each(boxes.len(), Bounds::NUMBERS, tasks)
@@ -237,30 +251,59 @@ fn test_calendars(hours: u16, calendars: &[u8]) -> Tested
     test_symbols(calendars)
 }
 
-// Counts and the capacity: 5, 10.
-fn test_counts(tasks: usize, capacity: u16) -> Tested
-    ensures { λ r. ⌜ testedFault r ≡ countsFault tasks capacity ⌝ }
+// 10, of any room.
+fn test_capacities(capacities: &[u16]) -> Tested
+    ensures { λ r. ⌜ testedFault r ≡ firstOf (capacityFault (old capacities)) (length (old capacities)) ⌝ }
+{
+    for room in 0..capacities.len() {
+        let MaybeHeight::Within(_) = Height::of_plan(capacities[room]) else {
+            return Tested::Refused(Refusal::Capacity);
+        };
+    }
+    Tested::Passed
+}
+
+// Counts and the capacities: 5, 17, 10.
+fn test_counts(tasks: usize, capacities: &[u16]) -> Tested
+    ensures { λ r. ⌜ testedFault r ≡ countsFault tasks (old capacities) ⌝ }
 {
     if !Bounds::is_count(tasks) {
         return Tested::Refused(Refusal::Tasks);
     }
-    let MaybeHeight::Within(_) = Height::of_plan(capacity) else {
-        return Tested::Refused(Refusal::Capacity);
-    };
+    if !RoomNumber::is_count(capacities.len()) {
+        return Tested::Refused(Refusal::Rooms);
+    }
+    test_capacities(capacities)
+}
+
+// 8, of a task of so many in any of so many rooms.
+fn test_heights(rooms: usize, tasks: usize, heights: &[u16], task: usize) -> Tested
+    requires { ⌜ (length (now heights) ≡ rooms * tasks) × (task < tasks) ⌝ }
+    ensures { λ r. ⌜ testedFault r ≡ firstOf (heightFault tasks (old heights) task) rooms ⌝ }
+{
+    for room in 0..rooms {
+        let height = height_at(room_part(heights, tasks, room), task);
+        let MaybeHeight::Within(_) = Height::of_task(height.0) else {
+            return Tested::Refused(Refusal::TaskHeight(task));
+        };
+    }
     Tested::Passed
 }
 
-// One task, in a plan of so many hours and calendars: 6, 7, 8, 9.
+// One task, in a plan of so many hours, calendars and rooms: 6, 7, 8, 9.
 fn test_task(
-    task: usize,
     hours: Duration,
     calendars: usize,
+    rooms: usize,
+    tasks: usize,
+    heights: &[u16],
+    task: usize,
     calendar: u16,
     work_time: u16,
-    height: u16,
     bounds: Bounds,
 ) -> Tested
-    ensures { λ r. ⌜ testedFault r ≡ oneTaskFault (hours .0) calendars task calendar «work_time» height bounds ⌝ }
+    requires { ⌜ (length (now heights) ≡ rooms * tasks) × (task < tasks) ⌝ }
+    ensures { λ r. ⌜ testedFault r ≡ oneTaskFault (hours .0) calendars rooms tasks (old heights) task calendar «work_time» bounds ⌝ }
 {
     let MaybeCalendarNumber::Within(_) = CalendarNumber::of_plan(calendar, calendars) else {
         return Tested::Refused(Refusal::NoCalendar(task));
@@ -268,8 +311,9 @@ fn test_task(
     let MaybeDuration::Within(work) = Duration::of_work(work_time, hours) else {
         return Tested::Refused(Refusal::WorkTime(task));
     };
-    let MaybeHeight::Within(_) = Height::of_task(height) else {
-        return Tested::Refused(Refusal::TaskHeight(task));
+    let by_heights = test_heights(rooms, tasks, heights, task);
+    let Tested::Passed = by_heights else {
+        return by_heights;
     };
     let MaybeBounds::Within(_) = Bounds::of_task(bounds, hours, work) else {
         return Tested::Refused(Refusal::TaskBounds(task));
@@ -280,25 +324,28 @@ fn test_task(
 // Task by task.
 fn test_tasks(
     hours: Duration,
+    rooms: usize,
     calendars: &[u8],
     task_calendars: &[u16],
     work_times: &[u16],
     heights: &[u16],
     boxes: &[u16],
 ) -> Tested
-    requires { ⌜ TasksReady (shiftsOf (hours .0) calendars «task_calendars» «work_times») (now heights) (now boxes) ⌝ }
+    requires { ⌜ TasksReady (shiftsOf (hours .0) calendars «task_calendars» «work_times») rooms (now heights) (now boxes) ⌝ }
     ensures { λ r. let S = oldShifts (hours .0) calendars «task_calendars» «work_times» in
-        ⌜ testedFault r ≡ tasksFault S (old heights) (old boxes) ⌝ }
+        ⌜ testedFault r ≡ tasksFault S rooms (old heights) (old boxes) ⌝ }
 {
     let count = calendar_count(calendars, hours);
     for i in 0..task_calendars.len() {
         let tested = test_task(
-            i,
             hours,
             count,
+            rooms,
+            task_calendars.len(),
+            heights,
+            i,
             task_calendars[i],
             work_times[i],
-            heights[i],
             bounds_at(boxes, i),
         );
         let Tested::Passed = tested else {
@@ -311,27 +358,28 @@ fn test_tasks(
 // The plan's tests on memory of the right size: H and the calendars, the counts, then task by task.
 pub fn test_plan(
     hours: u16,
-    capacity: u16,
+    capacities: &[u16],
     calendars: &[u8],
     task_calendars: &[u16],
     work_times: &[u16],
     heights: &[u16],
     boxes: &[u16],
 ) -> Tested
-    requires { ⌜ oneForEachTask (now «task_calendars») (now «work_times») (now heights) (now boxes) ≡ true ⌝ }
-    ensures { λ r. let P = oldPlan hours capacity calendars «task_calendars» «work_times» heights in
+    requires { ⌜ oneForEachTask (now capacities) (now «task_calendars») (now «work_times») (now heights) (now boxes) ≡ true ⌝ }
+    ensures { λ r. let P = oldPlan hours capacities calendars «task_calendars» «work_times» heights in
         ⌜ testedFault r ≡ planFault P (old boxes) ⌝ }
 {
     let by_calendars = test_calendars(hours, calendars);
     let Tested::Passed = by_calendars else {
         return by_calendars;
     };
-    let by_counts = test_counts(task_calendars.len(), capacity);
+    let by_counts = test_counts(task_calendars.len(), capacities);
     let Tested::Passed = by_counts else {
         return by_counts;
     };
     test_tasks(
         Duration(hours),
+        capacities.len(),
         calendars,
         task_calendars,
         work_times,
@@ -343,22 +391,22 @@ pub fn test_plan(
 // The plan's tests: 31 before all others.
 pub fn test_input(
     hours: u16,
-    capacity: u16,
+    capacities: &[u16],
     calendars: &[u8],
     task_calendars: &[u16],
     work_times: &[u16],
     heights: &[u16],
     boxes: &[u16],
 ) -> Tested
-    ensures { λ r. let P = oldPlan hours capacity calendars «task_calendars» «work_times» heights in
+    ensures { λ r. let P = oldPlan hours capacities calendars «task_calendars» «work_times» heights in
         ⌜ testedFault r ≡ inputFault P (old boxes) ⌝ }
 {
-    if !has_one_for_each_task(task_calendars, work_times, heights, boxes) {
+    if !has_one_for_each_task(capacities, task_calendars, work_times, heights, boxes) {
         return Tested::Refused(Refusal::MemorySize);
     }
     test_plan(
         hours,
-        capacity,
+        capacities,
         calendars,
         task_calendars,
         work_times,

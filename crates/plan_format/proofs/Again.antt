@@ -9,7 +9,7 @@ use lib.ListN.{length, take}
 use lib.Seq.{take-append-seam}
 use Rattle.units.specs.Cells.{written}
 use Rattle.units.proofs.Choices.{option-case, else-none, neither}
-use Rattle.plan.specs.Plan.{Plan, taskCount, calendarCount}
+use Rattle.plan.specs.Plan.{Plan, roomCount, taskCount, calendarCount}
 use Rattle.plan.specs.Passed.{Passed}
 use Rattle.plan.specs.Refusals.{Answer, answered}
 use Rattle.plan.specs.Faults.{planFault, inputFault}
@@ -24,27 +24,29 @@ use Rattle.plan_format.proofs.Readings.{read-whole, not-refused}
 
 -- ---- read into memory
 
-module _ (cs ts ws hs bs : List ℕ) where
+module _ (rs cs ts ws hs bs : List ℕ) where
   module _ {P : Plan} {boxes : List ℕ} (p : Passed P boxes) where
     -- memory that is enough is not refused
-    no-fault : planFault P boxes ≡ none → isEnough cs ts ws hs bs ≡ true → readFault (isEnough cs ts ws hs bs) (readOf P boxes) ≡ none
+    no-fault : planFault P boxes ≡ none → isEnough rs cs ts ws hs bs ≡ true → readFault (isEnough rs cs ts ws hs bs) (readOf P boxes) ≡ none
     unfolding readFault
     no-fault e enough = go-on _ 31 0 _ enough ∙ else-none _ _ (lines-pass p) ∙ ap₂ planFault (plan-held p) (boxes-held p) ∙ e
 
     -- and holds the plan
-    stored-plan : stored cs ts ws hs bs (readOf P boxes)
+    stored-plan : stored rs cs ts ws hs bs (readOf P boxes)
         ≡ endWith
-        (answered (record { hours = P .shifts .hours; capacity = P .capacity; calendars = calendarCount (P .shifts); tasks = taskCount P }))
+        (answered (record { hours = P .shifts .hours; rooms = roomCount P; calendars = calendarCount (P .shifts); tasks = taskCount P }))
+        (written (P .capacities) rs)
         (written (P .shifts .calendars) cs)
         (written (P .shifts .taskCalendars) ts)
         (written (P .shifts .workTimes) ws)
         (written (P .heights) hs)
         (written boxes bs)
-    unfolding stored readOf
+    unfolding stored readOf roomCount
     stored-plan =
         λ k. endWith
         (answered
-        (record { hours = P .shifts .hours; capacity = P .capacity; calendars = calendars-count P boxes k; tasks = tasks-count P boxes k }))
+        (record { hours = P .shifts .hours; rooms = roomCount P; calendars = calendars-count P boxes k; tasks = tasks-count P boxes k }))
+        (written (plan-held p k .capacities) rs)
         (written (plan-held p k .shifts .calendars) cs)
         (written (plan-held p k .shifts .taskCalendars) ts)
         (written (plan-held p k .shifts .workTimes) ws)
@@ -70,10 +72,10 @@ reads-back P boxes e =
     record {
       short = short;
       again = (readOf P boxes, is, plan-held p, boxes-held p);
-      read = λ cs ts ws hs bs enough.
-          sym (read-whole cs ts ws hs bs _ _ is)
-          ∙ sym (not-refused cs ts ws hs bs _ (no-fault cs ts ws hs bs p (neither _ _ e .1) enough))
-          ∙ stored-plan cs ts ws hs bs p;
+      read = λ rs cs ts ws hs bs enough.
+          sym (read-whole rs cs ts ws hs bs _ _ is)
+          ∙ sym (not-refused rs cs ts ws hs bs _ (no-fault rs cs ts ws hs bs p (neither _ _ e .1) enough))
+          ∙ stored-plan rs cs ts ws hs bs p;
     }
 
 -- two plans that pass have two texts

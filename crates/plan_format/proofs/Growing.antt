@@ -16,13 +16,14 @@ use Rattle.text.specs.Fields.{lf}
 use Rattle.text.specs.Lines.{ended, lineOf}
 use Rattle.text.specs.Putting.{Put}
 use Rattle.text.proofs.Puts.{put-both}
-use Rattle.plan.specs.Plan.{Shifts, Plan, shifts, taskCount, calendarCount, calendarAt}
+use Rattle.plan.specs.Plan.{Shifts, Plan, shifts, roomCount, taskCount, calendarCount, calendarAt}
 use Rattle.plan.specs.Passed.{Passed}
 use Rattle.plan.proofs.Passed.{calendar-hours}
 use Rattle.plan_format.specs.Records.{Record, calRecord, taskRecord, recordLine}
 use Rattle.plan_format.specs.Text.{textOf}
 use Rattle.plan_format.specs.Writing.{calRecords, taskNumbers, taskRecords, recordsOf, planText}
 use Rattle.plan_format.proofs.Texts.{text-both}
+use Rattle.plan_format.proofs.Written.{numbers-count}
 
 -- a task's line is a word and numbers
 task-line : (numbers : List ℕ) → lineOf wordTask numbers ≡ ended (recordLine (taskRecord numbers))
@@ -70,34 +71,34 @@ module _ (f : ℕ → Record) where
   text-put i l p q = rw (text-next i) (put-both l p q)
 
 -- the tasks' lines, by their numbers as the code hands them over
-module _ (cs ws hs bs : List ℕ) (i : ℕ) {numbers : List ℕ} (e : numbers ≡ taskNumbers cs ws hs bs i) where
+module _ (rooms : ℕ) (cs ws hs bs : List ℕ) (i : ℕ) {numbers : List ℕ} (e : numbers ≡ taskNumbers rooms cs ws hs bs i) where
   abbrev task : ℕ → Record
-  task j = taskRecord (taskNumbers cs ws hs bs j)
+  task j = taskRecord (taskNumbers rooms cs ws hs bs j)
 
-  pub numbers-length : length numbers ≡ 9
-  unfolding taskNumbers
-  numbers-length = ap length e
+  pub numbers-length : length numbers ≡ rooms + 8
+  numbers-length = ap length e ∙ numbers-count rooms cs ws hs bs i
 
   line-is : lineOf wordTask numbers ≡ ended (recordLine (task i))
   line-is = task-line numbers ∙ ap (λ ns. ended (recordLine (taskRecord ns))) e
 
-  pub tasks-longer : length (textOf (taskRecords cs ws hs bs (i + 1))) ≡ length (textOf (taskRecords cs ws hs bs i)) + length (lineOf wordTask numbers)
+  pub tasks-longer : length (textOf (taskRecords rooms cs ws hs bs (i + 1)))
+      ≡ length (textOf (taskRecords rooms cs ws hs bs i)) + length (lineOf wordTask numbers)
   unfolding taskRecords
   tasks-longer = rw line-is (text-longer task i)
 
   pub tasks-room : (n : ℕ) → i < n
-      → length (textOf (taskRecords cs ws hs bs i)) + length (lineOf wordTask numbers) ≤ length (textOf (taskRecords cs ws hs bs n))
+      → length (textOf (taskRecords rooms cs ws hs bs i)) + length (lineOf wordTask numbers) ≤ length (textOf (taskRecords rooms cs ws hs bs n))
   unfolding taskRecords
   tasks-room n l = rw line-is (text-room task i n l)
 
-  pub tasks-put : {at m n : ℕ} {cells l1 l2 : List ℕ} → at ≤ length cells → Put (textOf (taskRecords cs ws hs bs i)) at cells m l1
-      → Put (lineOf wordTask numbers) m l1 n l2 → Put (textOf (taskRecords cs ws hs bs (i + 1))) at cells n l2
+  pub tasks-put : {at m n : ℕ} {cells l1 l2 : List ℕ} → at ≤ length cells → Put (textOf (taskRecords rooms cs ws hs bs i)) at cells m l1
+      → Put (lineOf wordTask numbers) m l1 n l2 → Put (textOf (taskRecords rooms cs ws hs bs (i + 1))) at cells n l2
   unfolding taskRecords
   tasks-put l p q = text-put task i l p (rw line-is at q)
 
-pub tasks-none : (cs ws hs bs : List ℕ) → textOf (taskRecords cs ws hs bs 0) ≡ []
+pub tasks-none : (rooms : ℕ) (cs ws hs bs : List ℕ) → textOf (taskRecords rooms cs ws hs bs 0) ≡ []
 unfolding taskRecords
-tasks-none cs ws hs bs = text-none (λ j. taskRecord (taskNumbers cs ws hs bs j))
+tasks-none rooms cs ws hs bs = text-none (λ j. taskRecord (taskNumbers rooms cs ws hs bs j))
 
 -- the calendars' lines, likewise
 module _ (S : Shifts) where
@@ -141,10 +142,10 @@ alone P = shifts (P .shifts .hours) (P .shifts .calendars) [] []
 
 module _ (P : Plan) (boxes : List ℕ) where
   abbrev taskLines : List Record
-  taskLines = taskRecords (P .shifts .taskCalendars) (P .shifts .workTimes) (P .heights) boxes (taskCount P)
+  taskLines = taskRecords (roomCount P) (P .shifts .taskCalendars) (P .shifts .workTimes) (P .heights) boxes (taskCount P)
 
   abbrev first : List ℕ
-  first = lineOf wordPlan (P .shifts .hours ∷ P .capacity ∷ [])
+  first = lineOf wordPlan (P .shifts .hours ∷ P .capacities)
 
   abbrev calendars : List ℕ
   calendars = textOf (calRecords (alone P) (calendarCount (alone P)))

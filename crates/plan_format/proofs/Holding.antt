@@ -8,7 +8,7 @@ use native.Mathlib.Nat.{mul-le-mul}
 use native.Mathlib.Omega.{arith}
 use lib.ListN.{length, getD, length-map}
 use Rattle.units.specs.Choice.{onOption}
-use Rattle.units.specs.Limits.{mostHours, mostCalendars, mostTasks, isPlanLength, isCalendarCount}
+use Rattle.units.specs.Limits.{mostHours, mostCalendars, mostRooms, mostTasks, isPlanLength, isCalendarCount}
 use Rattle.units.proofs.Choices.{and-left, neither}
 use Rattle.units.proofs.Ranges.{to-most}
 use Rattle.plan.specs.Plan.{taskCount}
@@ -17,16 +17,18 @@ use Rattle.plan.specs.Faults.{planFault}
 use Rattle.plan.proofs.Refusals.{unless-none, refused≢answered}
 use Rattle.plan.proofs.Passed.{counts-passed}
 use Rattle.plan_format.specs.Text.{Read, readText}
-use Rattle.plan_format.specs.Reading.{planIn, mostSymbols, lineFault, readFault, isEnough, PlanRead, unread, stored, readTested, readPlan}
+use Rattle.plan_format.specs.Reading.{planIn, mostSymbols, mostHeights, lineFault, readFault, isEnough, PlanRead, unread, stored, readTested, readPlan}
 
 pub record Holds (a : PlanRead) : Type 0 where
   pub hours : a .hours ≤ mostHours
+  pub rooms : a .rooms ≤ mostRooms
   pub calendars : a .calendars ≤ mostCalendars
   pub tasks : a .tasks ≤ mostTasks
   pub symbols : a .calendars * a .hours ≤ mostSymbols
+  pub heights : a .rooms * a .tasks ≤ mostHeights
 
 fault-free : (enough : Bool) (r : Read) → readFault enough r ≡ none
-    → Holds (record { hours = r .hours; capacity = r .capacity; calendars = length (r .calendars); tasks = length (r .tasks) })
+    → Holds (record { hours = r .hours; rooms = length (r .capacities); calendars = length (r .calendars); tasks = length (r .tasks) })
 unfolding readFault lineFault planFault planIn taskCount isPlanLength isCalendarCount
 fault-free enough r e =
     let after-31 = neither _ _ e in
@@ -38,31 +40,35 @@ fault-free enough r e =
     let few : length (r .tasks) ≤ mostTasks = omega (arith, counts .tasks, length-map (r .tasks) (λ (t : List ℕ). getD t 0 0)) in
     record {
       hours = h;
+      rooms = counts .rooms;
       calendars = c;
       tasks = few;
       symbols = mul-le-mul c h;
+      heights = mul-le-mul (counts .rooms) few;
     }
 
-module _ (calendars taskCalendars workTimes heights boxes : List ℕ) where
-  from-tested : (r : Read) (a : PlanRead) → readTested calendars taskCalendars workTimes heights boxes r .answer ≡ answered a → Holds a
+module _ (capacities calendars taskCalendars workTimes heights boxes : List ℕ) where
+  from-tested : (r : Read) (a : PlanRead) → readTested capacities calendars taskCalendars workTimes heights boxes r .answer ≡ answered a → Holds a
   unfolding readTested onOption unread stored
-  from-tested r a e = go (readFault (isEnough calendars taskCalendars workTimes heights boxes) r) refl e
+  from-tested r a e = go (readFault (isEnough capacities calendars taskCalendars workTimes heights boxes) r) refl e
     where
-      go : (o : Option Fault) → readFault (isEnough calendars taskCalendars workTimes heights boxes) r ≡ o
-          → onOption o (stored calendars taskCalendars workTimes heights boxes r) (unread calendars taskCalendars workTimes heights boxes) .answer
+      go : (o : Option Fault) → readFault (isEnough capacities calendars taskCalendars workTimes heights boxes) r ≡ o
+          → onOption o (stored capacities calendars taskCalendars workTimes heights boxes r)
+          (unread capacities calendars taskCalendars workTimes heights boxes) .answer
           ≡ answered a → Holds a
       go none q s =
-          let is : record { hours = r .hours; capacity = r .capacity; calendars = length (r .calendars); tasks = length (r .tasks) } ≡ a = cc in
+          let is : record { hours = r .hours; rooms = length (r .capacities); calendars = length (r .calendars); tasks = length (r .tasks) } ≡ a = cc in
           subst Holds is (fault-free _ r q)
       go (some f) q s = refused≢answered s
 
   from-read : (o : Answer Read) (a : PlanRead)
-      → onAnswer o (unread calendars taskCalendars workTimes heights boxes) (readTested calendars taskCalendars workTimes heights boxes) .answer
+      → onAnswer o (unread capacities calendars taskCalendars workTimes heights boxes)
+      (readTested capacities calendars taskCalendars workTimes heights boxes) .answer
       ≡ answered a → Holds a
   unfolding onAnswer unread
   from-read (refused f) a e = refused≢answered e
   from-read (answered r) a e = from-tested r a e
 
-  pub read-holds : (text : List ℕ) (a : PlanRead) → answered a ≡ readPlan calendars taskCalendars workTimes heights boxes text .answer → Holds a
+  pub read-holds : (text : List ℕ) (a : PlanRead) → answered a ≡ readPlan capacities calendars taskCalendars workTimes heights boxes text .answer → Holds a
   unfolding readPlan
   read-holds text a e = from-read (readText text) a (sym e)

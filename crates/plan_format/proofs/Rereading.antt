@@ -3,17 +3,17 @@ use mathlib.Core.Path.{_≡_, refl, ap, _∙_}
 use mathlib.Core.Bool.{true, false}
 use mathlib.Core.Option.{some}
 use mathlib.Core.List.{List, [], _++_}
-use Prim.Native.Nat.{ℕ, zero, suc, _≤_, _<_}
+use Prim.Native.Nat.{ℕ, zero, suc, _+_, _≤_, _<_}
 use native.Mathlib.Omega.{arith}
 use lib.Dec.{eqb}
 use lib.ListN.{length, getD}
 use lib.Seq.{take-all}
-use borrow.Author.Tests.{le-leb, eqb-true, ne-eqb}
+use borrow.Author.Tests.{le-leb, eq-eqb, eqb-true, ne-eqb}
 use Rattle.units.specs.Choice.{_and_, if_then_else_, someIf, onOption}
 use Rattle.units.specs.Limits.{within}
 use Rattle.units.specs.Lists.{listTo}
 use Rattle.units.proofs.Choices.{if-case, if-all}
-use Rattle.plan.specs.Plan.{Plan, taskCount, calendarCount, firstSymbol, calendarAt, workTimeOf, heightOf}
+use Rattle.plan.specs.Plan.{Plan, roomCount, taskCount, calendarCount, firstSymbol, calendarAt}
 use Rattle.plan.specs.HourKinds.{isKind, isSymbol, regular, closed, overtime}
 use Rattle.plan.specs.Passed.{Passed}
 use Rattle.plan.specs.Refusals.{answered}
@@ -24,9 +24,9 @@ use Rattle.text.specs.Numbers.{mostNumber}
 use Rattle.text.proofs.Parting.{without-each}
 use Rattle.text.proofs.Lines.{Below}
 use Rattle.plan_format.specs.Records.{Record, calRecord, taskRecord}
-use Rattle.plan_format.specs.Text.{mostBytes, planSection, calSection, taskSection, Read, nothing, comes, withRecord, readText}
+use Rattle.plan_format.specs.Text.{mostBytes, planSection, calSection, taskSection, Read, nothing, comes, isTaskLine, withRecord, readText}
 use Rattle.plan_format.specs.Writing.{calRecords, taskNumbers, taskRecords, recordsOf, planText}
-use Rattle.plan_format.proofs.Written.{readOf}
+use Rattle.plan_format.proofs.Written.{readOf, numbers-count, numbers-below, capacities-below}
 use Rattle.plan_format.proofs.Lines.{Readable}
 use Rattle.plan_format.proofs.Texts.{Each, each-both, each-to, withRecords, records-both, records-to, lines-read}
 
@@ -47,10 +47,13 @@ module _ (P : Plan) (boxes : List ℕ) where
   calendars = calRecords (P .shifts) (calendarCount (P .shifts))
 
   abbrev tasks : List Record
-  tasks = taskRecords (P .shifts .taskCalendars) (P .shifts .workTimes) (P .heights) boxes (taskCount P)
+  tasks = taskRecords (roomCount P) (P .shifts .taskCalendars) (P .shifts .workTimes) (P .heights) boxes (taskCount P)
 
   abbrev numbers : ℕ → List ℕ
-  numbers = taskNumbers (P .shifts .taskCalendars) (P .shifts .workTimes) (P .heights) boxes
+  numbers = taskNumbers (roomCount P) (P .shifts .taskCalendars) (P .shifts .workTimes) (P .heights) boxes
+
+  line-count : (i : ℕ) → length (numbers i) ≡ roomCount P + 8
+  line-count = numbers-count (roomCount P) _ _ _ _
 
   -- ---- each record is read as it is
 
@@ -79,17 +82,16 @@ module _ (P : Plan) (boxes : List ℕ) where
           calendar-without lf (omega arith) k l,
         ))
 
-    numbers-below : (i : ℕ) → i < taskCount P → Below (suc mostNumber) (numbers i)
-    unfolding taskNumbers Below workTimeOf heightOf
-    numbers-below i l = let t = p .task i l in omega (arith, t .number, p .calendars, t .work-time, p .hours, t .height, t .box)
-
     tasks-readable : Each Readable tasks
-    unfolding taskRecords Readable taskNumbers
-    tasks-readable = each-to Readable _ _ (λ i l. (refl, numbers-below i l))
+    unfolding taskRecords Readable
+    tasks-readable = each-to Readable _ _ (λ i l. (omega (arith, line-count i), numbers-below p (suc mostNumber) (omega arith) i l))
 
     records-readable : Each Readable (recordsOf P boxes)
     unfolding Each recordsOf Readable Below
-    records-readable = (omega (arith, p .hours, p .capacity), each-both Readable calendars tasks calendars-readable tasks-readable)
+    records-readable = (
+      (omega (arith, p .hours), capacities-below p (suc mostNumber) (omega arith)),
+      each-both Readable calendars tasks calendars-readable tasks-readable,
+    )
 
   -- ---- the records taken one after the other
 
@@ -99,7 +101,7 @@ module _ (P : Plan) (boxes : List ℕ) where
       record {
         reached = if eqb n 0 then planSection else calSection;
         hours = P .shifts .hours;
-        capacity = P .capacity;
+        capacities = P .capacities;
         calendars = listTo (calendarAt (P .shifts)) n;
         tasks = [];
       }
@@ -109,7 +111,7 @@ module _ (P : Plan) (boxes : List ℕ) where
       record {
         reached = if eqb n 0 then calSection else taskSection;
         hours = P .shifts .hours;
-        capacity = P .capacity;
+        capacities = P .capacities;
         calendars = listTo (calendarAt (P .shifts)) (calendarCount (P .shifts));
         tasks = listTo numbers n;
       }
@@ -119,10 +121,15 @@ module _ (P : Plan) (boxes : List ℕ) where
   calendar-taken zero = refl
   calendar-taken (suc k) = rw (not-none k, not-none (suc k))
 
+  -- a task's line has all its numbers
+  is-line : (i : ℕ) → isTaskLine (length (P .capacities)) (length (numbers i)) ≡ true
+  unfolding isTaskLine roomCount
+  is-line i = if-all (λ b. b ≡ true) _ _ _ (λ q. refl) (λ q. eq-eqb _ _ (line-count i))
+
   task-taken : (i : ℕ) → withRecord (afterTasks i) (taskRecord (numbers i)) ≡ some (afterTasks (suc i))
   unfolding withRecord comes within someIf if_then_else_ _and_ listTo
-  task-taken zero = refl
-  task-taken (suc i) = rw (not-none i, not-none (suc i))
+  task-taken zero = rw (is-line zero)
+  task-taken (suc i) = rw (not-none i, not-none (suc i), is-line (suc i))
 
   plan-taken : withRecords nothing (recordsOf P boxes) ≡ withRecords (afterCalendars 0) (calendars ++ tasks)
   unfolding recordsOf withRecords withRecord comes someIf onOption if_then_else_ listTo

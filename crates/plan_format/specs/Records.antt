@@ -1,39 +1,39 @@
--- The records of plan text, one a line (01, "Plan text and listing").
-use mathlib.Core.Bool.{true}
+-- The records of plan text, one a line (01, "Plan text and listing"; rooms: 02, W-202).
 use mathlib.Core.Option.{Option, none, some}
 use mathlib.Core.List.{List, [], _∷_, _++_}
 use Prim.Native.Nat.{ℕ}
 use lib.Dec.{leb, eqb}
-use lib.ListN.{length, getD}
+use lib.ListN.{length, getD, drop}
 use Rattle.units.specs.Choice.{_and_, if_then_else_, someIf, onOption}
 use Rattle.text.specs.Words.{wordPlan, wordCal, wordTask}
 use Rattle.text.specs.Fields.{tab, parts, same}
 use Rattle.text.specs.Numbers.{numbersOf}
 use Rattle.text.specs.Lines.{numberFields}
 
--- `plan`, H, capacity; `cal` and the symbols; `task` and three or nine numbers: calendar, p, height, and all six bounds or none
+-- `plan`, H, and the capacity of each room; `cal` and the symbols; `task` and its numbers: calendar, p, the height in each room, and all six
+-- bounds or none
 pub data Record : Type 0 where
-  planRecord : ℕ → ℕ → Record
+  planRecord : ℕ → List ℕ → Record
   calRecord : List ℕ → Record
   taskRecord : List ℕ → Record
 
 -- ---- read
 
--- the fields' numbers, if there are a or b of them
-unfoldable pub numbersIf : ℕ → ℕ → List (List ℕ) → Option (List ℕ)
-numbersIf a b fields = onOption (numbersOf fields) none (λ ns. someIf (if eqb (length ns) a then true else eqb (length ns) b) ns)
+-- the fields' numbers, if there are so many or more
+unfoldable pub numbersIf : ℕ → List (List ℕ) → Option (List ℕ)
+numbersIf least fields = onOption (numbersOf fields) none (λ ns. someIf (leb least (length ns)) ns)
 
--- two numbers
+-- H, and a number for each room; how many rooms there may be is left to refusal 17
 unfoldable pub planOf : List (List ℕ) → Option Record
-planOf fields = onOption (numbersIf 2 2 fields) none (λ ns. some (planRecord (getD ns 0 0) (getD ns 1 0)))
+planOf fields = onOption (numbersIf 1 fields) none (λ ns. some (planRecord (getD ns 0 0) (drop 1 ns)))
 
 -- one field of symbols, not empty; what they are is left to refusal 4
 unfoldable pub calOf : List (List ℕ) → Option Record
 calOf fields = someIf (eqb (length fields) 1 and leb 1 (length (getD fields 0 []))) (calRecord (getD fields 0 []))
 
--- three or nine numbers
+-- calendar and p; how many numbers follow is a matter of the plan line
 unfoldable pub taskOf : List (List ℕ) → Option Record
-taskOf fields = onOption (numbersIf 3 9 fields) none (λ ns. some (taskRecord ns))
+taskOf fields = onOption (numbersIf 2 fields) none (λ ns. some (taskRecord ns))
 
 -- by the first field, and the fields after it
 unfoldable pub byWord : List (List ℕ) → Option Record
@@ -52,6 +52,6 @@ recordOf line = byWord (parts tab line)
 
 -- a record's line, without its LF
 unfoldable pub recordLine : Record → List ℕ
-recordLine (planRecord h c) = wordPlan ++ numberFields (h ∷ c ∷ [])
+recordLine (planRecord h cs) = wordPlan ++ numberFields (h ∷ cs)
 recordLine (calRecord symbols) = wordCal ++ (tab ∷ symbols)
 recordLine (taskRecord numbers) = wordTask ++ numberFields numbers

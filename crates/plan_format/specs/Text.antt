@@ -1,6 +1,6 @@
--- Plan text, line by line (01, "Plan text and listing"). Read: the first line that breaks the rules, or the plan's records. Written: each record's
--- line.
-use mathlib.Core.Bool.{Bool}
+-- Plan text, line by line (01, "Plan text and listing"; rooms: 02, W-202). Read: the first line that breaks the rules, or the plan's records.
+-- Written: each record's line.
+use mathlib.Core.Bool.{Bool, true}
 use mathlib.Core.Option.{Option, none}
 use mathlib.Core.List.{List, [], _∷_, _++_}
 use Prim.Native.Nat.{ℕ, _+_}
@@ -33,26 +33,30 @@ taskSection = 3
 pub record Read : Type 0 where
   pub reached : ℕ
   pub hours : ℕ
-  pub capacity : ℕ
+  pub capacities : List ℕ
   pub calendars : List (List ℕ)
   pub tasks : List (List ℕ)
 
 abbrev pub nothing : Read
-nothing = record { reached = 0; hours = 0; capacity = 0; calendars = []; tasks = [] }
+nothing = record { reached = 0; hours = 0; capacities = []; calendars = []; tasks = [] }
 
 -- `plan` comes first and once; each other record comes after it, and not after a later section
 unfoldable pub comes : ℕ → ℕ → Bool
 comes section reached = if eqb section planSection then eqb reached 0 else within planSection section reached
 
+-- a task line has calendar, p, a height for each of so many rooms, and all six bounds or none
+unfoldable pub isTaskLine : ℕ → ℕ → Bool
+isTaskLine rooms numbers = if eqb numbers (rooms + 2) then true else eqb numbers (rooms + 8)
+
 unfoldable pub withRecord : Read → Record → Option Read
-withRecord r (planRecord h c) =
-    someIf (comes planSection (r .reached)) (record { reached = planSection; hours = h; capacity = c; calendars = []; tasks = [] })
+withRecord r (planRecord h cs) =
+    someIf (comes planSection (r .reached)) (record { reached = planSection; hours = h; capacities = cs; calendars = []; tasks = [] })
 withRecord r (calRecord symbols) =
     someIf (comes calSection (r .reached))
-    (record { reached = calSection; hours = r .hours; capacity = r .capacity; calendars = r .calendars ++ (symbols ∷ []); tasks = r .tasks })
+    (record { reached = calSection; hours = r .hours; capacities = r .capacities; calendars = r .calendars ++ (symbols ∷ []); tasks = r .tasks })
 withRecord r (taskRecord numbers) =
-    someIf (comes taskSection (r .reached))
-    (record { reached = taskSection; hours = r .hours; capacity = r .capacity; calendars = r .calendars; tasks = r .tasks ++ (numbers ∷ []) })
+    someIf (comes taskSection (r .reached) and isTaskLine (length (r .capacities)) (length numbers))
+    (record { reached = taskSection; hours = r .hours; capacities = r .capacities; calendars = r .calendars; tasks = r .tasks ++ (numbers ∷ []) })
 
 unfoldable pub withLine : Read → List ℕ → Option Read
 withLine r line = onOption (recordOf line) none (withRecord r)

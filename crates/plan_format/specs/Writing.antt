@@ -1,4 +1,4 @@
--- Writing a plan as text (02, W-201): the plan's records, its text, the refusals in their order, what lent memory holds after, and that the text
+-- Writing a plan as text (02, W-201; rooms: W-202): the plan's records, its text, the refusals in their order, what lent memory holds after, and that the text
 -- read again is the plan.
 use mathlib.Core.Bool.{true}
 use mathlib.Core.Option.{Option}
@@ -10,7 +10,7 @@ use lib.ListN.{length, getD}
 use Rattle.units.specs.Cells.{written}
 use Rattle.units.specs.Choice.{onOption, _orElse_}
 use Rattle.units.specs.Lists.{listTo}
-use Rattle.plan.specs.Plan.{Shifts, Plan, taskCount, calendarCount, calendarAt}
+use Rattle.plan.specs.Plan.{Shifts, Plan, roomCount, taskCount, calendarCount, calendarAt, roomPart}
 use Rattle.plan.specs.Boxes.{boundsAt, boxCells}
 use Rattle.plan.specs.Refusals.{Fault, unless, Answer, refused, answered}
 use Rattle.plan.specs.Faults.{inputFault}
@@ -22,21 +22,26 @@ use Rattle.plan_format.specs.Reading.{planIn, boxesIn, isEnough, endWith
 unfoldable pub calRecords : Shifts → ℕ → List Record
 calRecords S n = listTo (λ k. calRecord (calendarAt S k)) n
 
--- the numbers of task i: calendar, p, height, and all six bounds
-unfoldable pub taskNumbers : List ℕ → List ℕ → List ℕ → List ℕ → ℕ → List ℕ
-taskNumbers taskCalendars workTimes heights boxes i =
-    getD taskCalendars i 0 ∷ getD workTimes i 0 ∷ getD heights i 0 ∷ boxCells (boundsAt boxes i)
+-- the heights of task i of so many, in each of so many rooms
+unfoldable pub heightsAt : ℕ → ℕ → List ℕ → ℕ → List ℕ
+heightsAt rooms tasks heights i = listTo (λ room. getD (roomPart tasks heights room) i 0) rooms
+
+-- the numbers of task i: calendar, p, the height in each of so many rooms, and all six bounds
+unfoldable pub taskNumbers : ℕ → List ℕ → List ℕ → List ℕ → List ℕ → ℕ → List ℕ
+taskNumbers rooms taskCalendars workTimes heights boxes i =
+    getD taskCalendars i 0 ∷ getD workTimes i 0 ∷ (heightsAt rooms (length taskCalendars) heights i ++ boxCells (boundsAt boxes i))
 
 -- the first n tasks, a record each
-unfoldable pub taskRecords : List ℕ → List ℕ → List ℕ → List ℕ → ℕ → List Record
-taskRecords taskCalendars workTimes heights boxes n = listTo (λ i. taskRecord (taskNumbers taskCalendars workTimes heights boxes i)) n
+unfoldable pub taskRecords : ℕ → List ℕ → List ℕ → List ℕ → List ℕ → ℕ → List Record
+taskRecords rooms taskCalendars workTimes heights boxes n =
+    listTo (λ i. taskRecord (taskNumbers rooms taskCalendars workTimes heights boxes i)) n
 
 -- the records of a plan: `plan`, then its calendars, then its tasks
 unfoldable pub recordsOf : Plan → List ℕ → List Record
 recordsOf P boxes =
-    planRecord (P .shifts .hours) (P .capacity)
+    planRecord (P .shifts .hours) (P .capacities)
     ∷ (calRecords (P .shifts) (calendarCount (P .shifts))
-    ++ taskRecords (P .shifts .taskCalendars) (P .shifts .workTimes) (P .heights) boxes (taskCount P))
+    ++ taskRecords (roomCount P) (P .shifts .taskCalendars) (P .shifts .workTimes) (P .heights) boxes (taskCount P))
 
 -- a plan's text, every task line with all its bounds
 unfoldable pub planText : Plan → List ℕ → List ℕ
@@ -66,11 +71,12 @@ writePlan P boxes out =
 pub record ReadsBack (P : Plan) (boxes text : List ℕ) : Type 0 where
   pub short : length text ≤ mostBytes
   pub again : (r : Read) × (readText text ≡ answered r) × (planIn r ≡ P) × (boxesIn r ≡ boxes)
-  pub read : (cs ts ws hs bs : List ℕ) → isEnough cs ts ws hs bs ≡ true
-      → readPlan cs ts ws hs bs text
+  pub read : (rs cs ts ws hs bs : List ℕ) → isEnough rs cs ts ws hs bs ≡ true
+      → readPlan rs cs ts ws hs bs text
       ≡ endWith
       (answered
-      (record { hours = P .shifts .hours; capacity = P .capacity; calendars = calendarCount (P .shifts); tasks = taskCount P }))
+      (record { hours = P .shifts .hours; rooms = roomCount P; calendars = calendarCount (P .shifts); tasks = taskCount P }))
+      (written (P .capacities) rs)
       (written (P .shifts .calendars) cs)
       (written (P .shifts .taskCalendars) ts)
       (written (P .shifts .workTimes) ws)

@@ -1,6 +1,3 @@
-pub mod Recording
-pub mod Sections
-pub mod Following
-pub mod Lining
 pub mod Judging
+pub mod Gathering
 pub mod Entry

@@ -7,4 +7,4 @@ use Rattle.plan_text.specs.declared.PlanReading.the-variants.{Refused, R
 -- the number and the values of each case of the answer
 abbrev pub readingAnswer : PlanReading → Answer PlanRead
 readingAnswer (Refused r) = refused (faultOf r)
-readingAnswer (Read h c n m) = answered (record { hours = h; capacity = c; calendars = n; tasks = m })
+readingAnswer (Read h k n m) = answered (record { hours = h; rooms = k; calendars = n; tasks = m })

@@ -1,3 +1,2 @@
 -- What contracts of private functions cite and no public one does; 01 has no such terms.
-pub mod Lines
-pub mod Scanning
+pub mod Gathering

@@ -29,10 +29,10 @@ use Rattle.steps.specs.inner.From.{loggedFrom}
 use Rattle.steps.proofs.Searches.{Rightly, next-rightly}
 use Rattle.steps.proofs.Runs.{run-settled, run-full, run-stops, run-moves, resumed}
 use Rattle.steps.proofs.Entry.{one-each}
-use Rattle.propagation.specs.declared.turn.Turn.{Turn}
-use Rattle.propagation.specs.declared.turn.Turn.the-variants as turn
+use Rattle.turns.specs.declared.turn.Turn.{Turn}
+use Rattle.turns.specs.declared.turn.Turn.the-variants as turn
+use Rattle.turns.specs.inner.Kept.{Keeping, onJudged, admittedOf, turnOf}
 use Rattle.propagation.specs.inner.Fitting.{Fitting}
-use Rattle.propagation.specs.inner.Kept.{Keeping, onJudged, admittedOf, turnOf}
 use Rattle.propagation.proofs.Keeping.{may-move, keeps-moved}
 
 -- ---- the steps taken
@@ -212,7 +212,7 @@ module _ {P : Plan} {opening kinds₀ tasks₀ hours₀ : List ℕ} {count : ℕ
           (next-is ∙ ap some (admitted-stops boxes x j still)) (omega (arith, at .same-kinds)) (at .each-task) (at .each-hour)
 
       -- the next turn, on the boxes and the answers once the bounds are moved
-      module _ {i : ℕ} {b : Bounds} (m : j ≡ Moved i b) (there : i < length (P .heights)) where
+      module _ {i : ℕ} {b : Bounds} (m : j ≡ Moved i b) (there : i < taskCount P) where
         next-moves : next P boxes ≡ some (moves x (withBounds boxes i b))
         next-moves = next-is ∙ ap some (admitted-moves boxes x m)
 
@@ -220,18 +220,15 @@ module _ {P : Plan} {opening kinds₀ tasks₀ hours₀ : List ℕ} {count : ℕ
         unfolding Rightly
         moves-so = next-rightly P boxes filterOrder (moves x (withBounds boxes i b)) next-moves
 
-        task-there : i < taskCount P
-        task-there = rw (← (at .keeps .passed .heights)) there
-
         pub filter-may-move : (i < mostTasks) × Fitting (P .shifts) (withBounds boxes i b) i
-        filter-may-move = may-move P boxes fits (at .keeps) x i b moves-so task-there
+        filter-may-move = may-move P boxes fits (at .keeps) x i b moves-so there
 
         pub goes-on : {boxes′ : List ℕ} {fits′ : List Fit} → (boxes′ ≡ withBounds boxes i b) × (fits′ ≡ set fits i (fitAt (P .shifts) boxes′ i))
             → Filtering P opening kinds₀ tasks₀ hours₀ (count + 1) boxes′ (set kinds count (x .kind)) (set tasks count (x .task))
             (set hours count (x .hour)) fits′
         goes-on {boxes′} {fits′} (e, f) =
             record {
-              keeps = keeps-moved P boxes fits (at .keeps) x i b moves-so task-there (e, f);
+              keeps = keeps-moved P boxes fits (at .keeps) x i b moves-so there (e, f);
               taken =
                   step-taken P opening kinds₀ tasks₀ hours₀ count boxes kinds tasks hours (at .taken) x boxes′
                   (next-moves ∙ ap (λ (left : List ℕ). some (moves x left)) (sym e))

@@ -25,9 +25,10 @@ use Rattle.steps.specs.Steps as judged
 use Rattle.steps.specs.Log.{LogEnd, logEnd, replayBy, replayFrom}
 use Rattle.steps.specs.Entry.{stepAt, stepsFrom, stepsIn, oneForEachStep, Accepted, checkAnswer}
 use Rattle.steps.proofs.Entry.{one-each}
+use Rattle.turns.specs.inner.Kept.{Keeping, judgeBy}
+use Rattle.turns.proofs.Keeping.{judges-unknown, judges-not, judges-impossible, judges-moved, moved-there}
 use Rattle.propagation.specs.inner.Fitting.{Fitting}
-use Rattle.propagation.specs.inner.Kept.{Keeping, judgeBy}
-use Rattle.propagation.proofs.Keeping.{judges-unknown, judges-not, judges-impossible, judges-moved, moved-there, may-move, keeps-moved}
+use Rattle.propagation.proofs.Keeping.{may-move, keeps-moved}
 
 -- ---- the end of a log from a step on
 
@@ -145,7 +146,7 @@ module _ {P : Plan} {n : ℕ} {said₀ : Bool} {opening kinds tasks hours : List
       (answers-refused _ e, sym (ap (λ (x : LogEnd). x .boxes) e))
 
   module _ (l : k < length kinds) (s : said ≡ false) {r : Judged}
-      (is : r ≡ judgeBy (P .shifts .hours) (P .capacity) (P .heights) boxes fits (stepAt kinds tasks hours k)) where
+      (is : r ≡ judgeBy (P .shifts .hours) (taskCount P) (P .capacities) (P .heights) boxes fits (stepAt kinds tasks hours k)) where
     going : endFrom P n kinds tasks hours k false boxes ≡ replayFrom P n said₀ opening (stepsIn kinds tasks hours)
     going = ap (λ (b : Bool). endFrom P n kinds tasks hours k b boxes) (sym s) ∙ at .ends
 
@@ -174,7 +175,7 @@ module _ {P : Plan} {n : ℕ} {said₀ : Bool} {opening kinds tasks hours : List
       moves-so = judges-moved P boxes fits (at .keeps) _ r is i b m
 
       there : i < taskCount P
-      there = rw (← (at .keeps .passed .heights)) (moved-there _ _ _ _ _ _ r i b is m)
+      there = moved-there _ _ _ _ _ _ _ r i b is m
 
       pub replay-may-move : (i < mostTasks) × Fitting (P .shifts) (withBounds boxes i b) i
       replay-may-move = may-move P boxes fits (at .keeps) _ i b moves-so there

@@ -19,7 +19,7 @@ fn has_one_for_each_step(log_kinds: &[u8], log_tasks: &[u16], log_hours: &[u16])
 // 31, then the plan's tests.
 pub fn test_entry(
     hours: u16,
-    capacity: u16,
+    capacities: &[u16],
     calendars: &[u8],
     task_calendars: &[u16],
     work_times: &[u16],
@@ -30,10 +30,10 @@ pub fn test_entry(
     log_hours: &[u16],
 ) -> Tested
     ensures { λ r.
-        let P = oldPlan hours capacity calendars «task_calendars» «work_times» heights in
+        let P = oldPlan hours capacities calendars «task_calendars» «work_times» heights in
         ⌜ testedFault r ≡ entryFault P (old boxes) (old «log_kinds») (old «log_tasks») (old «log_hours») ⌝ }
 {
-    if !plan::has_one_for_each_task(task_calendars, work_times, heights, boxes) {
+    if !plan::has_one_for_each_task(capacities, task_calendars, work_times, heights, boxes) {
         return Tested::Refused(Refusal::MemorySize);
     }
     if !has_one_for_each_step(log_kinds, log_tasks, log_hours) {
@@ -41,7 +41,7 @@ pub fn test_entry(
     }
     plan::test_plan(
         hours,
-        capacity,
+        capacities,
         calendars,
         task_calendars,
         work_times,

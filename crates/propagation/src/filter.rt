@@ -1,13 +1,12 @@
 // The filter: takes the first admitted step of each turn, and logs it.
 use crate::entry;
 use crate::kept;
-use crate::turn;
-use crate::turn::Turn;
 use plan::Tested;
 use steps::Filtered;
 use steps::Judged;
+use turns::turn;
+use turns::turn::Turn;
 use units::Duration;
-use units::Height;
 ghost use mathlib.Core.Bool.{true};
 ghost use mathlib.Core.Path.{_≡_};
 ghost use Prim.Native.Nat.{_+_, _^_, _<_};
@@ -23,7 +22,7 @@ ghost use Rattle.steps.specs.Claim.{FilterHolds};
 // task's is worked out anew.
 fn run_filter(
     hours: Duration,
-    capacity: Height,
+    capacities: &[u16],
     calendars: &[u8],
     task_calendars: &[u16],
     work_times: &[u16],
@@ -34,11 +33,11 @@ fn run_filter(
     log_hours: &mut [u16],
     taken: usize,
 ) -> Filtered
-    requires { ⌜ Passed (planOf (hours .0) (capacity .0) calendars «task_calendars» «work_times» heights) (now boxes)
+    requires { ⌜ Passed (planOf (hours .0) capacities calendars «task_calendars» «work_times» heights) (now boxes)
         × (oneForEachStep (now «log_kinds») (now «log_tasks») (now «log_hours») ≡ true) ⌝ }
     requires { ⌜ taken + length (now «log_kinds») < 2 ^ 64 ⌝ }
     ensures { λ r.
-        let P = oldPlan (hours .0) (capacity .0) calendars «task_calendars» «work_times» heights in
+        let P = oldPlan (hours .0) capacities calendars «task_calendars» «work_times» heights in
         let run = run P (old boxes) (length (old «log_kinds»)) in
         ⌜ filterEnd (filterAnswer r) (left boxes) (left «log_kinds») (left «log_tasks») (left «log_hours»)
         ≡ loggedFrom taken run (old «log_kinds») (old «log_tasks») (old «log_hours») ⌝ }
@@ -46,7 +45,14 @@ fn run_filter(
     let mut fits = kept::all_fits(hours, calendars, task_calendars, work_times, boxes);
     let mut count: usize = 0;
     let answer = loop {
-        let turn = turn::next_turn(hours, capacity, heights, boxes, fits);
+        let turn = turn::next_turn(
+            hours,
+            capacities,
+            task_calendars.len(),
+            heights,
+            boxes,
+            fits,
+        );
         let Turn::At { step, judged } = turn else {
             break Filtered::Settled(taken + count);
         };
@@ -78,7 +84,7 @@ fn run_filter(
 // The filter from a count on: after so many steps taken before, on the boxes that they left. The answer counts from the run's first step.
 pub fn filter_from(
     hours: u16,
-    capacity: u16,
+    capacities: &[u16],
     calendars: &[u8],
     task_calendars: &[u16],
     work_times: &[u16],
@@ -91,13 +97,13 @@ pub fn filter_from(
 ) -> Filtered
     requires { ⌜ taken + length (now «log_kinds») < 2 ^ 64 ⌝ }
     ensures { λ r.
-        let P = oldPlan hours capacity calendars «task_calendars» «work_times» heights in
+        let P = oldPlan hours capacities calendars «task_calendars» «work_times» heights in
         ⌜ filterEnd (filterAnswer r) (left boxes) (left «log_kinds») (left «log_tasks») (left «log_hours»)
         ≡ filterFrom P (old boxes) (old «log_kinds») (old «log_tasks») (old «log_hours») taken ⌝ }
 {
     let tested = entry::test_entry(
         hours,
-        capacity,
+        capacities,
         calendars,
         task_calendars,
         work_times,
@@ -112,7 +118,7 @@ pub fn filter_from(
     }
     run_filter(
         Duration(hours),
-        Height(capacity),
+        capacities,
         calendars,
         task_calendars,
         work_times,
@@ -128,7 +134,7 @@ pub fn filter_from(
 // The filter, with the log lent as its room. A refused plan changes nothing; log cells past the count are untouched.
 pub fn filter(
     hours: u16,
-    capacity: u16,
+    capacities: &[u16],
     calendars: &[u8],
     task_calendars: &[u16],
     work_times: &[u16],
@@ -139,17 +145,17 @@ pub fn filter(
     log_hours: &mut [u16],
 ) -> Filtered
     ensures { λ r.
-        let P = oldPlan hours capacity calendars «task_calendars» «work_times» heights in
+        let P = oldPlan hours capacities calendars «task_calendars» «work_times» heights in
         ⌜ filterEnd (filterAnswer r) (left boxes) (left «log_kinds») (left «log_tasks») (left «log_hours»)
         ≡ filterPlan P (old boxes) (old «log_kinds») (old «log_tasks») (old «log_hours») ⌝ }
     ensures holds { λ r.
-        let P = oldPlan hours capacity calendars «task_calendars» «work_times» heights in
+        let P = oldPlan hours capacities calendars «task_calendars» «work_times» heights in
         let steps = stepsFrom (left «log_kinds») (left «log_tasks») (left «log_hours») 0 in
         ⌜ FilterHolds P (old boxes) (checkRecords P (old boxes)) (length (old «log_kinds»)) (filterAnswer r) (left boxes) steps ⌝ }
 {
     filter_from(
         hours,
-        capacity,
+        capacities,
         calendars,
         task_calendars,
         work_times,

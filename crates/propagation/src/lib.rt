@@ -1,9 +1,5 @@
-// The log checker and the filter, over the definitions of `steps`.
+// The log checker and the filter, over the definitions of `steps` and the turns of `turns`.
 mod entry;
 pub mod filter;
-mod judge;
 mod kept;
-mod load;
 pub mod replay;
-mod search;
-mod turn;

@@ -1,14 +1,13 @@
 // The log checker: a log from anyone, step by step, each at its turn.
 use crate::entry;
-use crate::judge;
 use crate::kept;
 use plan::Refusal;
 use plan::Tested;
 use steps::Judged;
 use steps::LogChecked;
 use steps::Step;
+use turns::judge;
 use units::Duration;
-use units::Height;
 ghost use mathlib.Core.Bool.{true};
 ghost use mathlib.Core.Path.{_≡_};
 ghost use Prim.Native.Nat.{_+_, _^_, _<_};
@@ -24,7 +23,7 @@ ghost use Rattle.steps.specs.Claim.{CheckedHolds};
 // its first step has the number `from`. The answers of the calendar rule are kept, and only the moved task's is worked out anew.
 fn replay_log(
     hours: Duration,
-    capacity: Height,
+    capacities: &[u16],
     calendars: &[u8],
     task_calendars: &[u16],
     work_times: &[u16],
@@ -36,11 +35,11 @@ fn replay_log(
     from: usize,
     said: bool,
 ) -> LogChecked
-    requires { ⌜ Passed (planOf (hours .0) (capacity .0) calendars «task_calendars» «work_times» heights) (now boxes)
+    requires { ⌜ Passed (planOf (hours .0) capacities calendars «task_calendars» «work_times» heights) (now boxes)
         × (oneForEachStep (now «log_kinds») (now «log_tasks») (now «log_hours») ≡ true) ⌝ }
     requires { ⌜ from + length (now «log_kinds») < 2 ^ 64 ⌝ }
     ensures { λ r.
-        let P = oldPlan (hours .0) (capacity .0) calendars «task_calendars» «work_times» heights in
+        let P = oldPlan (hours .0) capacities calendars «task_calendars» «work_times» heights in
         let e = replayFrom P from said (old boxes) (stepsIn (old «log_kinds») (old «log_tasks») (old «log_hours»)) in
         ⌜ (logAnswer r ≡ checkAnswer e) × (left boxes ≡ e .boxes) ⌝ }
 {
@@ -55,7 +54,15 @@ fn replay_log(
             task: log_tasks[k],
             hour: log_hours[k],
         };
-        let judged = judge::judge_step(hours, capacity, heights, boxes, fits, x);
+        let judged = judge::judge_step(
+            hours,
+            capacities,
+            task_calendars.len(),
+            heights,
+            boxes,
+            fits,
+            x,
+        );
         match judged {
             Judged::Unknown => {
                 return LogChecked::Refused(Refusal::UnknownStep(from + k));
@@ -92,7 +99,7 @@ fn replay_log(
 // impossible. The answer counts from the log's first step.
 pub fn check_from(
     hours: u16,
-    capacity: u16,
+    capacities: &[u16],
     calendars: &[u8],
     task_calendars: &[u16],
     work_times: &[u16],
@@ -106,13 +113,13 @@ pub fn check_from(
 ) -> LogChecked
     requires { ⌜ from + length (now «log_kinds») < 2 ^ 64 ⌝ }
     ensures { λ r.
-        let P = oldPlan hours capacity calendars «task_calendars» «work_times» heights in
+        let P = oldPlan hours capacities calendars «task_calendars» «work_times» heights in
         let e = checkFrom P (old boxes) (old «log_kinds») (old «log_tasks») (old «log_hours») from said in
         ⌜ (logAnswer r ≡ checkAnswer e) × (left boxes ≡ e .boxes) ⌝ }
 {
     let tested = entry::test_entry(
         hours,
-        capacity,
+        capacities,
         calendars,
         task_calendars,
         work_times,
@@ -127,7 +134,7 @@ pub fn check_from(
     }
     replay_log(
         Duration(hours),
-        Height(capacity),
+        capacities,
         calendars,
         task_calendars,
         work_times,
@@ -144,7 +151,7 @@ pub fn check_from(
 // The log checker. Accepted or refused by 11, 12 or 13, the boxes become those at the log's end; any other refusal changes nothing.
 pub fn check_log(
     hours: u16,
-    capacity: u16,
+    capacities: &[u16],
     calendars: &[u8],
     task_calendars: &[u16],
     work_times: &[u16],
@@ -155,7 +162,7 @@ pub fn check_log(
     log_hours: &[u16],
 ) -> LogChecked
     ensures { λ r.
-        let P = oldPlan hours capacity calendars «task_calendars» «work_times» heights in
+        let P = oldPlan hours capacities calendars «task_calendars» «work_times» heights in
         let e = checkLog P (old boxes) (old «log_kinds») (old «log_tasks») (old «log_hours») in
         let refusal = entryFault P (old boxes) (old «log_kinds») (old «log_tasks») (old «log_hours») in
         let steps = stepsIn (old «log_kinds») (old «log_tasks») (old «log_hours») in
@@ -164,7 +171,7 @@ pub fn check_log(
 {
     check_from(
         hours,
-        capacity,
+        capacities,
         calendars,
         task_calendars,
         work_times,

@@ -15,14 +15,14 @@ use Rattle.units.specs.declared.Bounds.{Bounds}
 use Rattle.units.specs.declared.Duration.{Duration}
 use Rattle.units.specs.declared.Hour.{Hour}
 use Rattle.units.proofs.Choices.{not-left, and-rest, first-eq}
-use Rattle.plan.specs.Plan.{Shifts, Plan, taskCount, firstSymbol, calendarAt, calendarOf, workTimeOf, heightOf, heightsWhere}
+use Rattle.plan.specs.Plan.{Shifts, Plan, roomCount, taskCount, firstSymbol, calendarAt, calendarOf, workTimeOf, capacityOf, roomPart, heightsOf, heightOf, heightsWhere}
 use Rattle.plan.specs.Boxes.{boundsAt}
 use Rattle.plan.specs.Refusals.{Fault, unless}
 use Rattle.calendar.specs.declared.Triple.{Triple}
 use Rattle.calendar.specs.Triples.{startOf, elapsedOf, endOf}
 use Rattle.schedule.specs.Schedule.{tripleAt, runs, running}
-use Rattle.schedule.specs.Entry.{oneTripleFault, tripleFault, hourFault}
-use Rattle.schedule.specs.inner.Ready.{heightsFault}
+use Rattle.schedule.specs.Entry.{oneTripleFault, tripleFault, roomFault, hourFault}
+use Rattle.schedule.specs.inner.Ready.{runningHeights, roomRunningFault, heightsFault}
 
 -- an hour is before s + e if the time since s is less than e
 by-elapsed : (s e t d : ℕ) → s ≤ t → d ≡ t - s → ltb d e ≡ ltb t (s + e)
@@ -53,13 +53,17 @@ module _ (x y : Triple) (is : x ≡ y) where
   pub end-as : (h : Hour) → h ≡ hour (endOf x) → h .0 ≡ endOf y
   end-as h e = rw (← is) (ap (λ (k : Hour). k .0) e)
 
--- the capacity, held against heights that were added
-module _ (n r capacity : ℕ) (is : r ≡ n) (over : Bool) (found : over ≡ ltb capacity r) where
+-- a capacity, held against heights that were added
+module _ (n r capacity k : ℕ) (is : r ≡ n) (limit : k ≡ capacity) (over : Bool) (found : over ≡ ltb k r) where
   pub exceeds : over ≡ true → leb n capacity ≡ false
-  exceeds e = lt-leb n capacity (omega (arith, is, ltb-true capacity r (sym found ∙ e)))
+  exceeds e = lt-leb n capacity (omega (arith, is, limit, ltb-true k r (sym found ∙ e)))
 
   pub allows : over ≡ false → leb n capacity ≡ true
-  allows e = le-leb n capacity (omega (arith, is, ltb-false capacity r (sym found ∙ e)))
+  allows e = le-leb n capacity (omega (arith, is, limit, ltb-false k r (sym found ∙ e)))
+
+-- the heights added, of a list that is another's equal
+pub running-as : (hs is schedule : List ℕ) (t : ℕ) (r : ℕ) → hs ≡ is → r ≡ runningHeights hs schedule t → r ≡ runningHeights is schedule t
+running-as hs is schedule t r e q = rw (← e) q
 
 -- the first so many of a list
 pub taken-small : (l all : List ℕ) (n m : ℕ) → l ≡ take n all → n ≤ m → length l ≤ m
@@ -72,13 +76,18 @@ pub triple-is : (S : Shifts) (boxes schedule : List ℕ) (i : ℕ) (cal : List �
 unfolding tripleFault calendarOf calendarAt workTimeOf
 triple-is S boxes schedule i cal b x r p q s e = rw (← p, ← q, ← s) e
 
--- one task for each height, so the code counts the heights
-pub hours-are : (P : Plan) (schedule : List ℕ) → length (P .heights) ≡ taskCount P
-    → firstOf (heightsFault (P .capacity) (P .heights) schedule) (P .shifts .hours) ≡ firstOf (hourFault P (tripleAt schedule)) (P .shifts .hours)
-unfolding hourFault heightsFault running heightsWhere heightOf
+-- one task for each height of a room, so the code counts the heights
+pub hours-are : (P : Plan) (schedule : List ℕ) → ((room : ℕ) → room < roomCount P → length (heightsOf P room) ≡ taskCount P)
+    → firstOf (heightsFault (P .capacities) (taskCount P) (P .heights) schedule) (P .shifts .hours)
+    ≡ firstOf (hourFault P (tripleAt schedule)) (P .shifts .hours)
+unfolding hourFault roomFault heightsFault roomRunningFault running heightsWhere roomCount capacityOf heightsOf heightOf
 hours-are P schedule e =
     first-eq _ _ (P .shifts .hours)
-    (λ t l. ap (λ (n : ℕ). unless (leb (sumWhere (runsAt t) (λ i. getD (P .heights) i 0) n) (P .capacity)) 16 t) e)
+    (λ t m. first-eq _ _ (length (P .capacities))
+    (λ r l. ap (λ (n : ℕ). unless (leb (sumWhere (runsAt t) (inRoom r) n) (getD (P .capacities) r 0)) 16 t) (e r l)))
   where
+    inRoom : ℕ → ℕ → ℕ
+    inRoom r i = getD (roomPart (taskCount P) (P .heights) r) i 0
+
     runsAt : ℕ → ℕ → Bool
     runsAt t i = runs (tripleAt schedule i) t

@@ -2,19 +2,19 @@
 use mathlib.Core.Path.{_≡_}
 use mathlib.Core.List.{List}
 use native.Mathlib.Omega.{arith}
-use Prim.Native.Nat.{ℕ}
+use Prim.Native.Nat.{ℕ, _<_}
 use lib.ListN.{length}
 use borrow.Author.Tests.{eqb-true}
 use Rattle.units.proofs.Choices.{and-left, and-right}
-use Rattle.plan.specs.Plan.{Plan, taskCount, heightOf}
+use Rattle.plan.specs.Plan.{Plan, roomCount, taskCount, heightsOf, heightOf}
 use Rattle.plan.specs.Faults.{Passes}
 use Rattle.plan.specs.Passed.{Passed}
-use Rattle.plan.proofs.Passed.{passed}
+use Rattle.plan.proofs.Passed.{passed, room-heights}
 use Rattle.calendar.proofs.Valid.{valid-facts}
 use Rattle.schedule.specs.Schedule.{tripleAt, Feasible}
 use Rattle.schedule.specs.Entry.{isSized}
 use Rattle.schedule.specs.Decision.{RightSize}
-use Rattle.schedule.specs.inner.Ready.{TriplesReady, HoursReady, EndsReady}
+use Rattle.schedule.specs.inner.Ready.{TriplesReady, RoomsReady, EndsReady}
 
 -- memory of the right size, and a plan that passes
 pub record InputPasses (P : Plan) (boxes schedule : List ℕ) : Type 0 where
@@ -25,8 +25,8 @@ module _ {P : Plan} {boxes schedule : List ℕ} (input : InputPasses P boxes sch
   plan-facts : Passed P boxes
   plan-facts = passed P boxes (and-left _ _ (input .size)) (input .passes)
 
-  pub same-heights : length (P .heights) ≡ taskCount P
-  same-heights = plan-facts .heights
+  pub room-tasks : (room : ℕ) → room < roomCount P → length (heightsOf P room) ≡ taskCount P
+  room-tasks room l = room-heights P boxes plan-facts room l
 
   pub triples-ready : TriplesReady (P .shifts) boxes schedule
   unfolding taskCount isSized
@@ -39,13 +39,17 @@ module _ {P : Plan} {boxes schedule : List ℕ} (input : InputPasses P boxes sch
         schedule = eqb-true _ _ (and-right _ _ (input .size));
       }
 
-  pub hours-ready : HoursReady (P .heights) schedule
-  unfolding taskCount heightOf
-  hours-ready =
+  pub rooms-ready : RoomsReady (roomCount P) (taskCount P) (P .heights) schedule
+  unfolding taskCount heightsOf heightOf
+  rooms-ready =
       record {
-        tasks = omega (arith, plan-facts .heights, plan-facts .tasks);
-        heights = λ i l. plan-facts .task i (omega (arith, plan-facts .heights)) .height;
-        schedule = omega (arith, plan-facts .heights, triples-ready .schedule);
+        heights = plan-facts .heights;
+        room =
+            λ r l. record {
+              tasks = omega (arith, room-tasks r l, plan-facts .tasks);
+              heights = λ i m. plan-facts .task i (omega (arith, room-tasks r l)) .height r l;
+              schedule = omega (arith, room-tasks r l, triples-ready .schedule);
+            };
       }
 
   pub ends-ready : Feasible P boxes (tripleAt schedule) → EndsReady schedule (taskCount P)

@@ -1,4 +1,4 @@
--- The schedule checker as an entry point (01, "Refused because of the input", and the order below it).
+-- The schedule checker as an entry point (01, "Refused because of the input", and the order below it; rooms: 02, W-202).
 use mathlib.Core.Bool.{Bool}
 use mathlib.Core.Option.{Option}
 use mathlib.Core.List.{List}
@@ -6,10 +6,10 @@ use Prim.Native.Nat.{ℕ, _*_}
 use lib.Dec.{leb, eqb}
 use lib.ListN.{length}
 use Rattle.units.specs.Choice.{_and_, _orElse_, firstOf}
-use Rattle.plan.specs.Plan.{Shifts, Plan, taskCount, calendarOf, workTimeOf}
+use Rattle.plan.specs.Plan.{Shifts, Plan, roomCount, taskCount, calendarOf, workTimeOf, capacityOf}
 use Rattle.plan.specs.Boxes.{boundsAt}
 use Rattle.plan.specs.Refusals.{Fault, unless, Answer, refused, answered, faultOf, answerUnless}
-use Rattle.plan.specs.Faults.{oneForEachTask, planFault}
+use Rattle.plan.specs.Faults.{isRightSize, planFault}
 use Rattle.units.specs.declared.Bounds.{Bounds}
 use Rattle.calendar.specs.declared.Triple.{Triple}
 use Rattle.calendar.specs.Triples.{tripleNumbers, validTriple, inBounds}
@@ -24,9 +24,12 @@ oneTripleFault cal p b i x = unless (inBounds b x) 14 i orElse unless (validTrip
 unfoldable pub tripleFault : Shifts → List ℕ → (ℕ → Triple) → ℕ → Option Fault
 tripleFault S boxes σ i = oneTripleFault (calendarOf S i) (workTimeOf S i) (boundsAt boxes i) i (σ i)
 
--- 16
+-- 16, in a room; in any
+unfoldable pub roomFault : Plan → (ℕ → Triple) → ℕ → ℕ → Option Fault
+roomFault P σ t room = unless (leb (running P room σ t) (capacityOf P room)) 16 t
+
 unfoldable pub hourFault : Plan → (ℕ → Triple) → ℕ → Option Fault
-hourFault P σ t = unless (leb (running P σ t) (P .capacity)) 16 t
+hourFault P σ t = firstOf (roomFault P σ t) (roomCount P)
 
 -- the tasks, and at last 16 at the first such hour
 unfoldable pub scheduleFault : Plan → List ℕ → (ℕ → Triple) → Option Fault
@@ -39,7 +42,7 @@ isSized tasks schedule = eqb (length schedule) (tripleNumbers * tasks)
 -- 31, the plan's tests, the schedule's
 unfoldable pub checkFault : Plan → List ℕ → List ℕ → Option Fault
 checkFault P boxes schedule =
-    unless (oneForEachTask (P .shifts .taskCalendars) (P .shifts .workTimes) (P .heights) boxes and isSized (taskCount P) schedule) 31 0
+    unless (isRightSize P boxes and isSized (taskCount P) schedule) 31 0
     orElse planFault P boxes
     orElse scheduleFault P boxes (tripleAt schedule)
 

@@ -19,7 +19,7 @@ ghost use Rattle.calendar.specs.Triples.{tripleNumbers, endOf, inBounds};
 ghost use Rattle.schedule.specs.Schedule.{tripleAt, runs};
 ghost use Rattle.schedule.specs.Entry.{oneTripleFault, tripleFault, isSized, checkFault, checkSchedule, scheduleAnswer};
 ghost use Rattle.schedule.specs.Decision.{Decides};
-ghost use Rattle.schedule.specs.inner.Ready.{TriplesReady, HoursReady, EndsReady, runningHeights, heightsFault};
+ghost use Rattle.schedule.specs.inner.Ready.{TriplesReady, HoursReady, RoomsReady, EndsReady, runningHeights, heightsFault};
 
 // What the schedule checker answers; a feasible schedule with its makespan.
 pub enum ScheduleChecked {
@@ -121,7 +121,7 @@ fn is_running(t: Triple, hour: Hour) -> bool
     hour.since(start).0 < t.elapsed.0
 }
 
-// The heights of the tasks that run in the hour, added.
+// The heights in a room of the tasks that run in the hour, added.
 fn running_heights(heights: &[u16], schedule: &[u16], hour: Hour) -> Height
     requires { ⌜ HoursReady (now heights) (now schedule) ⌝ }
     ensures { λ r. ⌜ r .0 ≡ runningHeights (old heights) (old schedule) (hour .0) ⌝ }
@@ -135,31 +135,60 @@ fn running_heights(heights: &[u16], schedule: &[u16], hour: Hour) -> Height
     sum
 }
 
-// 16, at the first hour in which the running tasks take more than the capacity.
-fn test_hours(hours: Duration, capacity: Height, heights: &[u16], schedule: &[u16]) -> Tested
-    requires { ⌜ HoursReady (now heights) (now schedule) ⌝ }
-    ensures { λ r. ⌜ testedFault r ≡ firstOf (heightsFault (capacity .0) (old heights) (old schedule)) (hours .0) ⌝ }
+// 16, where the tasks that run in the hour take more than a room's capacity.
+fn test_hour(
+    capacities: &[u16],
+    tasks: usize,
+    heights: &[u16],
+    schedule: &[u16],
+    hour: Hour,
+) -> Tested
+    requires { ⌜ RoomsReady (length (now capacities)) tasks (now heights) (now schedule) ⌝ }
+    ensures { λ r. ⌜ testedFault r ≡ heightsFault (old capacities) tasks (old heights) (old schedule) (hour .0) ⌝ }
+{
+    for room in 0..capacities.len() {
+        let in_room = plan::room_part(heights, tasks, room);
+        let capacity = plan::height_at(capacities, room);
+        if running_heights(in_room, schedule, hour).exceeds(capacity) {
+            return Tested::Refused(Refusal::OverCapacity(hour.0 as usize));
+        }
+    }
+    Tested::Passed
+}
+
+// 16, at the first hour in which the running tasks take more than the capacity of any room.
+fn test_hours(
+    hours: Duration,
+    capacities: &[u16],
+    tasks: usize,
+    heights: &[u16],
+    schedule: &[u16],
+) -> Tested
+    requires { ⌜ RoomsReady (length (now capacities)) tasks (now heights) (now schedule) ⌝ }
+    ensures { λ r. ⌜ testedFault r ≡ firstOf (heightsFault (old capacities) tasks (old heights) (old schedule)) (hours .0) ⌝ }
 {
     for hour in 0..hours.0 {
-        if running_heights(heights, schedule, Hour(hour)).exceeds(capacity) {
-            return Tested::Refused(Refusal::OverCapacity(hour as usize));
-        }
+        let tested = test_hour(capacities, tasks, heights, schedule, Hour(hour));
+        let Tested::Passed = tested else {
+            return tested;
+        };
     }
     Tested::Passed
 }
 
 // Whether the fields, the boxes and the schedule number one for each task.
 fn is_right_size(
+    capacities: &[u16],
     task_calendars: &[u16],
     work_times: &[u16],
     heights: &[u16],
     boxes: &[u16],
     schedule: &[u16],
 ) -> bool
-    ensures { λ r. ⌜ r ≡ (oneForEachTask (old «task_calendars») (old «work_times») (old heights) (old boxes)
+    ensures { λ r. ⌜ r ≡ (oneForEachTask (old capacities) (old «task_calendars») (old «work_times») (old heights) (old boxes)
         and isSized (length (old «task_calendars»)) (old schedule)) ⌝ }
 {
-    if !plan::has_one_for_each_task(task_calendars, work_times, heights, boxes) {
+    if !plan::has_one_for_each_task(capacities, task_calendars, work_times, heights, boxes) {
         return false;
     }
     units::is_for_each(schedule.len(), Triple::NUMBERS, task_calendars.len())
@@ -168,7 +197,7 @@ fn is_right_size(
 // The tests of a schedule: 31, the plan's tests, the triples, the hours.
 fn test_schedule(
     hours: u16,
-    capacity: u16,
+    capacities: &[u16],
     calendars: &[u8],
     task_calendars: &[u16],
     work_times: &[u16],
@@ -176,15 +205,22 @@ fn test_schedule(
     boxes: &[u16],
     schedule: &[u16],
 ) -> Tested
-    ensures { λ r. let P = oldPlan hours capacity calendars «task_calendars» «work_times» heights in
+    ensures { λ r. let P = oldPlan hours capacities calendars «task_calendars» «work_times» heights in
         ⌜ testedFault r ≡ checkFault P (old boxes) (old schedule) ⌝ }
 {
-    if !is_right_size(task_calendars, work_times, heights, boxes, schedule) {
+    if !is_right_size(
+        capacities,
+        task_calendars,
+        work_times,
+        heights,
+        boxes,
+        schedule,
+    ) {
         return Tested::Refused(Refusal::MemorySize);
     }
     let by_plan = plan::test_plan(
         hours,
-        capacity,
+        capacities,
         calendars,
         task_calendars,
         work_times,
@@ -206,7 +242,13 @@ fn test_schedule(
     let Tested::Passed = by_triples else {
         return by_triples;
     };
-    test_hours(plan_length, Height(capacity), heights, schedule)
+    test_hours(
+        plan_length,
+        capacities,
+        task_calendars.len(),
+        heights,
+        schedule,
+    )
 }
 
 // The later of two hours.
@@ -233,7 +275,7 @@ fn latest_end(schedule: &[u16], tasks: usize) -> Hour
 // The schedule checker: accepts exactly the feasible schedules of a plan that passes the tests, with the makespan.
 pub fn check_schedule(
     hours: u16,
-    capacity: u16,
+    capacities: &[u16],
     calendars: &[u8],
     task_calendars: &[u16],
     work_times: &[u16],
@@ -241,14 +283,14 @@ pub fn check_schedule(
     boxes: &[u16],
     schedule: &[u16],
 ) -> ScheduleChecked
-    ensures { λ r. let P = oldPlan hours capacity calendars «task_calendars» «work_times» heights in
+    ensures { λ r. let P = oldPlan hours capacities calendars «task_calendars» «work_times» heights in
         ⌜ scheduleAnswer r ≡ checkSchedule P (old boxes) (old schedule) ⌝ }
-    ensures exactly { λ r. let P = oldPlan hours capacity calendars «task_calendars» «work_times» heights in
+    ensures exactly { λ r. let P = oldPlan hours capacities calendars «task_calendars» «work_times» heights in
         ⌜ Decides P (old boxes) (old schedule) (scheduleAnswer r) ⌝ }
 {
     let tested = test_schedule(
         hours,
-        capacity,
+        capacities,
         calendars,
         task_calendars,
         work_times,

@@ -90,10 +90,16 @@ module _ (P : Plan) (boxes : List ℕ) (σ : ℕ → Triple) (F : Feasible P box
   inside i l = in-bounds _ _ (F .inside i l)
 
   module _ (i t : ℕ) (w : Window) (c : Crowded P boxes i t w) where
-    -- a task that no room is left for in an hour does not run then
+    -- a task that no capacity is left for in an hour, in some room, does not run then
     crowded-out : startOf (σ i) ≤ t → t < endOf (σ i) → ⊥
     unfolding runs
-    crowded-out a b = omega (arith, others-run P boxes σ F i t (c .task) (and-both _ _ (le-leb _ _ a) (lt-ltb _ _ b)), F .room t (c .hour))
+    crowded-out a b =
+        omega (
+          arith,
+          others-run P boxes σ F (c .room) i t (c .task) (and-both _ _ (le-leb _ _ a) (lt-ltb _ _ b)),
+          F .capacity (c .room) (c .there) t (c .hour),
+          c .excess,
+        )
 
     -- so, if it can't end by then, it starts later
     starts-later : t < ect w → t < startOf (σ i)
@@ -166,7 +172,7 @@ module _ (P : Plan) (boxes : List ℕ) (i t : ℕ) where
 
   stops-none : (k : Kind) → Stops P boxes i t k → (σ : ℕ → Triple) → Feasible P boxes σ → ⊥
   stops-none k (stopsC l q) σ F = unfold fitAt in (never-valid _ _ (boundsAt boxes i) q (σ i) (inside P boxes σ F i l) (F .fits i l))
-  stops-none k (stopsO m over) σ F = omega (arith, load-runs P boxes σ F t, F .room t m)
+  stops-none k (stopsO l m over) σ F = omega (arith, load-runs P boxes σ F i t, F .capacity i l t m)
   stops-none k (stopsL w c ends last) σ F = omega (arith, starts-later P boxes σ F i t w c ends, inside P boxes σ F i (c .task))
   stops-none k (stopsU w c starts first) σ F = omega (arith, ends-before P boxes σ F i t w c starts, inside P boxes σ F i (c .task))
 
@@ -192,7 +198,7 @@ module _ (P : Plan) (boxes left : List ℕ) (c : Change P boxes left) where
 
     -- a feasible schedule stays feasible
     pub change-keeps : (σ : ℕ → Triple) → Feasible P boxes σ → Feasible P left σ
-    change-keeps σ F = record { inside = λ j l. go j l (eqb j (c .task)) refl; fits = F .fits; room = F .room }
+    change-keeps σ F = record { inside = λ j l. go j l (eqb j (c .task)) refl; fits = F .fits; capacity = F .capacity }
       where
         go : (j : ℕ) → j < taskCount P → (b : Bool) → eqb j (c .task) ≡ b → inBounds (boundsAt left j) (σ j) ≡ true
         go j l true e = let q : j ≡ c .task = eqb-true _ _ e in rw (q, is-there) (bounds-in _ _ (c .keeps σ F))
@@ -215,6 +221,8 @@ change-passes P boxes left c passed =
       whole = passed .whole;
       symbols = passed .symbols;
       tasks = passed .tasks;
+      some-room = passed .some-room;
+      rooms = passed .rooms;
       capacity = passed .capacity;
       work-times = passed .work-times;
       heights = passed .heights;

@@ -14,7 +14,7 @@ use Rattle.units.proofs.Choices.{and-both, and-left, and-right, none≢some, op
 use Rattle.plan.specs.Plan.{Plan, taskCount}
 use Rattle.plan.specs.Boxes.{boundsAt}
 use Rattle.plan.specs.Refusals.{Fault, fault, unless, refused, answered, answerUnless}
-use Rattle.plan.specs.Faults.{oneForEachTask, planFault, inputFault}
+use Rattle.plan.specs.Faults.{oneForEachTask, isRightSize, planFault, inputFault}
 use Rattle.plan.proofs.Refusals.{unless-none, go-on, refused≢answered}
 use Rattle.plan.proofs.Numbers.{by-unless, by-either, plan-numbers, input-numbers}
 use Rattle.steps.specs.declared.Step.{Step}
@@ -65,7 +65,7 @@ module _ (P : Plan) (boxes : List ℕ) where
   unfolding entryFault inputFault oneForEachStep
   same-fault kinds tasks hours t h =
       ap (λ (b : Bool). unless b 31 0 orElse planFault P boxes)
-      (and-true (oneForEachTask (P .shifts .taskCalendars) (P .shifts .workTimes) (P .heights) boxes) _
+      (and-true (isRightSize P boxes) _
       (and-both _ _ (eq-eqb (length tasks) (length kinds) t) (eq-eqb (length hours) (length kinds) h)))
     where
       and-true : (a b : Bool) → b ≡ true → (a and b) ≡ a

@@ -11,7 +11,7 @@ use Rattle.units.specs.Choice.{onOption}
 use Rattle.units.proofs.Choices.{and-both, and-left, and-right, not-left, not-right, neither}
 use Rattle.plan.specs.Plan.{Plan}
 use Rattle.plan.specs.Refusals.{Fault, fault, Answer, refused, answerUnless}
-use Rattle.plan.specs.Faults.{oneForEachTask, planFault}
+use Rattle.plan.specs.Faults.{isRightSize, planFault}
 use Rattle.plan.proofs.Refusals.{unless-none, go-on, refuse}
 use Rattle.plan.proofs.Passed.{passed}
 use Rattle.steps.specs.Log.{replayFrom, replay}
@@ -29,7 +29,7 @@ one-each kinds tasks hours e = (eqb-true _ _ (and-left _ _ e), eqb-true _ _ (and
 
 module _ (P : Plan) (boxes kinds tasks hours : List ℕ) where
   abbrev Tasks : Bool
-  Tasks = oneForEachTask (P .shifts .taskCalendars) (P .shifts .workTimes) (P .heights) boxes
+  Tasks = isRightSize P boxes
 
   abbrev Steps : Bool
   Steps = oneForEachStep kinds tasks hours

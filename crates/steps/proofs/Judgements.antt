@@ -4,16 +4,16 @@ use mathlib.Core.Bool.{true, false}
 use mathlib.Core.List.{List}
 use Prim.Native.Nat.{ℕ, _+_, _-_, _≤_, _<_}
 use borrow.Author.Tests.{leb-true, leb-false, ltb-true, ltb-false}
-use Rattle.units.specs.Limits.{isHour, withEarliest, withLatest}
-use Rattle.units.proofs.Choices.{and-left, and-right, if-all}
-use Rattle.plan.specs.Plan.{Plan, taskCount, heightOf}
+use Rattle.units.specs.Limits.{isHour, isRoomNumber, withEarliest, withLatest}
+use Rattle.units.proofs.Choices.{and-left, and-right, if-all, some-at}
+use Rattle.plan.specs.Plan.{Plan, roomCount, taskCount, capacityOf, heightOf}
 use Rattle.plan.specs.Boxes.{boundsAt, withBounds}
 use Rattle.calendar.specs.declared.Window.{Window}
 use Rattle.calendar.specs.declared.Fit.{Fit}
 use Rattle.calendar.specs.declared.Fit.the-variants.{Never, Within}
 use Rattle.calendar.specs.Rule.{lst, ect}
 use Rattle.steps.specs.declared.Step.{Step}
-use Rattle.steps.specs.Load.{fitAt, load, othersLoad, excess}
+use Rattle.steps.specs.Load.{fitAt, load, othersLoad, roomExcess, excess}
 use Rattle.steps.specs.Steps.{Kind, kindC, kindO, kindL, kindU, unknownKind, kindOf, isStep, Judgement, unknown, notAdmitted}
 use Rattle.steps.specs.Steps.{impossible, moved, onJudgement, onFit, sameBounds, judgeC, judgeO, judgeL, judgeU, judgeKind}
 use Rattle.steps.specs.Steps.{judge}
@@ -33,12 +33,14 @@ unfolding onFit
 fit-all C Never a g p q = p refl
 fit-all C (Within w) a g p q = q w refl
 
--- what L and U share: the task and the hour exist, the task has a valid triple, and there is the excess
+-- what L and U share: the task and the hour exist, the task has a valid triple, and there is the excess, in some room
 pub record Crowded (P : Plan) (boxes : List ℕ) (i t : ℕ) (w : Window) : Type 0 where
   pub task : i < taskCount P
   pub hour : t < P .shifts .hours
   pub fit : fitAt (P .shifts) boxes i ≡ Within w
-  pub excess : P .capacity < heightOf P i + othersLoad P boxes i t
+  pub room : ℕ
+  pub there : room < roomCount P
+  pub excess : capacityOf P room < heightOf P room i + othersLoad P room boxes i t
 
 module _ (P : Plan) (boxes : List ℕ) (i t : ℕ) where
   -- a step moves a bound
@@ -54,7 +56,7 @@ module _ (P : Plan) (boxes : List ℕ) (i t : ℕ) where
   -- a step says impossible
   pub data Stops : Kind → Type 0 where
     stopsC : i < taskCount P → fitAt (P .shifts) boxes i ≡ Never → Stops kindC
-    stopsO : t < P .shifts .hours → P .capacity < load P boxes t → Stops kindO
+    stopsO : i < roomCount P → t < P .shifts .hours → capacityOf P i < load P i boxes t → Stops kindO
     stopsL : (w : Window) → Crowded P boxes i t w → t < ect w → boundsAt boxes i .latest .0 ≤ t → Stops kindL
     stopsU : (w : Window) → Crowded P boxes i t w → lst w ≤ t → t < boundsAt boxes i .earliest .0 + boundsAt boxes i .shortest .0 → Stops kindU
 
@@ -70,13 +72,16 @@ module _ (P : Plan) (boxes : List ℕ) (i t : ℕ) where
       fit-all (Known kindC) (fitAt (P .shifts) boxes i) _ _ (λ q. stopsC l q)
       (λ w q. if-all (Known kindC) _ _ _ (λ same. tt) (λ differ. movesC w l q differ refl))
 
-  known-O : t < P .shifts .hours → Known kindO (judgeO P boxes t)
+  known-O : i < roomCount P → t < P .shifts .hours → Known kindO (judgeO P boxes i t)
   unfolding judgeO Known
-  known-O m = if-all (Known kindO) _ _ _ (λ over. stopsO m (ltb-true _ _ over)) (λ under. tt)
+  known-O l m = if-all (Known kindO) _ _ _ (λ over. stopsO l m (ltb-true _ _ over)) (λ under. tt)
 
-  exceeds : excess P boxes i t ≡ true → P .capacity < heightOf P i + othersLoad P boxes i t
-  unfolding excess
-  exceeds e = ltb-true _ _ e
+  crowded : (w : Window) → i < taskCount P → t < P .shifts .hours → fitAt (P .shifts) boxes i ≡ Within w → excess P boxes i t ≡ true
+      → Crowded P boxes i t w
+  unfolding excess roomExcess
+  crowded w l m q e =
+      let (room, there, over) = some-at _ _ e in
+      record { task = l; hour = m; fit = q; room = room; there = there; excess = ltb-true _ _ over }
 
   known-L : i < taskCount P → t < P .shifts .hours → Known kindL (judgeL P boxes i t)
   unfolding judgeL Known
@@ -84,7 +89,7 @@ module _ (P : Plan) (boxes : List ℕ) (i t : ℕ) where
       fit-all (Known kindL) (fitAt (P .shifts) boxes i) _ _ (λ q. tt)
       (λ w q. if-all (Known kindL) _ _ _
       (λ a.
-      let c : Crowded P boxes i t w = record { task = l; hour = m; fit = q; excess = exceeds (and-right _ _ (and-right _ _ a)) } in
+      let c = crowded w l m q (and-right _ _ (and-right _ _ a)) in
       let ends : t < ect w = ltb-true _ _ (and-left _ _ a) in
       if-all (Known kindL) _ _ _ (λ last. stopsL w c ends (leb-true _ _ last))
       (λ more. movesL w c ends (leb-true _ _ (and-left _ _ (and-right _ _ a))) (leb-false _ _ more) refl))
@@ -96,16 +101,16 @@ module _ (P : Plan) (boxes : List ℕ) (i t : ℕ) where
       fit-all (Known kindU) (fitAt (P .shifts) boxes i) _ _ (λ q. tt)
       (λ w q. if-all (Known kindU) _ _ _
       (λ a.
-      let c : Crowded P boxes i t w = record { task = l; hour = m; fit = q; excess = exceeds (and-right _ _ (and-right _ _ a)) } in
+      let c = crowded w l m q (and-right _ _ (and-right _ _ a)) in
       let starts : lst w ≤ t = leb-true _ _ (and-left _ _ a) in
       if-all (Known kindU) _ _ _ (λ first. stopsU w c starts (ltb-true _ _ first))
       (λ more. movesU w c starts (ltb-true _ _ (and-left _ _ (and-right _ _ a))) (ltb-false _ _ more) refl))
       (λ a. tt))
 
-  known : (k : Kind) → isStep (taskCount P) (P .shifts .hours) k i t ≡ true → Known k (judgeKind P boxes k i t)
-  unfolding judgeKind isStep isHour
+  known : (k : Kind) → isStep (roomCount P) (taskCount P) (P .shifts .hours) k i t ≡ true → Known k (judgeKind P boxes k i t)
+  unfolding judgeKind isStep isHour isRoomNumber
   known kindC e = known-C (ltb-true _ _ (and-left _ _ e))
-  known kindO e = known-O (ltb-true _ _ (and-right _ _ e))
+  known kindO e = known-O (ltb-true _ _ (and-left _ _ e)) (ltb-true _ _ (and-right _ _ e))
   known kindL e = known-L (ltb-true _ _ (and-left _ _ e)) (ltb-true _ _ (and-right _ _ e))
   known kindU e = known-U (ltb-true _ _ (and-left _ _ e)) (ltb-true _ _ (and-right _ _ e))
   known unknownKind e = unfold Known in tt

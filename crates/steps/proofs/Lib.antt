@@ -7,4 +7,5 @@ pub mod Runs
 pub mod Contracts
 pub mod Claim
 pub mod Entry
+pub mod OneRoom
 pub mod Weeks

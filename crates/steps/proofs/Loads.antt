@@ -67,12 +67,12 @@ module _ (P : Plan) (boxes : List ℕ) (σ : ℕ → Triple) (F : Feasible P box
   running-must : (t j : ℕ) → j < taskCount P → mustRun (fitAt (P .shifts) boxes j) t ≡ true → runs (σ j) t ≡ true
   running-must t j l e = must-run (fitAt (P .shifts) boxes j) (σ j) t (fit-held j l) e
 
-  -- in each hour the running tasks' heights are at least the load
-  pub load-runs : (t : ℕ) → load P boxes t ≤ running P σ t
+  -- in each room and hour the running tasks' heights are at least the load
+  pub load-runs : (room t : ℕ) → load P room boxes t ≤ running P room σ t
   unfolding load running heightsWhere
-  load-runs t = where-le (heightOf P) (taskCount P) _ _ (running-must t)
+  load-runs room t = where-le (heightOf P room) (taskCount P) _ _ (running-must t)
 
   -- and, in an hour in which a task runs, at least its height plus the other tasks' load
-  pub others-run : (i t : ℕ) → i < taskCount P → runs (σ i) t ≡ true → heightOf P i + othersLoad P boxes i t ≤ running P σ t
+  pub others-run : (room i t : ℕ) → i < taskCount P → runs (σ i) t ≡ true → heightOf P room i + othersLoad P room boxes i t ≤ running P room σ t
   unfolding othersLoad running heightsWhere
-  others-run i t l e = where-but (heightOf P) (taskCount P) _ _ (running-must t) i l e
+  others-run room i t l e = where-but (heightOf P room) (taskCount P) _ _ (running-must t) i l e

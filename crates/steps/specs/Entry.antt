@@ -9,7 +9,7 @@ use Rattle.units.specs.Choice.{_and_, onOption, _orElse_}
 use Rattle.units.specs.Cells.{written}
 use Rattle.plan.specs.Plan.{Plan}
 use Rattle.plan.specs.Refusals.{Fault, fault, unless, Answer, refused, answered, answerUnless, faultOf}
-use Rattle.plan.specs.Faults.{oneForEachTask, planFault}
+use Rattle.plan.specs.Faults.{isRightSize, planFault}
 use Rattle.steps.specs.declared.Step.{Step}
 use Rattle.steps.specs.declared.LogChecked.{LogChecked}
 use Rattle.steps.specs.declared.LogChecked.the-variants as checked
@@ -38,7 +38,7 @@ oneForEachStep kinds tasks hours = eqb (length tasks) (length kinds) and eqb (le
 -- 31, then the plan's tests
 unfoldable pub entryFault : Plan → List ℕ → List ℕ → List ℕ → List ℕ → Option Fault
 entryFault P boxes kinds tasks hours =
-    unless (oneForEachTask (P .shifts .taskCalendars) (P .shifts .workTimes) (P .heights) boxes and oneForEachStep kinds tasks hours) 31 0
+    unless (isRightSize P boxes and oneForEachStep kinds tasks hours) 31 0
     orElse planFault P boxes
 
 -- The log checker: the log's end, or at once a refusal that changes nothing. The boxes lent become those at the log's end.

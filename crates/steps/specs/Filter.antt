@@ -1,10 +1,10 @@
--- The filter (01, "Steps"): the first admitted step of each turn, until none is admitted, one says impossible, or the log has no room.
+-- The filter (01, "Steps"; rooms: 02, W-202): the first admitted step of each turn, until none is admitted, one says impossible, or the log has no room.
 use mathlib.Core.Option.{Option, none, some}
 use mathlib.Core.List.{List, [], _∷_}
 use Prim.Native.Nat.{ℕ, zero, suc}
 use lib.ListN.{length}
 use Rattle.units.specs.Choice.{onOption, _orElse_, firstOf}
-use Rattle.plan.specs.Plan.{Plan, taskCount}
+use Rattle.plan.specs.Plan.{Plan, roomCount, taskCount}
 use Rattle.steps.specs.declared.Step.{Step}
 use Rattle.steps.specs.Steps.{step, letterC, letterO, letterL, letterU, Kind, kindC, kindO, kindL, kindU, unknownKind, judge, onJudgement}
 
@@ -25,11 +25,11 @@ onAdmitted (moves x left) f g = g x left
 unfoldable pub ifAdmitted : Plan → List ℕ → Step → Option Admitted
 ifAdmitted P boxes x = onJudgement (judge P boxes x) none none (some (stops x)) (λ left. some (moves x left))
 
--- the first that f finds among the steps of a kind: C by task; O by hour; L by task, then hour; U by task, then hour
-module _ {A : Type 0} (tasks hours : ℕ) (f : Step → Option A) where
+-- the first that f finds among the steps of a kind: C by task; O by room, then hour; L by task, then hour; U by task, then hour
+module _ {A : Type 0} (rooms tasks hours : ℕ) (f : Step → Option A) where
   unfoldable pub firstOfKind : Kind → Option A
   firstOfKind kindC = firstOf (λ i. f (step letterC i 0)) tasks
-  firstOfKind kindO = firstOf (λ t. f (step letterO 0 t)) hours
+  firstOfKind kindO = firstOf (λ room. firstOf (λ t. f (step letterO room t)) hours) rooms
   firstOfKind kindL = firstOf (λ i. firstOf (λ t. f (step letterL i t)) hours) tasks
   firstOfKind kindU = firstOf (λ i. firstOf (λ t. f (step letterU i t)) hours) tasks
   firstOfKind unknownKind = none
@@ -45,7 +45,7 @@ filterOrder = kindC ∷ kindO ∷ kindL ∷ kindU ∷ []
 
 -- the first admitted step, in an order of kinds; in the filter's
 unfoldable pub nextBy : List Kind → Plan → List ℕ → Option Admitted
-nextBy order P boxes = firstBy (taskCount P) (P .shifts .hours) (ifAdmitted P boxes) order
+nextBy order P boxes = firstBy (roomCount P) (taskCount P) (P .shifts .hours) (ifAdmitted P boxes) order
 
 abbrev pub next : Plan → List ℕ → Option Admitted
 next = nextBy filterOrder

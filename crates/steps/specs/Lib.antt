@@ -5,5 +5,6 @@ pub mod Filter
 pub mod Widths
 pub mod Entry
 pub mod Claim
+pub mod OneRoom
 pub mod Weeks
 pub mod inner

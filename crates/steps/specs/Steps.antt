@@ -1,12 +1,12 @@
--- Steps, each with its admission and its effect (01, "Steps").
+-- Steps, each with its admission and its effect (01, "Steps"; rooms: 02, W-202).
 use mathlib.Core.Bool.{Bool, false}
 use mathlib.Core.List.{List}
 use Prim.Native.Nat.{ℕ, _+_, _-_}
 use lib.Dec.{leb, ltb, eqb}
 use Rattle.units.specs.Choice.{_and_, if_then_else_}
-use Rattle.units.specs.Limits.{isHour, withEarliest, withLatest}
+use Rattle.units.specs.Limits.{isHour, isRoomNumber, withEarliest, withLatest}
 use Rattle.units.specs.declared.Bounds.{Bounds}
-use Rattle.plan.specs.Plan.{Plan, taskCount}
+use Rattle.plan.specs.Plan.{Plan, roomCount, taskCount, capacityOf}
 use Rattle.plan.specs.Boxes.{boundsAt, withBounds}
 use Rattle.calendar.specs.declared.Window.{Window}
 use Rattle.calendar.specs.declared.Fit.{Fit}
@@ -42,13 +42,14 @@ kindOf letter =
     else (if eqb letter letterU then kindU
     else unknownKind)))
 
--- 11 does not apply: a known kind, of a task and an hour that exist, and a field that its kind doesn't use is 0
-unfoldable pub isStep : ℕ → ℕ → Kind → ℕ → ℕ → Bool
-isStep tasks hours kindC i t = ltb i tasks and eqb t 0
-isStep tasks hours kindO i t = eqb i 0 and isHour hours t
-isStep tasks hours kindL i t = ltb i tasks and isHour hours t
-isStep tasks hours kindU i t = ltb i tasks and isHour hours t
-isStep tasks hours unknownKind i t = false
+-- 11 does not apply: a known kind, of a task and an hour that exist, and a field that its kind doesn't use is 0; the task field of O is a room
+-- that exists
+unfoldable pub isStep : ℕ → ℕ → ℕ → Kind → ℕ → ℕ → Bool
+isStep rooms tasks hours kindC i t = ltb i tasks and eqb t 0
+isStep rooms tasks hours kindO room t = isRoomNumber rooms room and isHour hours t
+isStep rooms tasks hours kindL i t = ltb i tasks and isHour hours t
+isStep rooms tasks hours kindU i t = ltb i tasks and isHour hours t
+isStep rooms tasks hours unknownKind i t = false
 
 -- What a step comes to at its turn: 11 names it, it is not admitted, it says impossible, or it moves a bound, with the boxes that it leaves.
 pub data Judgement : Type 0 where
@@ -82,9 +83,9 @@ judgeC P boxes i =
     onFit (fitAt (P .shifts) boxes i) impossible
     (λ w. if sameBounds (w .bounds) (boundsAt boxes i) then notAdmitted else moved (withBounds boxes i (w .bounds)))
 
--- O hour t: load(t) exceeds the capacity. Impossible
-unfoldable pub judgeO : Plan → List ℕ → ℕ → Judgement
-judgeO P boxes t = if ltb (P .capacity) (load P boxes t) then impossible else notAdmitted
+-- O room, hour t: the room's load(t) exceeds its capacity. Impossible
+unfoldable pub judgeO : Plan → List ℕ → ℕ → ℕ → Judgement
+judgeO P boxes room t = if ltb (capacityOf P room) (load P room boxes t) then impossible else notAdmitted
 
 -- L task, hour t: the task has a valid triple, ect > t, lower S ≤ t, and the excess. Lower S becomes t + 1; if t ≥ upper S, impossible
 unfoldable pub judgeL : Plan → List ℕ → ℕ → ℕ → Judgement
@@ -109,13 +110,13 @@ judgeU P boxes i t =
 
 unfoldable pub judgeKind : Plan → List ℕ → Kind → ℕ → ℕ → Judgement
 judgeKind P boxes kindC i t = judgeC P boxes i
-judgeKind P boxes kindO i t = judgeO P boxes t
+judgeKind P boxes kindO room t = judgeO P boxes room t
 judgeKind P boxes kindL i t = judgeL P boxes i t
 judgeKind P boxes kindU i t = judgeU P boxes i t
 judgeKind P boxes unknownKind i t = unknown
 
 unfoldable pub judge : Plan → List ℕ → Step → Judgement
 judge P boxes x =
-    if isStep (taskCount P) (P .shifts .hours) (kindOf (x .kind)) (x .task) (x .hour)
+    if isStep (roomCount P) (taskCount P) (P .shifts .hours) (kindOf (x .kind)) (x .task) (x .hour)
     then judgeKind P boxes (kindOf (x .kind)) (x .task) (x .hour)
     else unknown

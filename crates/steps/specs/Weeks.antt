@@ -78,14 +78,14 @@ calendarA = closed ∷ overtime ∷ overtime ∷ overtime ∷ closed ∷ overtim
 
 -- the week that 01 prints under "Plan text and listing", and its boxes
 abbrev pub printed : Plan
-printed = plan 6 1 (regular ∷ closed ∷ regular ∷ regular ∷ regular ∷ regular ∷ []) (0 ∷ 0 ∷ []) (2 ∷ 2 ∷ []) (1 ∷ 1 ∷ [])
+printed = plan 6 (1 ∷ []) (regular ∷ closed ∷ regular ∷ regular ∷ regular ∷ regular ∷ []) (0 ∷ 0 ∷ []) (2 ∷ 2 ∷ []) (1 ∷ 1 ∷ [])
 
 abbrev pub printedBoxes : List ℕ
 printedBoxes = 0 ∷ 3 ∷ 2 ∷ 3 ∷ 0 ∷ 0 ∷ 0 ∷ 2 ∷ 2 ∷ 3 ∷ 0 ∷ 0 ∷ []
 
 -- `rr`, capacity 1, one task of height 2
 abbrev pub tooHigh : Plan
-tooHigh = plan 2 1 (regular ∷ regular ∷ []) (0 ∷ []) (1 ∷ []) (2 ∷ [])
+tooHigh = plan 2 (1 ∷ []) (regular ∷ regular ∷ []) (0 ∷ []) (1 ∷ []) (2 ∷ [])
 
 unfoldable pub weeks : List Starred
 weeks =

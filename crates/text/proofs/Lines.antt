@@ -1,12 +1,14 @@
 -- Laws of lines as they are printed: number by number, and how long they are. Assumes nothing.
-use mathlib.Core.Path.{_≡_, refl, sym, ap, _∙_}
+use mathlib.Core.Path.{_≡_, refl, sym, ap, subst, _∙_}
 use mathlib.Core.List.{List, [], _∷_, _++_, append-assoc, append-nil}
-use Prim.Native.Nat.{ℕ, suc, _+_, _*_, _≤_, _<_}
+use Prim.Native.Nat.{ℕ, zero, suc, _+_, _*_, _≤_, _<_}
 use native.Mathlib.Nat.{mul-suc}
 use native.Mathlib.Numerals.{add-one}
 use native.Mathlib.Omega.{arith}
 use lib.ListN.{length, take, drop, getD, length-append, take-append-drop}
 use lib.Seq.{take-suc, drop-cons}
+use Rattle.units.specs.Lists.{listTo}
+use Rattle.units.proofs.Lists.{list-cells}
 use Rattle.text.specs.Fields.{tab, lf}
 use Rattle.text.specs.Numbers.{decimalText}
 use Rattle.text.specs.Lines.{numberFields, lineOf}
@@ -54,6 +56,19 @@ module _ (ns : List ℕ) (i : ℕ) (h : i < length ns) where
 unfoldable pub Below : ℕ → List ℕ → Type 0
 Below most [] = Unit {0}
 Below most (n ∷ ns) = (n < most) × Below most ns
+
+pub below-both : (most : ℕ) (ms ns : List ℕ) → Below most ms → Below most ns → Below most (ms ++ ns)
+unfolding Below
+below-both most [] ns p q = q
+below-both most (m ∷ ms) ns p q = (p .0, below-both most ms ns (p .1) q)
+
+pub below-to : (most : ℕ) (f : ℕ → ℕ) (n : ℕ) → ((i : ℕ) → i < n → f i < most) → Below most (listTo f n)
+unfolding Below listTo
+below-to most f zero h = _
+below-to most f (suc n) h = below-both most (listTo f n) (f n ∷ []) (below-to most f n (λ i l. h i (omega arith))) (h n (omega arith), _)
+
+pub below-each : (most : ℕ) (ns : List ℕ) → ((i : ℕ) → i < length ns → getD ns i 0 < most) → Below most ns
+below-each most ns h = subst (Below most) (list-cells ns 0 refl) (below-to most (λ i. getD ns i 0) (length ns) h)
 
 -- a tab and at most k digits a number
 pub fields-width : (k : ℕ) (ns : List ℕ) → Below (reach (suc k)) ns → length (numberFields ns) ≤ (k + 2) * length ns

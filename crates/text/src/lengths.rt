@@ -17,8 +17,8 @@ fn decimal_length(n: usize) -> usize
 
 // A line: a word and numbers. No line of a plan text or a listing has a longer word or more numbers.
 pub fn line_length(word: &[u8], numbers: &[usize]) -> usize
-    requires { ⌜ (length (now word) ≤ 10) × (length (now numbers) ≤ 9) ⌝ }
-    ensures { λ r. ⌜ (r ≡ length (lineOf (now (word .entry)) (now (numbers .entry)))) × (r ≤ 200) ⌝ }
+    requires { ⌜ (length (now word) ≤ 10) × (length (now numbers) ≤ 16) ⌝ }
+    ensures { λ r. ⌜ (r ≡ length (lineOf (now (word .entry)) (now (numbers .entry)))) × (r ≤ 350) ⌝ }
 {
     let mut bytes = word.len() + 1;
     for i in 0..numbers.len() {

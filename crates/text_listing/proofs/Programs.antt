@@ -24,18 +24,18 @@ unfolding planListing
 plan-listed P boxes answer left ks ts hs e = ap (λ (l : FilterEnd). listing (l .answer) (l .boxes) (taskCount P)) e
 
 module _ (text : List ℕ) where
-  pub text-refused : (f : Fault) (cs ts ws hs bs : List ℕ) → endWith (refused f) cs ts ws hs bs ≡ readEnd text → refusedLine f ≡ textListing text
+  pub text-refused : (f : Fault) (rs cs ts ws hs bs : List ℕ) → endWith (refused f) rs cs ts ws hs bs ≡ readEnd text → refusedLine f ≡ textListing text
   unfolding textListing onAnswer
-  text-refused f cs ts ws hs bs e = rw (← e)
+  text-refused f rs cs ts ws hs bs e = rw (← e)
 
   -- a plan that was read: within its limits, and listed from the first cells of what was lent
-  module _ (a : PlanRead) (cs ts ws hs bs : List ℕ) (e : endWith (answered a) cs ts ws hs bs ≡ readEnd text) where
+  module _ (a : PlanRead) (rs cs ts ws hs bs : List ℕ) (e : endWith (answered a) rs cs ts ws hs bs ≡ readEnd text) where
     pub text-holds : Holds a
     unfolding readEnd
-    text-holds = read-holds _ _ _ _ _ text a (ap (λ (x : ReadEnd). x .answer) e)
+    text-holds = read-holds _ _ _ _ _ _ text a (ap (λ (x : ReadEnd). x .answer) e)
 
     pub text-read : planListing
-        (plan (a .hours) (a .capacity) (take (a .calendars * a .hours) cs) (take (a .tasks) ts) (take (a .tasks) ws) (take (a .tasks) hs))
+        (plan (a .hours) (take (a .rooms) rs) (take (a .calendars * a .hours) cs) (take (a .tasks) ts) (take (a .tasks) ws) (take (a .rooms * a .tasks) hs))
         (take (6 * a .tasks) bs)
         ≡ textListing text
     unfolding textListing readListing onAnswer

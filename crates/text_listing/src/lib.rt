@@ -3,9 +3,11 @@ use listing::ROOM;
 use listing::list_refusal;
 use listing::list_run;
 use plan_text::MOST_BOUNDS;
+use plan_text::MOST_HEIGHTS;
 use plan_text::MOST_SYMBOLS;
 use plan_text::PlanReading;
 use units::Bounds;
+use units::RoomNumber;
 ghost use mathlib.Core.Path.{_≡_};
 ghost use Prim.Native.Nat.{_*_, _≤_};
 ghost use lib.ListN.{length};
@@ -20,7 +22,7 @@ const STEPS: usize = 2048;
 // The listing of a plan that was read: its run, with an empty log.
 fn list_plan(
     hours: u16,
-    capacity: u16,
+    capacities: &[u16],
     calendars: &[u8],
     task_calendars: &[u16],
     work_times: &[u16],
@@ -29,7 +31,7 @@ fn list_plan(
     out: &mut [u8; ROOM],
 ) -> usize
     requires { ⌜ (length (now «task_calendars») ≤ mostTasks) × (length (now boxes) ≡ boxNumbers * length (now «task_calendars»)) ⌝ }
-    ensures { λ r. let L = planListing (oldPlan hours capacity calendars «task_calendars» «work_times» heights) (old boxes) in
+    ensures { λ r. let L = planListing (oldPlan hours capacities calendars «task_calendars» «work_times» heights) (old boxes) in
         ⌜ (r ≡ length L) × (left out ≡ written L (old out)) ⌝ }
 {
     let mut log_kinds = [0u8; STEPS];
@@ -37,7 +39,7 @@ fn list_plan(
     let mut log_hours = [0u16; STEPS];
     let answer = propagation::filter::filter(
         hours,
-        capacity,
+        capacities,
         calendars,
         task_calendars,
         work_times,
@@ -54,13 +56,15 @@ fn list_plan(
 pub fn list_text(text: &[u8], out: &mut [u8; ROOM]) -> usize
     ensures { λ r. let L = textListing (old text) in ⌜ (r ≡ length L) × (left out ≡ written L (old out)) ⌝ }
 {
+    let mut capacities = [0u16; RoomNumber::MOST];
     let mut symbols = [0u8; MOST_SYMBOLS];
     let mut task_calendars = [0u16; Bounds::MOST];
     let mut work_times = [0u16; Bounds::MOST];
-    let mut heights = [0u16; Bounds::MOST];
+    let mut heights = [0u16; MOST_HEIGHTS];
     let mut boxes = [0u16; MOST_BOUNDS];
     let reading = plan_text::read_plan(
         text,
+        &mut capacities,
         &mut symbols,
         &mut task_calendars,
         &mut work_times,
@@ -71,19 +75,20 @@ pub fn list_text(text: &[u8], out: &mut [u8; ROOM]) -> usize
         PlanReading::Refused(refusal) => list_refusal(refusal, out),
         PlanReading::Read {
             hours,
-            capacity,
+            rooms,
             calendars,
             tasks,
         } => {
             let all = calendars * hours as usize;
+            let each = rooms * tasks;
             let cells = Bounds::NUMBERS * tasks;
             list_plan(
                 hours,
-                capacity,
+                &capacities[..rooms],
                 &symbols[..all],
                 &task_calendars[..tasks],
                 &work_times[..tasks],
-                &heights[..tasks],
+                &heights[..each],
                 &mut boxes[..cells],
                 out,
             )

@@ -9,7 +9,7 @@ use native.Mathlib.Omega.{arith}
 use native.Mathlib.Decide.{decLe}
 use lib.Dec.{eqb, leb, ltb}
 use borrow.Author.Tests.{eqb-true, eqb-false, le-leb, lt-leb, leb-true, ltb-true, ltb-false}
-use Rattle.units.specs.Choice.{_and_, if_then_else_, someIf, onOption, _orElse_, firstOf}
+use Rattle.units.specs.Choice.{_and_, if_then_else_, someIf, onOption, _orElse_, someOf, firstOf}
 
 -- ---- what a test comes to
 
@@ -162,6 +162,34 @@ module _ {A : Type 0} (x y : Option A) {r : Option A} (e : r ≡ x) where
 
   pub outer-goes-on : {s : Option A} → r ≡ none → s ≡ y → s ≡ (x orElse y)
   outer-goes-on q k = k ∙ sym (else-none x y (sym e ∙ q))
+
+-- ---- some of several
+
+module _ (test : ℕ → Bool) where
+  -- it holds at none of the first n, so at n it decides among one more
+  pub some-next : (n : ℕ) → someOf test n ≡ false → someOf test (n + 1) ≡ test n
+  unfolding someOf
+  some-next n e = rw add-one (if-false _ _ _ e)
+
+  pub some-at : (n : ℕ) → someOf test n ≡ true → (i : ℕ) × (i < n) × (test i ≡ true)
+  unfolding someOf
+  some-at zero e = true≢false e refl
+  some-at (suc n) e =
+      if-case _ _ _ _ e (λ q k. let (i, l, h) = some-at n q in (i, omega arith, h)) (λ q k. (n, omega arith, k))
+
+  pub some-hit : (n i : ℕ) → i < n → test i ≡ true → someOf test n ≡ true
+  unfolding someOf
+  some-hit zero i l h = absurd (omega arith)
+  some-hit (suc n) i l h = go (λ (m : i < n). some-hit n i m h) (eqb i n) refl
+    where
+      go : (i < n → someOf test n ≡ true) → (b : Bool) → eqb i n ≡ b → someOf test (suc n) ≡ true
+      go below true q = let s : i ≡ n = eqb-true i n q in if-all (λ b. b ≡ true) _ _ _ (λ k. refl) (λ k. rw (← s) h)
+      go below false q = let ne : i ≢ n = eqb-false i n q in if-true _ _ _ (below (omega arith))
+
+pub some-eq : (f g : ℕ → Bool) (n : ℕ) → ((i : ℕ) → i < n → f i ≡ g i) → someOf f n ≡ someOf g n
+unfolding someOf
+some-eq f g zero h = refl
+some-eq f g (suc n) h = ap₂ (λ a b. if a then true else b) (some-eq f g n (λ i l. h i (omega arith))) (h n (omega arith))
 
 -- ---- the first of several
 

@@ -1,11 +1,14 @@
--- Laws of lists that a loop makes: how long, what a map makes of them, and a list by its own cells. Assumes nothing.
+-- Laws of lists that a loop makes: how long, their cells, what a map makes of them, and a list by its own cells. Assumes nothing.
 use mathlib.Core.Path.{_≡_, refl, sym, ap, ap₂, _∙_}
+use mathlib.Core.Bool.{Bool, true, false}
 use mathlib.Core.List.{List, [], _∷_, _++_, map}
 use Prim.Native.Nat.{ℕ, zero, suc, _+_, _≤_, _<_}
 use native.Mathlib.Numerals.{add-one}
 use native.Mathlib.Omega.{arith}
-use lib.ListN.{length, getD, take, length-append}
-use lib.Seq.{take-suc, take-length}
+use lib.Dec.{ltb}
+use lib.ListN.{length, getD, take, length-append, List·getD-append}
+use lib.Seq.{take-suc, take-length, getD-at}
+use borrow.Author.Tests.{ltb-true, ltb-false}
 use Rattle.units.specs.Lists.{listTo}
 
 pub map-more : {A B : Type 0} (f : A → B) (xs : List A) (x : A) → map f (xs ++ (x ∷ [])) ≡ map f xs ++ (f x ∷ [])
@@ -21,6 +24,17 @@ module _ {A : Type 0} (f : ℕ → A) where
   unfolding listTo
   list-length zero = refl
   list-length (suc n) = omega (arith, length-append (listTo f n) (f n ∷ []), list-length n)
+
+  pub list-at : (n i : ℕ) (d : A) → i < n → getD (listTo f n) i d ≡ f i
+  unfolding listTo
+  list-at zero i d l = absurd (omega arith)
+  list-at (suc n) i d l = go (list-at n i d) (ltb i n) refl
+    where
+      go : (i < n → getD (listTo f n) i d ≡ f i) → (b : Bool) → ltb i n ≡ b → getD (listTo f n ++ (f n ∷ [])) i d ≡ f i
+      go before true e =
+          let m = ltb-true _ _ e in List·getD-append (listTo f n) (f n ∷ []) d i (omega (arith, list-length n)) ∙ before m
+      go before false e =
+          let same : i ≡ n = omega (arith, ltb-false i n e) in rw same (getD-at (listTo f n) (f n) [] d n (list-length n))
 
   pub list-map : {B : Type 0} (g : A → B) (n : ℕ) → map g (listTo f n) ≡ listTo (λ i. g (f i)) n
   unfolding listTo

@@ -30,6 +30,11 @@ unfoldable pub _orElse_ : {A : Type 0} → Option A → Option A → Option A
 none orElse y = y
 some a orElse y = some a
 
+-- the test holds at one of 0, 1, .., n - 1, or at several
+unfoldable pub someOf : (ℕ → Bool) → ℕ → Bool
+someOf test zero = false
+someOf test (suc n) = if someOf test n then true else test n
+
 -- the first that f finds at 0, 1, .., n - 1
 unfoldable pub firstOf : {A : Type 0} → (ℕ → Option A) → ℕ → Option A
 firstOf f zero = none

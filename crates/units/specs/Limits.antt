@@ -1,4 +1,4 @@
--- The kinds of value that a plan is made of, and their limits (01, "A plan").
+-- The kinds of value that a plan is made of, and their limits (01, "A plan"; rooms: 02, W-202).
 use mathlib.Core.Bool.{Bool}
 use mathlib.Core.Option.{Option, none, some}
 use Prim.Native.Nat.{ℕ, _≤_, _<_}
@@ -8,19 +8,22 @@ use Rattle.units.specs.declared.Hour.{Hour}
 use Rattle.units.specs.declared.Duration.{Duration}
 use Rattle.units.specs.declared.Height.{Height}
 use Rattle.units.specs.declared.CalendarNumber.{CalendarNumber}
+use Rattle.units.specs.declared.RoomNumber.{RoomNumber}
 use Rattle.units.specs.declared.Bounds.{Bounds}
 use Rattle.units.specs.declared.MaybeHour.{MaybeHour}
 use Rattle.units.specs.declared.MaybeDuration.{MaybeDuration}
 use Rattle.units.specs.declared.MaybeHeight.{MaybeHeight}
 use Rattle.units.specs.declared.MaybeCalendarNumber.{MaybeCalendarNumber}
+use Rattle.units.specs.declared.MaybeRoomNumber.{MaybeRoomNumber}
 use Rattle.units.specs.declared.MaybeBounds.{MaybeBounds}
 use Rattle.units.specs.declared.MaybeHour.the-variants as some-hour
 use Rattle.units.specs.declared.MaybeDuration.the-variants as some-duration
 use Rattle.units.specs.declared.MaybeHeight.the-variants as some-height
 use Rattle.units.specs.declared.MaybeCalendarNumber.the-variants as some-calendar
+use Rattle.units.specs.declared.MaybeRoomNumber.the-variants as some-room
 use Rattle.units.specs.declared.MaybeBounds.the-variants as some-bounds
 
--- 01, "A plan": H to 1,008; 16 calendars; capacity to 60,000; 64 tasks; height to 1,000
+-- 01, "A plan": H to 1,008; 16 calendars; capacity to 60,000; 64 tasks; height to 1,000. 02, W-202: eight rooms
 abbrev pub mostHours : ℕ
 mostHours = 1008
 
@@ -29,6 +32,9 @@ mostCalendars = 16
 
 abbrev pub mostCapacity : ℕ
 mostCapacity = 60000
+
+abbrev pub mostRooms : ℕ
+mostRooms = 8
 
 abbrev pub mostTasks : ℕ
 mostTasks = 64
@@ -53,6 +59,9 @@ height n = record { 0 = n }
 abbrev pub calendarNumber : ℕ → CalendarNumber
 calendarNumber n = record { 0 = n }
 
+abbrev pub roomNumber : ℕ → RoomNumber
+roomNumber n = record { 0 = n }
+
 -- least ≤ n ≤ most
 unfoldable pub within : ℕ → ℕ → ℕ → Bool
 within least most n = leb least n and leb n most
@@ -73,7 +82,7 @@ isWorkTime h p = within 1 h p
 unfoldable pub isHeight : ℕ → Bool
 isHeight n = leb n mostHeight
 
--- the capacity is 0 to 60,000
+-- a capacity is 0 to 60,000
 unfoldable pub isCapacity : ℕ → Bool
 isCapacity n = leb n mostCapacity
 
@@ -84,6 +93,14 @@ isCalendarCount n = within 1 mostCalendars n
 -- a task's calendar is one of the plan's, numbered from 0
 unfoldable pub isCalendarNumber : ℕ → ℕ → Bool
 isCalendarNumber count n = ltb n count
+
+-- there are 1 to 8 rooms, each with a capacity
+unfoldable pub isRoomCount : ℕ → Bool
+isRoomCount n = within 1 mostRooms n
+
+-- a room of the plan's, numbered from 0
+unfoldable pub isRoomNumber : ℕ → ℕ → Bool
+isRoomNumber count n = ltb n count
 
 -- there are 0 to 64 tasks, each with a box
 unfoldable pub isTaskCount : ℕ → Bool
@@ -153,6 +170,10 @@ heightMade (some-height.Within v) = some v
 abbrev pub calendarNumberMade : MaybeCalendarNumber → Option CalendarNumber
 calendarNumberMade some-calendar.Outside = none
 calendarNumberMade (some-calendar.Within v) = some v
+
+abbrev pub roomNumberMade : MaybeRoomNumber → Option RoomNumber
+roomNumberMade some-room.Outside = none
+roomNumberMade (some-room.Within v) = some v
 
 abbrev pub boundsMade : MaybeBounds → Option Bounds
 boundsMade some-bounds.Outside = none

@@ -2,7 +2,7 @@
 ghost use mathlib.Core.Path.{_≡_};
 ghost use Prim.Native.Nat.{_+_, _-_, _*_, _≤_, _<_};
 ghost use lib.Dec.{leb, ltb, eqb};
-ghost use Rattle.units.specs.Limits.{hour, duration, height, calendarNumber, isPlanLength, isHour, isWorkTime, isHeight, isCapacity, isCalendarCount, isCalendarNumber, isTaskCount, isOvertime, isBox, withEarliest, withLatest, hourMade, durationMade, heightMade, calendarNumberMade, boundsMade};
+ghost use Rattle.units.specs.Limits.{hour, duration, height, calendarNumber, roomNumber, within, isPlanLength, isHour, isWorkTime, isHeight, isCapacity, isCalendarCount, isCalendarNumber, isRoomCount, isRoomNumber, isTaskCount, isOvertime, isBox, withEarliest, withLatest, hourMade, durationMade, heightMade, calendarNumberMade, roomNumberMade, boundsMade};
 ghost use Rattle.units.specs.Choice.{someIf};
 ghost use Rattle.units.specs.inner.Order.{inOrder};
 
@@ -12,11 +12,14 @@ pub struct Hour(pub u16);
 // A length in hours.
 pub struct Duration(pub u16);
 
-// How much of the capacity a task takes, and the capacity itself (01's racks).
+// How much of a room's capacity a task takes, and the capacity itself (01's racks).
 pub struct Height(pub u16);
 
 // A calendar's place among the plan's calendars, from 0.
 pub struct CalendarNumber(pub u16);
+
+// A room's place among the plan's rooms, from 0.
+pub struct RoomNumber(pub u16);
 
 // 01's box: the least and the greatest start, elapsed time and overtime that a task may have.
 pub struct Bounds {
@@ -47,6 +50,11 @@ pub enum MaybeHeight {
 pub enum MaybeCalendarNumber {
     Outside,
     Within(CalendarNumber),
+}
+
+pub enum MaybeRoomNumber {
+    Outside,
+    Within(RoomNumber),
 }
 
 pub enum MaybeBounds {
@@ -196,7 +204,7 @@ impl Height {
         capacity.0 < self.0
     }
 
-    // The capacity of a plan.
+    // The capacity of a room.
     pub fn of_plan(number: u16) -> MaybeHeight
         ensures { λ r. ⌜ heightMade r ≡ someIf (isCapacity number) (height number) ⌝ }
     {
@@ -215,10 +223,7 @@ impl CalendarNumber {
     pub fn is_count(calendars: usize) -> bool
         ensures { λ r. ⌜ r ≡ isCalendarCount calendars ⌝ }
     {
-        if calendars < 1 {
-            return false;
-        }
-        calendars <= CalendarNumber::MOST
+        is_some_of(calendars, CalendarNumber::MOST)
     }
 
     // A calendar of a plan that has so many.
@@ -229,6 +234,28 @@ impl CalendarNumber {
             return MaybeCalendarNumber::Within(CalendarNumber(number));
         }
         MaybeCalendarNumber::Outside
+    }
+}
+
+impl RoomNumber {
+    // The most rooms of a plan.
+    pub const MOST: usize = 8;
+
+    // Whether a plan may have so many rooms.
+    pub fn is_count(rooms: usize) -> bool
+        ensures { λ r. ⌜ r ≡ isRoomCount rooms ⌝ }
+    {
+        is_some_of(rooms, RoomNumber::MOST)
+    }
+
+    // A room of a plan that has so many.
+    pub fn of_plan(number: u16, rooms: usize) -> MaybeRoomNumber
+        ensures { λ r. ⌜ roomNumberMade r ≡ someIf (isRoomNumber rooms number) (roomNumber number) ⌝ }
+    {
+        if (number as usize) < rooms {
+            return MaybeRoomNumber::Within(RoomNumber(number));
+        }
+        MaybeRoomNumber::Outside
     }
 }
 
@@ -293,11 +320,23 @@ impl Bounds {
     }
 }
 
+// Whether there is one of several, and no more than the most.
+fn is_some_of(count: usize, most: usize) -> bool
+    ensures { λ r. ⌜ r ≡ within 1 most count ⌝ }
+{
+    if count < 1 {
+        return false;
+    }
+    count <= most
+}
+
 // Whether a length is so many numbers for each of so many. It is divided, since the product may not fit.
 pub fn is_for_each(length: usize, numbers: usize, count: usize) -> bool
-    requires { ⌜ 1 ≤ numbers ⌝ }
     ensures { λ r. ⌜ r ≡ eqb length (numbers * count) ⌝ }
 {
+    if numbers == 0 {
+        return length == 0;
+    }
     if length % numbers != 0 {
         return false;
     }

@@ -1,9 +1,11 @@
-// 01's worked weeks without a star, logs of step records, and plans written back as text: each is run, and its answer printed on a line.
+// 01's worked weeks without a star, weeks of two rooms, logs of step records, and plans written back as text: each is run, and its answer printed on
+// a line.
 use libc::STDOUT_FILENO;
 use plan::Refusal;
 use plan::fault_of;
 use plan_text::MOST_BOUNDS;
 use plan_text::MOST_BYTES;
+use plan_text::MOST_HEIGHTS;
 use plan_text::MOST_SYMBOLS;
 use plan_text::PlanReading;
 use plan_writing::PlanWriting;
@@ -13,6 +15,7 @@ use steps::LogChecked;
 use steps::Step;
 use text::fields::end_of;
 use units::Bounds;
+use units::RoomNumber;
 ghost use mathlib.Core.Path.{_≡_};
 ghost use Prim.Native.Nat.{_≤_};
 ghost use lib.ListN.{length};
@@ -51,12 +54,14 @@ fn report(answer: ScheduleChecked) {
     }
 }
 
-// The two tasks of the printed week: each of calendar 0, two hours of work and one rack.
+// The two tasks of these weeks: each of calendar 0, two hours of work and one rack, in each room if there are two.
 const TASK_CALENDARS: [u16; 2] = [0, 0];
 
 const WORK_TIMES: [u16; 2] = [2, 2];
 
 const HEIGHTS: [u16; 2] = [1, 1];
+
+const HEIGHTS_IN_TWO_ROOMS: [u16; 4] = [1, 1, 1, 1];
 
 // The printed week's opening boxes.
 const OPENING: [u16; 12] = [0, 3, 2, 3, 0, 0, 0, 2, 2, 3, 0, 0];
@@ -67,9 +72,10 @@ fn printed_week(schedule: &[u16]) -> ScheduleChecked {
     let work_times = WORK_TIMES;
     let heights = HEIGHTS;
     let boxes = OPENING;
+    let capacities = [1u16];
     schedule::check_schedule(
         6,
-        1,
+        &capacities,
         b"rcrrrr",
         &task_calendars,
         &work_times,
@@ -94,6 +100,26 @@ fn schedule_over_capacity() {
 fn schedule_that_ends_closed() {
     let schedule: [u16; 6] = [0, 2, 0, 0, 3, 0];
     report(printed_week(&schedule));
+}
+
+// Both tasks run in hour 1: the first room has racks for both, the second has not.
+fn schedule_over_the_second_capacity() {
+    let task_calendars = TASK_CALENDARS;
+    let work_times = WORK_TIMES;
+    let heights = HEIGHTS_IN_TWO_ROOMS;
+    let capacities: [u16; 2] = [2, 1];
+    let boxes: [u16; 12] = [0, 1, 2, 2, 0, 0, 0, 1, 2, 2, 0, 0];
+    let schedule: [u16; 6] = [0, 2, 0, 1, 2, 0];
+    report(schedule::check_schedule(
+        3,
+        &capacities,
+        b"rrr",
+        &task_calendars,
+        &work_times,
+        &heights,
+        &boxes,
+        &schedule,
+    ));
 }
 
 // Memory for a plan text.
@@ -144,6 +170,11 @@ fn print_listings() {
     print_listing(b"refused-8.plan");
     print_listing(b"refused-9.plan");
     print_listing(b"refused-10.plan");
+    print_listing(b"refused-17.plan");
+    print_listing(b"refused-17-no-room.plan");
+    print_listing(b"refused-1-heights.plan");
+    print_listing(b"two-rooms.plan");
+    print_listing(b"overload-in-the-second-room.plan");
     print_listing(b"bakery-week.plan");
 }
 
@@ -227,7 +258,7 @@ fn print_steps(log: [Step; CELLS]) -> usize
 // The filter of crate `log`, with room for so many steps: prints the answer, and gives the log.
 fn filter_log(
     hours: u16,
-    capacity: u16,
+    capacities: &[u16],
     calendars: &[u8],
     task_calendars: &[u16],
     work_times: &[u16],
@@ -241,7 +272,7 @@ fn filter_log(
     let mut log = empty_log();
     let answer = log::filter(
         hours,
-        capacity,
+        capacities,
         calendars,
         task_calendars,
         work_times,
@@ -256,7 +287,7 @@ fn filter_log(
 // The log checker of crate `log` on so many steps.
 fn check_log(
     hours: u16,
-    capacity: u16,
+    capacities: &[u16],
     calendars: &[u8],
     task_calendars: &[u16],
     work_times: &[u16],
@@ -269,7 +300,7 @@ fn check_log(
 {
     log::check_log(
         hours,
-        capacity,
+        capacities,
         calendars,
         task_calendars,
         work_times,
@@ -282,8 +313,9 @@ fn check_log(
 // The filter on a week of the two tasks, with room for so many steps: prints the answer and the boxes left, and gives the log.
 fn filter_week(
     hours: u16,
-    capacity: u16,
+    capacities: &[u16],
     calendar: &[u8],
+    heights: &[u16],
     opening: [u16; 12],
     room: usize,
 ) -> [Step; CELLS]
@@ -292,15 +324,14 @@ fn filter_week(
 {
     let task_calendars = TASK_CALENDARS;
     let work_times = WORK_TIMES;
-    let heights = HEIGHTS;
     let mut boxes = opening;
     let log = filter_log(
         hours,
-        capacity,
+        capacities,
         calendar,
         &task_calendars,
         &work_times,
-        &heights,
+        heights,
         &mut boxes,
         room,
     );
@@ -311,8 +342,9 @@ fn filter_week(
 // The log checker on so many steps of a log of a week of the two tasks: prints the answer and the boxes left.
 fn check_week(
     hours: u16,
-    capacity: u16,
+    capacities: &[u16],
     calendar: &[u8],
+    heights: &[u16],
     opening: [u16; 12],
     log: [Step; CELLS],
     count: usize,
@@ -321,15 +353,14 @@ fn check_week(
 {
     let task_calendars = TASK_CALENDARS;
     let work_times = WORK_TIMES;
-    let heights = HEIGHTS;
     let mut boxes = opening;
     let checked = check_log(
         hours,
-        capacity,
+        capacities,
         calendar,
         &task_calendars,
         &work_times,
-        &heights,
+        heights,
         &mut boxes,
         log,
         count,
@@ -338,13 +369,39 @@ fn check_week(
     print_boxes(&boxes);
 }
 
-// The printed week with room for so many steps, and its log checked from the opening boxes.
+// A week with room for so many steps, and its log printed, and checked from the opening boxes.
+fn week_log(
+    hours: u16,
+    capacities: &[u16],
+    calendar: &[u8],
+    heights: &[u16],
+    opening: [u16; 12],
+    room: usize,
+)
+    requires { ⌜ room ≤ cells ⌝ }
+{
+    let log = filter_week(hours, capacities, calendar, heights, opening, room);
+    let count = print_steps(log);
+    check_week(hours, capacities, calendar, heights, opening, log, count);
+}
+
+// The printed week.
 fn printed_week_log(room: usize)
     requires { ⌜ room ≤ cells ⌝ }
 {
-    let log = filter_week(6, 1, b"rcrrrr", OPENING, room);
-    let count = print_steps(log);
-    check_week(6, 1, b"rcrrrr", OPENING, log, count);
+    let capacities = [1u16];
+    let heights = HEIGHTS;
+    week_log(6, &capacities, b"rcrrrr", &heights, OPENING, room);
+}
+
+// Weeks of two rooms: task 0 fills the second in hours 0 and 1, so that task 1 starts in hour 2; both must run in hour 1.
+fn two_rooms_logs() {
+    let capacities: [u16; 2] = [2, 1];
+    let heights = HEIGHTS_IN_TWO_ROOMS;
+    let later: [u16; 12] = [0, 0, 2, 2, 0, 0, 0, 3, 2, 4, 0, 2];
+    week_log(4, &capacities, b"rrrr", &heights, later, CELLS);
+    let together: [u16; 12] = [0, 1, 2, 2, 0, 0, 0, 1, 2, 2, 0, 0];
+    week_log(3, &capacities, b"rrr", &heights, together, CELLS);
 }
 
 // 130 regular hours without capacity: the filter raises the earliest start of task 0 hour by hour, until its step 127, the last of the log's second
@@ -352,11 +409,13 @@ fn printed_week_log(room: usize)
 fn log_of_two_parts() {
     let calendar = [b'r'; 130];
     let opening: [u16; 12] = [0, 128, 2, 2, 0, 0, 0, 128, 2, 2, 0, 0];
-    let mut log = filter_week(130, 0, &calendar, opening, CELLS);
-    check_week(130, 0, &calendar, opening, log, 128);
+    let capacities = [0u16];
+    let heights = HEIGHTS;
+    let mut log = filter_week(130, &capacities, &calendar, &heights, opening, CELLS);
+    check_week(130, &capacities, &calendar, &heights, opening, log, 128);
     let first = log[0];
     log[128] = first;
-    check_week(130, 0, &calendar, opening, log, 129);
+    check_week(130, &capacities, &calendar, &heights, opening, log, 129);
 }
 
 fn report_writing(answer: PlanWriting) {
@@ -368,13 +427,15 @@ fn report_writing(answer: PlanWriting) {
 
 // Reads a plan text and writes the plan back.
 fn rewrite(text: &[u8], out: &mut [u8]) -> PlanWriting {
+    let mut capacities = [0u16; RoomNumber::MOST];
     let mut symbols = [0u8; MOST_SYMBOLS];
     let mut task_calendars = [0u16; Bounds::MOST];
     let mut work_times = [0u16; Bounds::MOST];
-    let mut heights = [0u16; Bounds::MOST];
+    let mut heights = [0u16; MOST_HEIGHTS];
     let mut boxes = [0u16; MOST_BOUNDS];
     let reading = plan_text::read_plan(
         text,
+        &mut capacities,
         &mut symbols,
         &mut task_calendars,
         &mut work_times,
@@ -385,19 +446,20 @@ fn rewrite(text: &[u8], out: &mut [u8]) -> PlanWriting {
         PlanReading::Refused(refusal) => PlanWriting::Refused(refusal),
         PlanReading::Read {
             hours,
-            capacity,
+            rooms,
             calendars,
             tasks,
         } => {
             let all = calendars * hours as usize;
+            let each = rooms * tasks;
             let cells = Bounds::NUMBERS * tasks;
             plan_writing::write_plan(
                 hours,
-                capacity,
+                &capacities[..rooms],
                 &symbols[..all],
                 &task_calendars[..tasks],
                 &work_times[..tasks],
-                &heights[..tasks],
+                &heights[..each],
                 &boxes[..cells],
                 out,
             )
@@ -441,10 +503,11 @@ fn count_rewritten(name: &[u8], room: usize)
     print_count(b"bytes", end);
 }
 
-// Plans written back: with bounds and without, without tasks, one that is refused, the printed week of 66 bytes, and the longest text.
+// Plans written back: with bounds and without, of two rooms, without tasks, one that is refused, the printed week of 66 bytes, and the longest text.
 fn print_rewritings() {
     print_rewritten(b"printed-week.plan");
     print_rewritten(b"own-part-is-no-excess.plan");
+    print_rewritten(b"two-rooms.plan");
     print_rewritten(b"no-tasks.plan");
     print_rewritten(b"bakery-week.plan");
     print_rewritten(b"refused-9.plan");
@@ -452,18 +515,20 @@ fn print_rewritings() {
     count_rewritten(b"printed-week.plan", 65);
     count_rewritten(b"printed-week.plan", 66);
     count_rewritten(b"printed-week.plan", 67);
-    count_rewritten(b"longest.plan", 19295);
-    count_rewritten(b"longest.plan", 19296);
-    count_rewritten(b"longest.plan", 19297);
+    count_rewritten(b"longest.plan", 21577);
+    count_rewritten(b"longest.plan", 21578);
+    count_rewritten(b"longest.plan", 21579);
 }
 
 fn main() {
     feasible_schedule();
     schedule_over_capacity();
     schedule_that_ends_closed();
+    schedule_over_the_second_capacity();
     print_listings();
     printed_week_log(CELLS);
     printed_week_log(2);
+    two_rooms_logs();
     log_of_two_parts();
     print_rewritings();
 }

@@ -12,13 +12,13 @@ use Rattle.calendar.proofs.calendar_rule.Statement.{statement}
 use Rattle.calendar.proofs.calendar_rule.Tie as tie
 
 abbrev entry : tie.After-test-input → tie.Start
-entry c = c .before .before .before .before .before .before .before .before .before .before
+entry c = c .before .before .before .before .before .before .before .before .before .before .before
 
 -- the code's test is that of a plan of one calendar and one task
 own-test : (c : tie.After-test-input)
     → let a = entry c .args in testedFault (c .test-input .result) ≡ inputFault (oneTask (a .calendar .now) (a .work-time .0)) (boxCells (a .b))
 own-test c =
-    let made = c .before .before .before .before .before .before in
+    let made = c .before .before .before .before .before .before .before in
     let hours = if-some _ _ _ (sym (made .before .before .of-plan .ensures) ∙ ap durationMade (made .hours .given .1)) in
     c .test-input .ensures ∙ one-test _ _ _ _ (hours .1)
 
@@ -51,6 +51,7 @@ calendar-rule-spec =
     (λ c. search needs)
     (λ c. search needs)
     returns
+    (λ c. search needs)
     (λ c. search needs)
     (λ c. search needs)
     (λ c. search needs)

@@ -12,11 +12,11 @@ use Rattle.log.proofs.check_log.Statement.{statement}
 use Rattle.log.proofs.check_log.Proof.Tie as tie
 
 abbrev Inv-loop : tie.InvT-loop
-Inv-loop hours capacity calendars task-calendars work-times heights boxes₀ log from₀ said₀ boxes from said =
-    Going (plan hours capacity calendars task-calendars work-times heights) boxes₀ log from said boxes
+Inv-loop hours capacities calendars task-calendars work-times heights boxes₀ log from₀ said₀ boxes from said =
+    Going (plan hours capacities calendars task-calendars work-times heights) boxes₀ log from said boxes
 
 abbrev μ-loop : tie.MeasureT-loop
-μ-loop hours capacity calendars task-calendars work-times heights boxes₀ log from₀ said₀ boxes from said = length log - from
+μ-loop hours capacities calendars task-calendars work-times heights boxes₀ log from₀ said₀ boxes from said = length log - from
 
 -- of a part that was checked: where, and the head of its turn
 abbrev checked : tie.After-struct-known Inv-loop μ-loop → tie.After-check-part Inv-loop μ-loop
@@ -35,7 +35,7 @@ check-part-requires : tie.Need-check-part-requires Inv-loop μ-loop
 check-part-requires c κs =
     let at = c .before in
     let inside = part-inside _ _ _ _ _ _ (at .before .loop .inv) (at .part-at .result) (at .part-at .ensures .0) in
-    (inside .0, at .part-at .ensures .1, omega (arith, at .before .before .before .before .before .before .before .good, inside .1))
+    (inside .0, at .part-at .ensures .1, omega (arith, at .before .before .before .before .before .before .before .before .good, inside .1))
 
 same-length : tie.Need-same-length Inv-loop μ-loop
 same-length c = let p = checked (c .before) in p .check-part .kept .1 .1 .1 .1 .1 .1 .0 ∙ head p .loop .inv .same

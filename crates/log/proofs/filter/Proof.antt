@@ -12,11 +12,11 @@ use Rattle.log.proofs.filter.Statement.{statement}
 use Rattle.log.proofs.filter.Proof.Tie as tie
 
 abbrev Inv-loop : tie.InvT-loop
-Inv-loop hours capacity calendars task-calendars work-times heights boxes₀ log₀ room taken₀ boxes log taken =
-    Running (plan hours capacity calendars task-calendars work-times heights) boxes₀ log₀ taken boxes log
+Inv-loop hours capacities calendars task-calendars work-times heights boxes₀ log₀ room taken₀ boxes log taken =
+    Running (plan hours capacities calendars task-calendars work-times heights) boxes₀ log₀ taken boxes log
 
 abbrev μ-loop : tie.MeasureT-loop
-μ-loop hours capacity calendars task-calendars work-times heights boxes₀ log₀ room taken₀ boxes log taken = length log₀ - taken
+μ-loop hours capacities calendars task-calendars work-times heights boxes₀ log₀ room taken₀ boxes log taken = length log₀ - taken
 
 -- of a part that was filtered: where its steps are put, where it ran, and the head of its turn
 abbrev put : tie.After-struct-known Inv-loop μ-loop → tie.After-put-part Inv-loop μ-loop

@@ -2,7 +2,7 @@ use mathlib.Core.Path.{_≡_, sym, ap, _∙_}
 use mathlib.Core.Option.{none}
 use borrow.Author.Needs.{needs}
 use Rattle.units.proofs.Choices.{else-none, outer-ends, outer-goes-on}
-use Rattle.plan.specs.Plan.{taskCount}
+use Rattle.plan.specs.Plan.{roomCount, taskCount}
 use Rattle.plan.specs.Refusals.{testedFault}
 use Rattle.plan.specs.Faults.{calendarsFault, planFault}
 use Rattle.plan.proofs.Passed.{sized, calendars-passed}
@@ -10,7 +10,7 @@ use Rattle.plan.proofs.test_plan.Statement.{statement}
 use Rattle.plan.proofs.test_plan.Tie as tie
 
 abbrev asked : tie.After-enum-told → tie.Start
-asked c = c .before .before .before .before .before .before .before .before
+asked c = c .before .before .before .before .before .before .before .before .before
 
 -- H and the calendars pass
 calendars-pass : (c : tie.After-enum-told) → calendarsFault (asked c .args .hours) (asked c .args .calendars .now) ≡ none
@@ -21,7 +21,7 @@ unfolding planFault
 returns c = outer-ends _ _ (c .before .before .test-calendars .ensures) (ap testedFault (c .enum-told2 .given .1))
 
 returns-2 : tie.Need-returns-2
-unfolding planFault taskCount
+unfolding planFault roomCount taskCount
 returns-2 c =
     outer-ends _ _ (c .before .before .test-counts .ensures) (ap testedFault (c .enum-told4 .given .1))
     ∙ sym (else-none _ _ (calendars-pass (c .before .before .before)))
@@ -29,7 +29,7 @@ returns-2 c =
 test-tasks-requires : tie.Need-test-tasks-requires
 test-tasks-requires c κs =
     let place = c .before .before .before in
-    let size = sized _ _ _ _ (asked place .pre) in
+    let size = sized _ _ _ _ _ (asked place .pre) in
     record {
       some-hours = calendars-passed (calendars-pass place) .some-hours;
       work-times = size .work-times;
@@ -38,7 +38,7 @@ test-tasks-requires c κs =
     }
 
 returns-3 : tie.Need-returns-3
-unfolding planFault taskCount
+unfolding planFault roomCount taskCount
 returns-3 c =
     let counts = c .before in
     outer-goes-on _ _ (counts .before .before .test-counts .ensures) (ap testedFault (counts .enum-told3 .given .1)) (c .test-tasks .ensures)

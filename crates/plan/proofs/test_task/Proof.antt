@@ -1,40 +1,43 @@
 use mathlib.Core.Path.{_≡_, sym, ap, _∙_}
 use mathlib.Core.Bool.{true}
+use mathlib.Core.Option.{none}
 use borrow.Author.Needs.{needs}
-use Rattle.units.specs.Limits.{isCalendarNumber, isWorkTime, isHeight, isBox, calendarNumberMade, durationMade, heightMade, boundsMade}
+use Rattle.units.specs.Choice.{firstOf}
+use Rattle.units.specs.Limits.{isCalendarNumber, isWorkTime, isBox, calendarNumberMade, durationMade, boundsMade}
 use Rattle.units.specs.declared.Duration.{Duration}
-use Rattle.units.proofs.Choices.{if-none, if-some}
-use Rattle.plan.specs.Refusals.{unless}
-use Rattle.plan.specs.Faults.{oneTaskFault}
+use Rattle.units.proofs.Choices.{if-none, if-some, else-none, outer-ends}
+use Rattle.plan.specs.Refusals.{unless, testedFault}
+use Rattle.plan.specs.Faults.{heightFault, oneTaskFault}
 use Rattle.plan.proofs.Refusals.{go-on, refuse, unless-true, unless-false}
 use Rattle.plan.proofs.test_task.Statement.{statement}
 use Rattle.plan.proofs.test_task.Tie as tie
 
 -- the places once 7 and then 8 does not apply
 abbrev asked : tie.After-known-told → tie.Start
-asked c = c .before .before .before .before .before .before .before
+asked c = c .before .before .before .before .before .before .before .before
 
 abbrev worked : tie.After-enum-told4 → tie.After-known-told
 worked c = c .before .before .before
 
 -- what holds once 6, 7 or 8 does not apply
-numbered : (c : tie.After-enum-told) → let a = c .before .before .before .args in isCalendarNumber (a .calendars) (a .calendar) ≡ true
+numbered : (c : tie.After-enum-told) → let a = c .before .before .before .before .args in isCalendarNumber (a .calendars) (a .calendar) ≡ true
 numbered c = if-some _ _ _ (sym (c .before .before .of-plan .ensures) ∙ ap calendarNumberMade (c .enum-told .given .1)) .0
 
 works : (c : tie.After-known-told) → let a = asked c .args in isWorkTime (a .hours .0) (a .work-time) ≡ true
 works c = if-some _ _ _ (sym (c .before .before .before .of-work .ensures) ∙ ap durationMade (c .before .work .given .1)) .0
 
-takes : (c : tie.After-enum-told4) → let a = asked (worked c) .args in isHeight (a .height) ≡ true
-takes c = if-some _ _ _ (sym (c .before .before .of-task .ensures) ∙ ap heightMade (c .enum-told4 .given .1)) .0
+takes : (c : tie.After-enum-told4)
+    → let a = asked (worked c) .args in firstOf (heightFault (a .tasks) (a .heights .now) (a .task)) (a .rooms) ≡ none
+takes c = sym (c .before .before .test-heights .ensures) ∙ ap testedFault (c .enum-told4 .given .1)
 
 -- so that 9 decides
 by-box : (c : tie.After-enum-told4)
     → let a = asked (worked c) .args in
-    oneTaskFault (a .hours .0) (a .calendars) (a .task) (a .calendar) (a .work-time) (a .height) (a .bounds)
+    oneTaskFault (a .hours .0) (a .calendars) (a .rooms) (a .tasks) (a .heights .now) (a .task) (a .calendar) (a .work-time) (a .bounds)
     ≡ unless (isBox (a .hours .0) (a .work-time) (a .bounds)) 9 (a .task)
 unfolding oneTaskFault
 by-box c =
-    go-on _ 6 _ _ (numbered (worked c .before .before .before .before)) ∙ go-on _ 7 _ _ (works (worked c)) ∙ go-on _ 8 _ _ (takes c)
+    go-on _ 6 _ _ (numbered (worked c .before .before .before .before)) ∙ go-on _ 7 _ _ (works (worked c)) ∙ else-none _ _ (takes c)
 
 -- the box is tested with the work time that its constructor made
 same-box : (c : tie.After-enum-told4)
@@ -61,22 +64,23 @@ returns-3 : tie.Need-returns-3
 unfolding oneTaskFault
 returns-3 c =
     let place = c .before .before .before in
-    sym
-    (go-on _ 6 _ _ (numbered (place .before .before .before .before))
-    ∙ go-on _ 7 _ _ (works place)
-    ∙ refuse _ 8 _ _ (if-none _ _ (sym (c .before .before .of-task .ensures) ∙ ap heightMade (c .enum-told5 .given .1))))
+    outer-ends _ _ (c .before .before .test-heights .ensures) (ap testedFault (c .enum-told5 .given .1))
+    ∙ sym (go-on _ 6 _ _ (numbered (place .before .before .before .before)) ∙ go-on _ 7 _ _ (works place))
 
 returns-4 : tie.Need-returns-4
 returns-4 c =
     let place = c .before .before .before in
-    let made = sym (c .before .before .of-task2 .ensures) ∙ ap boundsMade (c .enum-told7 .given .1) in
+    let made = sym (c .before .before .of-task .ensures) ∙ ap boundsMade (c .enum-told7 .given .1) in
     sym (by-box place ∙ unless-false _ 9 _ (same-box place ∙ if-none _ _ made))
 
 returns-5 : tie.Need-returns-5
 returns-5 c =
     let place = c .before .before .before in
-    let made = sym (c .before .before .of-task2 .ensures) ∙ ap boundsMade (c .enum-told6 .given .1) in
+    let made = sym (c .before .before .of-task .ensures) ∙ ap boundsMade (c .enum-told6 .given .1) in
     sym (by-box place ∙ unless-true _ 9 _ (same-box place ∙ if-some _ _ _ made .0))
+
+test-heights-requires : tie.Need-test-heights-requires
+test-heights-requires c κs = asked c .pre
 
 pub test-task-spec : {M : Type 1} → statement M
 test-task-spec =
@@ -90,7 +94,7 @@ test-task-spec =
     (λ c. search needs)
     (λ c. search needs)
     returns-2
-    (λ c κs. search needs)
+    test-heights-requires
     (λ c. search needs)
     (λ c. search needs)
     returns-3

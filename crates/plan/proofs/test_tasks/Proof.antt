@@ -12,25 +12,30 @@ use Rattle.plan.proofs.test_tasks.Statement.{statement}
 use Rattle.plan.proofs.test_tasks.Tie as tie
 
 abbrev Inv-loop : tie.InvT-loop
-Inv-loop hours calendars task-calendars work-times heights boxes count i₀ i-end i =
-    Unfound (taskFault (shifts (hours .0) calendars task-calendars work-times) heights boxes) (length task-calendars) i
+Inv-loop hours rooms calendars task-calendars work-times heights boxes count i₀ i-end i =
+    Unfound (taskFault (shifts (hours .0) calendars task-calendars work-times) rooms heights boxes) (length task-calendars) i
 
 abbrev μ-loop : tie.MeasureT-loop
-μ-loop hours calendars task-calendars work-times heights boxes count i₀ i-end i = i-end - i
+μ-loop hours rooms calendars task-calendars work-times heights boxes count i₀ i-end i = i-end - i
 
 -- a turn, and the task's own test in it
 abbrev turn : tie.After-test-task Inv-loop μ-loop → tie.In-loop Inv-loop μ-loop
-turn c = c .before .before .before .before .before
+turn c = c .before .before .before .before
 
 abbrev entry : tie.After-test-task Inv-loop μ-loop → tie.Start Inv-loop μ-loop
 entry c = turn c .before .before .before .before .before .before .before .before
 
+test-task-requires : tie.Need-test-task-requires Inv-loop μ-loop
+test-task-requires c κs =
+    let t = c .before .before .before in
+    (t .before .before .before .before .before .before .before .before .pre .heights, t .loop-test .taken)
+
 own-test : (c : tie.After-test-task Inv-loop μ-loop)
     → let a = entry c .args in
     testedFault (c .test-task .result)
-    ≡ taskFault (shifts (a .hours .0) (a .calendars .now) (a .task-calendars .now) (a .work-times .now)) (a .heights .now) (a .boxes .now)
-    (turn c .before .loop .i)
-own-test c = task-is _ _ _ _ _ _ _ (turn c .before .before .calendar-count .ensures) (c .before .bounds-at .ensures) (c .test-task .ensures)
+    ≡ taskFault (shifts (a .hours .0) (a .calendars .now) (a .task-calendars .now) (a .work-times .now)) (a .rooms) (a .heights .now)
+    (a .boxes .now) (turn c .before .loop .i)
+own-test c = task-is _ _ _ _ _ _ _ _ (turn c .before .before .calendar-count .ensures) (c .before .bounds-at .ensures) (c .test-task .ensures)
 
 returns : tie.Need-returns Inv-loop μ-loop
 unfolding tasksFault
@@ -60,10 +65,8 @@ test-tasks-spec =
     (λ c. search needs)
     (λ c. search needs)
     (λ c. search needs)
-    (λ c. search needs)
-    (λ c. search needs)
     (λ c κs. search needs)
-    (λ c κs. search needs)
+    test-task-requires
     (λ c. search needs)
     (λ c. search needs)
     returns

@@ -6,8 +6,8 @@ use lib.ListN.{length}
 use Rattle.units.specs.Limits.{boxNumbers}
 use Rattle.plan.specs.Plan.{Shifts}
 
-pub record TasksReady (S : Shifts) (hs bs : List ℕ) : Type 0 where
+pub record TasksReady (S : Shifts) (rooms : ℕ) (hs bs : List ℕ) : Type 0 where
   pub some-hours : 1 ≤ S .hours
   pub work-times : length (S .workTimes) ≡ length (S .taskCalendars)
-  pub heights : length hs ≡ length (S .taskCalendars)
+  pub heights : length hs ≡ rooms * length (S .taskCalendars)
   pub boxes : length bs ≡ boxNumbers * length (S .taskCalendars)

@@ -1,4 +1,4 @@
-use mathlib.Core.Path.{_≡_, refl, _∙_}
+use mathlib.Core.Path.{_≡_, refl, sym, _∙_}
 use Prim.Native.Nat.{_-_, _≤_}
 use native.Mathlib.Omega.{arith}
 use lib.ListN.{length}
@@ -7,22 +7,22 @@ use Rattle.text.specs.Putting.{Put}
 use Rattle.text.proofs.Puts.{put-none}
 use Rattle.plan_format.specs.Text.{textOf}
 use Rattle.plan_format.specs.Writing.{taskRecords}
-use Rattle.plan_format.proofs.Growing.{tasks-none, tasks-room, tasks-put}
+use Rattle.plan_format.proofs.Growing.{tasks-none, numbers-length, tasks-room, tasks-put}
 use Rattle.plan_writing.proofs.put_tasks.Statement.{statement}
 use Rattle.plan_writing.proofs.put_tasks.Tie as tie
 
 abbrev Inv-loop : tie.InvT-loop
-Inv-loop out₀ at task-calendars work-times heights boxes end₀ i₀ t10 i-end out end i =
+Inv-loop out₀ at capacities task-calendars work-times heights boxes end₀ i₀ t11 i-end out end i =
     (i ≤ length task-calendars)
     × (length out ≡ length out₀)
-    × (Put (textOf (taskRecords task-calendars work-times heights boxes i)) at out₀ end out)
+    × (Put (textOf (taskRecords (length capacities) task-calendars work-times heights boxes i)) at out₀ end out)
 
 abbrev μ-loop : tie.MeasureT-loop
-μ-loop out₀ at task-calendars work-times heights boxes end₀ i₀ t10 i-end out end i = i-end - i
+μ-loop out₀ at capacities task-calendars work-times heights boxes end₀ i₀ t11 i-end out end i = i-end - i
 
 -- The places that answers look back to: the entry, a turn's head, its task's numbers, and its line once put.
 abbrev entry : tie.At-loop Inv-loop μ-loop → tie.Start Inv-loop μ-loop
-entry c = c .before .before .before .before .before .before
+entry c = c .before .before .before .before .before .before .before
 
 abbrev head : tie.After-task-numbers Inv-loop μ-loop → tie.At-loop Inv-loop μ-loop
 head c = c .before .before
@@ -34,10 +34,13 @@ abbrev filled : tie.After-slice-known2 Inv-loop μ-loop → tie.After-put-line I
 filled c = c .before .before
 
 loop-holds : tie.Need-loop-holds Inv-loop μ-loop
-loop-holds c = (omega arith, refl, rw (tasks-none _ _ _ _) (put-none _ _))
+loop-holds c = (omega arith, refl, rw (tasks-none _ _ _ _ _) (put-none _ _))
 
 task-numbers-requires : tie.Need-task-numbers-requires Inv-loop μ-loop
-task-numbers-requires c κs = (entry (c .before) .pre .0, c .loop-test .taken)
+task-numbers-requires c κs = let s = entry (c .before) in (s .pre .0, s .pre .1, c .loop-test .taken)
+
+all-counted : tie.Need-slice-aggregate-put-line-2 Inv-loop μ-loop
+all-counted c = sym (numbers-length _ _ _ _ _ _ (numbered c .task-numbers .ensures))
 
 put-line-requires : tie.Need-put-line-requires Inv-loop μ-loop
 put-line-requires c κs =
@@ -45,10 +48,10 @@ put-line-requires c κs =
     let h = head t in
     omega (
       arith,
-      entry h .pre .2,
+      entry h .pre .3,
       h .loop .inv .1,
       h .loop .inv .2 .place,
-      tasks-room _ _ _ _ _ (t .task-numbers .ensures) _ (t .before .loop-test .taken),
+      tasks-room _ _ _ _ _ _ (t .task-numbers .ensures) _ (t .before .loop-test .taken),
     )
 
 loop-again : tie.Need-loop-again Inv-loop μ-loop
@@ -58,7 +61,7 @@ loop-again c =
     let h = head t in (
       omega (arith, t .before .loop-test .taken),
       p .put-line .kept .0 ∙ h .loop .inv .1,
-      tasks-put _ _ _ _ _ (t .task-numbers .ensures) (omega (arith, entry h .pre .2)) (h .loop .inv .2) (p .put-line .ensures),
+      tasks-put _ _ _ _ _ _ (t .task-numbers .ensures) (omega (arith, entry h .pre .3)) (h .loop .inv .2) (p .put-line .ensures),
     )
 
 returns : tie.Need-returns Inv-loop μ-loop
@@ -76,7 +79,9 @@ put-tasks-spec =
     loop-holds
     task-numbers-requires
     (λ c. search needs)
-    (λ c. search needs)
+    (λ c. omega (arith, entry (head (c .before .before)) .pre .1))
+    (λ c. omega (arith, entry (head (c .before .before)) .pre .1))
+    all-counted
     put-line-requires
     (λ c. omega arith)
     (λ c. omega arith)

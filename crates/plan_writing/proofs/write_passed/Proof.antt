@@ -7,12 +7,12 @@ use Rattle.plan_writing.proofs.write_passed.Tie as tie
 
 -- The place that answers look back to, and the plan there.
 abbrev entry : tie.After-text-length → tie.Start
-entry c = c .before .before .before .before .before .before .before
+entry c = c .before .before .before .before .before .before .before .before
 
 abbrev P : tie.Start → Plan
 P s =
     let a = s .args in
-    plan (a .hours .0) (a .capacity) (a .calendars .now) (a .task-calendars .now) (a .work-times .now) (a .heights .now)
+    plan (a .hours .0) (a .capacities .now) (a .calendars .now) (a .task-calendars .now) (a .work-times .now) (a .heights .now)
 
 returns : tie.Need-returns
 returns c =

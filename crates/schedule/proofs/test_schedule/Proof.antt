@@ -2,14 +2,14 @@ use mathlib.Core.Path.{_≡_, sym, ap, _∙_}
 use borrow.Author.Needs.{needs}
 use borrow.Author.Tests.{not-true, not-false}
 use Rattle.units.proofs.Choices.{and-left, else-none, outer-ends, outer-goes-on}
-use Rattle.plan.specs.Plan.{Plan, plan, taskCount}
+use Rattle.plan.specs.Plan.{Plan, plan, roomCount, taskCount}
 use Rattle.plan.specs.Refusals.{testedFault}
 use Rattle.plan.proofs.Refusals.{go-on, refuse}
 use Rattle.schedule.specs.Schedule.{tripleAt}
 use Rattle.schedule.specs.Entry.{scheduleFault, checkFault}
 use Rattle.schedule.specs.Decision.{RightSize}
 use Rattle.schedule.proofs.Entry.{hours-are}
-use Rattle.schedule.proofs.Readiness.{InputPasses, same-heights, triples-ready, hours-ready}
+use Rattle.schedule.proofs.Readiness.{InputPasses, room-tasks, triples-ready, rooms-ready}
 use Rattle.schedule.proofs.test_schedule.Statement.{statement}
 use Rattle.schedule.proofs.test_schedule.Tie as tie
 
@@ -17,10 +17,10 @@ use Rattle.schedule.proofs.test_schedule.Tie as tie
 abbrev asked : tie.Start → Plan
 asked s =
     let a = s .args in
-    plan (a .hours) (a .capacity) (a .calendars .now) (a .task-calendars .now) (a .work-times .now) (a .heights .now)
+    plan (a .hours) (a .capacities .now) (a .calendars .now) (a .task-calendars .now) (a .work-times .now) (a .heights .now)
 
 abbrev entry : tie.Else1 → tie.Start
-entry c = c .before .before .before .before .before .before .before .before
+entry c = c .before .before .before .before .before .before .before .before .before
 
 sized : (c : tie.Else1) → RightSize (asked (entry c)) (entry c .args .boxes .now) (entry c .args .schedule .now)
 unfolding taskCount
@@ -67,8 +67,12 @@ returns-4 c =
     let triples = c .before in
     let plan = triples .before .before .before in
     outer-goes-on _ _ (triples .before .before .test-triples .ensures) (ap testedFault (triples .enum-told3 .given .1))
-    (c .test-hours .ensures ∙ hours-are _ _ (same-heights (passes plan)))
+    (c .test-hours .ensures ∙ hours-are _ _ (room-tasks (passes plan)))
     ∙ sym (by-schedule plan)
+
+test-hours-requires : tie.Need-test-hours-requires
+unfolding roomCount taskCount
+test-hours-requires c κs = rooms-ready (passes (c .before .before .before))
 
 pub test-schedule-spec : {M : Type 1} → statement M
 test-schedule-spec =
@@ -84,5 +88,5 @@ test-schedule-spec =
     (λ c. search needs)
     (λ c. search needs)
     returns-3
-    (λ c κs. hours-ready (passes (c .before .before .before)))
+    test-hours-requires
     returns-4)

@@ -8,7 +8,7 @@ use Rattle.worked.proofs.check_log.Statement.{statement}
 use Rattle.worked.proofs.check_log.Proof.Tie as tie
 
 abbrev entry : tie.After-log → tie.Start
-entry c = c .before .before .before .before .before .before .before
+entry c = c .before .before .before .before .before .before .before .before
 
 slice-aggregate-check-log : tie.Need-slice-aggregate-check-log
 slice-aggregate-check-log c = sym (length-take-le _ _ (omega (arith, entry c .pre .0, entry c .pre .1)))

@@ -12,7 +12,7 @@ abbrev made : tie.After-log → tie.After-empty-log
 made c = c .before .before
 
 abbrev entry : tie.After-empty-log → tie.Start
-entry c = c .before .before .before .before .before .before
+entry c = c .before .before .before .before .before .before .before
 
 slice-aggregate-filter : tie.Need-slice-aggregate-filter
 slice-aggregate-filter c = sym (length-take-le _ _ (omega (arith, made c .empty-log .ensures, entry (made c) .pre)))

@@ -5,7 +5,7 @@ use Rattle.log.proofs.part.check_part.Statement.{statement}
 use Rattle.log.proofs.part.check_part.Tie as tie
 
 abbrev entry : tie.After-check-from-arg → tie.Start
-entry c = c .before .before .before .before .before .before .before .before .before
+entry c = c .before .before .before .before .before .before .before .before .before .before
 
 slice-aggregate-check-from : tie.Need-slice-aggregate-check-from
 slice-aggregate-check-from c = let t = entry (c .before) in lent-length _ (t .pre .0) (t .pre .1 .all-kinds)

@@ -7,7 +7,7 @@ use Rattle.log.proofs.part.filter_part.Tie as tie
 
 -- the entry, where the cells are counted, and where the core has run
 abbrev entry : tie.After-part-end → tie.Start
-entry c = c .before .before .before .before .before .before
+entry c = c .before .before .before .before .before .before .before
 
 abbrev counted : tie.After-task-hours → tie.After-part-end
 counted c = c .before .before .before .before

@@ -19,7 +19,7 @@ returns c =
 run-filter-requires : tie.Need-run-filter-requires
 run-filter-requires c κs =
     let at = passed c in
-    let start = at .before .before .before .before .before .before .before .before .before .before .before .before .before .before .before in
+    let start = at .before .before .before .before .before .before .before .before .before .before .before .before .before .before .before .before in
     (passes _ _ _ _ _ (sym (at .before .before .test-entry .ensures) ∙ ap testedFault (at .enum-told .given .1)), start .pre)
 
 returns-2 : tie.Need-returns-2

@@ -1,26 +1,27 @@
+use mathlib.Core.Path.{refl}
 use mathlib.Core.Logic.{⊎-elim}
 use Prim.Native.Nat.{_-_}
 use native.Mathlib.Omega.{arith}
 use lib.ListN.{length, length-set}
 use borrow.Author.Needs.{needs}
-use Rattle.plan.specs.Plan.{plan, taskCount}
+use Rattle.plan.specs.Plan.{plan, roomCount, taskCount}
+use Rattle.turns.proofs.Turning.{turn-moves}
 use Rattle.propagation.proofs.Fits.{fitting}
 use Rattle.propagation.proofs.Keeping.{ready}
-use Rattle.propagation.proofs.Turning.{turn-moves}
 use Rattle.propagation.proofs.Filtering.{Filtering, filter-opens, settles, fills, stops-at, filter-may-move, goes-on}
 use Rattle.propagation.proofs.filter.run_filter.Statement.{statement}
 use Rattle.propagation.proofs.filter.run_filter.Tie as tie
 
 abbrev Inv-loop : tie.InvT-loop
-Inv-loop h cap cs tc wt hs boxes₀ kinds₀ tasks₀ hours₀ _ _ _ boxes kinds tasks hours fits count =
-    Filtering (plan (h .0) (cap .0) cs tc wt hs) boxes₀ kinds₀ tasks₀ hours₀ count boxes kinds tasks hours fits
+Inv-loop h rs cs tc wt hs boxes₀ kinds₀ tasks₀ hours₀ _ _ _ boxes kinds tasks hours fits count =
+    Filtering (plan (h .0) rs cs tc wt hs) boxes₀ kinds₀ tasks₀ hours₀ count boxes kinds tasks hours fits
 
 abbrev μ-loop : tie.MeasureT-loop
 μ-loop _ _ _ _ _ _ _ kinds₀ _ _ _ _ _ _ _ _ _ _ count = length kinds₀ - count
 
 -- The places that answers look back to: the entry; of a turn that found a step, the turn and its head; the room in the log.
 abbrev entry : tie.After-all-fits-arg Inv-loop μ-loop → tie.Start Inv-loop μ-loop
-entry c = c .before .before .before .before .before .before .before .before .before
+entry c = c .before .before .before .before .before .before .before .before .before .before
 
 abbrev turned : tie.After-known-told Inv-loop μ-loop → tie.After-next-turn Inv-loop μ-loop
 turned c = c .before .before .before
@@ -39,8 +40,8 @@ loop-holds : tie.Need-loop-holds Inv-loop μ-loop
 unfolding taskCount
 loop-holds c = filter-opens (entry (c .before) .pre .0) (c .all-fits .ensures .1) (c .all-fits .ensures .0)
 
-add-t26 : tie.Need-add-t26 Inv-loop μ-loop
-add-t26 c =
+add-t27 : tie.Need-add-t27 Inv-loop μ-loop
+add-t27 c =
     let h = c .before .before .before .before in
     omega (arith, h .loop .inv .taken .room, entry (h .before .before) .pre .1)
 
@@ -72,12 +73,18 @@ add-t33 c =
     omega (arith, r .if1 .left, h .loop .inv .same-kinds, entry (h .before .before) .pre .1)
 
 move-bounds-requires : tie.Need-move-bounds-requires Inv-loop μ-loop
+unfolding taskCount
 move-bounds-requires c κs =
     let k = c .before in
     let t = room k .before in
     let inv = head (turned t) .loop .inv in
-    filter-may-move inv (turned t .next-turn .ensures .0 _ _ _ (inv .keeps)) 0 (t .before .turn .given .1) (room k .if1 .left) (k .before .judged .given .1)
+    filter-may-move inv (turned t .next-turn .ensures .0 _ _ _ refl (inv .keeps)) 0 (t .before .turn .given .1) (room k .if1 .left)
+    (k .before .judged .given .1)
     (turned t .next-turn .ensures .1 _ _ _ (turn-moves (t .before .turn .given .1) (k .before .judged .given .1)))
+
+next-turn-requires : tie.Need-next-turn-requires Inv-loop μ-loop
+unfolding roomCount taskCount
+next-turn-requires c κs = let p = c .before .loop .inv .keeps .passed in (ready _ _ p, p .hours)
 
 loop-less : tie.Need-loop-less Inv-loop μ-loop
 loop-less c =
@@ -85,31 +92,35 @@ loop-less c =
     omega (arith, r .if1 .left, head (turned (r .before)) .loop .inv .same-kinds)
 
 loop-again : tie.Need-loop-again Inv-loop μ-loop
+unfolding taskCount
 loop-again c =
     let k = c .before .before .before .before in
     let t = room k .before in
     let inv = head (turned t) .loop .inv in
-    goes-on inv (turned t .next-turn .ensures .0 _ _ _ (inv .keeps)) 0 (t .before .turn .given .1) (room k .if1 .left) (k .before .judged .given .1)
+    goes-on inv (turned t .next-turn .ensures .0 _ _ _ refl (inv .keeps)) 0 (t .before .turn .given .1) (room k .if1 .left) (k .before .judged .given .1)
     (turned t .next-turn .ensures .1 _ _ _ (turn-moves (t .before .turn .given .1) (k .before .judged .given .1)))
     (c .before .before .move-bounds .ensures)
 
 returns : tie.Need-returns Inv-loop μ-loop
+unfolding taskCount
 returns c =
     let t = c .before .before in
     let inv = head t .loop .inv in
-    settles inv (t .next-turn .ensures .0 _ _ _ (inv .keeps)) _ (c .enum-told .given .1)
+    settles inv (t .next-turn .ensures .0 _ _ _ refl (inv .keeps)) _ (c .enum-told .given .1)
 
 returns-2 : tie.Need-returns-2 Inv-loop μ-loop
+unfolding taskCount
 returns-2 c =
     let t = c .before in
     let inv = head (turned t) .loop .inv in
-    fills inv (turned t .next-turn .ensures .0 _ _ _ (inv .keeps)) _ (t .before .turn .given .1) (c .if1 .taken)
+    fills inv (turned t .next-turn .ensures .0 _ _ _ refl (inv .keeps)) _ (t .before .turn .given .1) (c .if1 .taken)
 
 returns-3 : tie.Need-returns-3 Inv-loop μ-loop
+unfolding taskCount
 returns-3 c =
     let t = c .before .before in
     let inv = head (turned t) .loop .inv in
-    stops-at inv (turned t .next-turn .ensures .0 _ _ _ (inv .keeps)) _ (t .before .turn .given .1) (c .before .if1 .left)
+    stops-at inv (turned t .next-turn .ensures .0 _ _ _ refl (inv .keeps)) _ (t .before .turn .given .1) (c .before .if1 .left)
     (λ i b e. ⊎-elim (λ w. omega arith) (⊎-elim (λ w. omega arith) (λ w. omega arith)) (rw e at (c .match2 .keys2)))
 
 pub run-filter-spec : {M : Type 1} → statement M
@@ -120,10 +131,10 @@ run-filter-spec =
     μ-loop
     all-fits-requires
     loop-holds
-    (λ c κs. let p = c .before .loop .inv .keeps .passed in (ready _ _ p, p .hours))
+    next-turn-requires
     (λ c. search needs)
     (λ c. search needs)
-    add-t26
+    add-t27
     add-t29
     slice-write-log-kinds
     mul-log-tasks

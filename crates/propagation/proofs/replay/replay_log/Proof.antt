@@ -3,7 +3,7 @@ use Prim.Native.Nat.{_-_, _≤_}
 use native.Mathlib.Omega.{arith}
 use lib.ListN.{length}
 use borrow.Author.Needs.{needs}
-use Rattle.plan.specs.Plan.{plan, taskCount}
+use Rattle.plan.specs.Plan.{plan, roomCount, taskCount}
 use Rattle.steps.specs.Entry.{stepAt}
 use Rattle.propagation.proofs.Fits.{fitting}
 use Rattle.propagation.proofs.Keeping.{ready}
@@ -13,15 +13,15 @@ use Rattle.propagation.proofs.replay.replay_log.Statement.{statement}
 use Rattle.propagation.proofs.replay.replay_log.Tie as tie
 
 abbrev Inv-loop : tie.InvT-loop
-Inv-loop h cap cs tc wt hs boxes₀ kinds tasks hours from said₀ _ _ _ k-end boxes fits said k =
-    (k ≤ k-end) × (k-end ≡ length kinds) × Replaying (plan (h .0) (cap .0) cs tc wt hs) from said₀ boxes₀ kinds tasks hours k said boxes fits
+Inv-loop h rs cs tc wt hs boxes₀ kinds tasks hours from said₀ _ _ _ k-end boxes fits said k =
+    (k ≤ k-end) × (k-end ≡ length kinds) × Replaying (plan (h .0) rs cs tc wt hs) from said₀ boxes₀ kinds tasks hours k said boxes fits
 
 abbrev μ-loop : tie.MeasureT-loop
 μ-loop _ _ _ _ _ _ _ _ _ _ _ _ _ _ _ k-end _ _ _ k = k-end - k
 
 -- The places that answers look back to: the entry; a turn's way on, its head, and the judgement.
 abbrev entry : tie.After-all-fits-arg Inv-loop μ-loop → tie.Start Inv-loop μ-loop
-entry c = c .before .before .before .before .before .before .before .before .before
+entry c = c .before .before .before .before .before .before .before .before .before .before
 
 abbrev going : tie.After-judge-step Inv-loop μ-loop → tie.Else1 Inv-loop μ-loop
 going c = c .before .before .before .before .before
@@ -56,11 +56,17 @@ shared-slice-read-t31 c = let g = c .before .before in omega (arith, g .before .
 shared-slice-read-t34 : tie.Need-shared-slice-read-t34 Inv-loop μ-loop
 shared-slice-read-t34 c = let g = c .before .before .before in omega (arith, g .before .loop-test .taken, head g .loop .inv)
 
+judge-step-requires : tie.Need-judge-step-requires Inv-loop μ-loop
+unfolding roomCount taskCount
+judge-step-requires c κs =
+    let p = head (c .before .before .before .before) .loop .inv .2 .keeps .passed in
+    (ready _ _ p, p .hours)
+
 add-t37 : tie.Need-add-t37 Inv-loop μ-loop
 add-t37 c = let h = going (c .before .before) in omega (arith, h .before .loop-test .taken, h .before .before .loop .inv .1, number (h .before .before) .pre .1)
 
 returns-2 : tie.Need-returns-2 Inv-loop μ-loop
-unfolding stepAt
+unfolding stepAt taskCount
 returns-2 c =
     let g = going (c .before .before) in
     replay-11 (head g .loop .inv .2) (below (g .before .loop-test .taken) (head g .loop .inv .1)) (g .if1 .left)
@@ -70,7 +76,7 @@ add-t39 : tie.Need-add-t39 Inv-loop μ-loop
 add-t39 c = let h = going (c .before .before) in omega (arith, h .before .loop-test .taken, h .before .before .loop .inv .1, number (h .before .before) .pre .1)
 
 returns-3 : tie.Need-returns-3 Inv-loop μ-loop
-unfolding stepAt
+unfolding stepAt taskCount
 returns-3 c =
     let g = going (c .before .before) in
     replay-12 (head g .loop .inv .2) (below (g .before .loop-test .taken) (head g .loop .inv .1)) (g .if1 .left)
@@ -80,7 +86,7 @@ add-k : tie.Need-add-k Inv-loop μ-loop
 add-k c = let g = going (c .before .before) in omega (arith, g .before .loop-test .taken, head g .loop .inv, entry (head g .before .before) .good)
 
 loop-again : tie.Need-loop-again Inv-loop μ-loop
-unfolding stepAt
+unfolding stepAt taskCount
 loop-again c =
     let g = going (c .before .before) in (
       omega (arith, g .before .loop-test .taken),
@@ -90,7 +96,7 @@ loop-again c =
     )
 
 move-bounds-requires : tie.Need-move-bounds-requires Inv-loop μ-loop
-unfolding stepAt
+unfolding stepAt taskCount
 move-bounds-requires c κs =
     let k = c .before in
     let g = going (judged k) in
@@ -103,7 +109,7 @@ add-k-2 c =
     omega (arith, g .before .loop-test .taken, head g .loop .inv, entry (head g .before .before) .good)
 
 loop-again-2 : tie.Need-loop-again-2 Inv-loop μ-loop
-unfolding stepAt
+unfolding stepAt taskCount
 loop-again-2 c =
     let k = c .before .before .before .before in
     let g = going (judged k) in (
@@ -137,7 +143,7 @@ replay-log-spec =
     shared-slice-read-t31
     (λ c. search needs)
     shared-slice-read-t34
-    (λ c κs. let p = head (c .before .before .before .before) .loop .inv .2 .keeps .passed in (ready _ _ p, p .hours))
+    judge-step-requires
     (λ c. search needs)
     add-t37
     (λ c. head (going (c .before .before)) .loop .inv .2 .same)

@@ -62,10 +62,10 @@ abbrev pub τ1 : Syntax.Ty
 τ1 = Syntax.tyRef Syntax.erased Syntax.mut (Syntax.tyInt Syntax.w16)
 
 abbrev pub τ2 : Syntax.Ty
-τ2 = Syntax.tyRef (Syntax.named 0) Syntax.imm (Syntax.tyInt Syntax.w8)
+τ2 = Syntax.tyRef (Syntax.named 1) Syntax.imm (Syntax.tyInt Syntax.w8)
 
 abbrev pub τ3 : Syntax.Ty
-τ3 = Syntax.tyRef (Syntax.named 1) Syntax.imm (Syntax.tyInt Syntax.w16)
+τ3 = Syntax.tyRef (Syntax.named 0) Syntax.imm (Syntax.tyInt Syntax.w16)
 
 abbrev pub τ4 : Syntax.Ty
 τ4 = Syntax.tyRef (Syntax.named 2) Syntax.imm (Syntax.tyInt Syntax.w16)
@@ -74,35 +74,38 @@ abbrev pub τ5 : Syntax.Ty
 τ5 = Syntax.tyRef (Syntax.named 3) Syntax.imm (Syntax.tyInt Syntax.w16)
 
 abbrev pub τ6 : Syntax.Ty
-τ6 = Syntax.tyRef (Syntax.named 4) Syntax.mut (Syntax.tyInt Syntax.w16)
+τ6 = Syntax.tyRef (Syntax.named 4) Syntax.imm (Syntax.tyInt Syntax.w16)
 
 abbrev pub τ7 : Syntax.Ty
-τ7 = Syntax.tyRef Syntax.erased Syntax.imm (Syntax.tyArray (Lent.pointed) 2048)
+τ7 = Syntax.tyRef (Syntax.named 5) Syntax.mut (Syntax.tyInt Syntax.w16)
 
 abbrev pub τ8 : Syntax.Ty
-τ8 = Syntax.tyStruct (38 ∷ 91 ∷ 93 ∷ []) (Syntax.tcons τ0 (Syntax.tcons (Syntax.tyInt Syntax.w64) Syntax.tnil))
+τ8 = Syntax.tyRef Syntax.erased Syntax.imm (Syntax.tyArray (Lent.pointed) 2048)
 
 abbrev pub τ9 : Syntax.Ty
-τ9 = Syntax.tyStruct (38 ∷ 91 ∷ 93 ∷ []) (Syntax.tcons τ1 (Syntax.tcons (Syntax.tyInt Syntax.w64) Syntax.tnil))
+τ9 = Syntax.tyStruct (38 ∷ 91 ∷ 93 ∷ []) (Syntax.tcons τ0 (Syntax.tcons (Syntax.tyInt Syntax.w64) Syntax.tnil))
 
 abbrev pub τ10 : Syntax.Ty
-τ10 = Syntax.tyEnum (112 ∷ 108 ∷ 97 ∷ 110 ∷ 58 ∷ 58 ∷ 82 ∷ 101 ∷ 102 ∷ 117 ∷ 115 ∷ 97 ∷ 108 ∷ []) (Syntax.ttcons (Syntax.tcons (Syntax.tyInt Syntax.w64) Syntax.tnil) (Syntax.ttcons Syntax.tnil
+τ10 = Syntax.tyStruct (38 ∷ 91 ∷ 93 ∷ []) (Syntax.tcons τ1 (Syntax.tcons (Syntax.tyInt Syntax.w64) Syntax.tnil))
+
+abbrev pub τ11 : Syntax.Ty
+τ11 = Syntax.tyEnum (112 ∷ 108 ∷ 97 ∷ 110 ∷ 58 ∷ 58 ∷ 82 ∷ 101 ∷ 102 ∷ 117 ∷ 115 ∷ 97 ∷ 108 ∷ []) (Syntax.ttcons (Syntax.tcons (Syntax.tyInt Syntax.w64) Syntax.tnil) (Syntax.ttcons Syntax.tnil
     (Syntax.ttcons Syntax.tnil (Syntax.ttcons (Syntax.tcons (Syntax.tyInt Syntax.w64) Syntax.tnil) (Syntax.ttcons Syntax.tnil (Syntax.ttcons (Syntax.tcons (Syntax.tyInt Syntax.w64) Syntax.tnil)
     (Syntax.ttcons (Syntax.tcons (Syntax.tyInt Syntax.w64) Syntax.tnil) (Syntax.ttcons (Syntax.tcons (Syntax.tyInt Syntax.w64) Syntax.tnil) (Syntax.ttcons (Syntax.tcons (Syntax.tyInt Syntax.w64)
     Syntax.tnil) (Syntax.ttcons Syntax.tnil (Syntax.ttcons (Syntax.tcons (Syntax.tyInt Syntax.w64) Syntax.tnil) (Syntax.ttcons (Syntax.tcons (Syntax.tyInt Syntax.w64) Syntax.tnil) (Syntax.ttcons
     (Syntax.tcons (Syntax.tyInt Syntax.w64) Syntax.tnil) (Syntax.ttcons (Syntax.tcons (Syntax.tyInt Syntax.w64) Syntax.tnil) (Syntax.ttcons (Syntax.tcons (Syntax.tyInt Syntax.w64) Syntax.tnil)
-    (Syntax.ttcons (Syntax.tcons (Syntax.tyInt Syntax.w64) Syntax.tnil) (Syntax.ttcons Syntax.tnil (Syntax.ttcons Syntax.tnil Syntax.ttnil))))))))))))))))))
+    (Syntax.ttcons (Syntax.tcons (Syntax.tyInt Syntax.w64) Syntax.tnil) (Syntax.ttcons Syntax.tnil (Syntax.ttcons Syntax.tnil (Syntax.ttcons Syntax.tnil Syntax.ttnil)))))))))))))))))))
 
-abbrev pub τ11 : Syntax.Ty
-τ11 = Syntax.tyEnum (115 ∷ 116 ∷ 101 ∷ 112 ∷ 115 ∷ 58 ∷ 58 ∷ 76 ∷ 111 ∷ 103 ∷ 67 ∷ 104 ∷ 101 ∷ 99 ∷ 107 ∷ 101 ∷ 100 ∷ []) (Syntax.ttcons (Syntax.tcons τ10 Syntax.tnil) (Syntax.ttcons (Syntax.tcons
+abbrev pub τ12 : Syntax.Ty
+τ12 = Syntax.tyEnum (115 ∷ 116 ∷ 101 ∷ 112 ∷ 115 ∷ 58 ∷ 58 ∷ 76 ∷ 111 ∷ 103 ∷ 67 ∷ 104 ∷ 101 ∷ 99 ∷ 107 ∷ 101 ∷ 100 ∷ []) (Syntax.ttcons (Syntax.tcons τ11 Syntax.tnil) (Syntax.ttcons (Syntax.tcons
     (Syntax.tyInt Syntax.w64) (Syntax.tcons Syntax.tyBool Syntax.tnil)) Syntax.ttnil))
 
-abbrev pub ps : List.List (Kinds.PK 5)
-ps = (Num.pNum Syntax.w16) ∷ (Num.pNum Syntax.w16) ∷ (ShrSlice.pShrS (Referent.rtF (Referent.fInt Syntax.w8)) 0 tt) ∷ (ShrSlice.pShrS (Referent.rtF (Referent.fInt Syntax.w16)) 1 tt) ∷ (ShrSlice.pShrS
-    (Referent.rtF (Referent.fInt Syntax.w16)) 2 tt) ∷ (ShrSlice.pShrS (Referent.rtF (Referent.fInt Syntax.w16)) 3 tt) ∷ (MutSlice.pMutS (Referent.rtF (Referent.fInt Syntax.w16)) 4 tt) ∷ (Array.pArr
-    (Lent.elem) (Lent.elem-laws) 2048) ∷ (Num.pNum Syntax.w64) ∷ []
+abbrev pub ps : List.List (Kinds.PK 6)
+ps = (Num.pNum Syntax.w16) ∷ (ShrSlice.pShrS (Referent.rtF (Referent.fInt Syntax.w16)) 0 tt) ∷ (ShrSlice.pShrS (Referent.rtF (Referent.fInt Syntax.w8)) 1 tt) ∷ (ShrSlice.pShrS (Referent.rtF
+    (Referent.fInt Syntax.w16)) 2 tt) ∷ (ShrSlice.pShrS (Referent.rtF (Referent.fInt Syntax.w16)) 3 tt) ∷ (ShrSlice.pShrS (Referent.rtF (Referent.fInt Syntax.w16)) 4 tt) ∷ (MutSlice.pMutS
+    (Referent.rtF (Referent.fInt Syntax.w16)) 5 tt) ∷ (Array.pArr (Lent.elem) (Lent.elem-laws) 2048) ∷ (Num.pNum Syntax.w64) ∷ []
 
-abbrev pub r : Kinds.RK 5
+abbrev pub r : Kinds.RK 6
 r = Value.rVal record {
   ty = Declared.row LogChecked.the-type;
   one = Path'.refl;
@@ -124,17 +127,17 @@ r = Value.rVal record {
 }
 
 abbrev pub xs : List.List Syntax.Ty
-xs = (Syntax.tyArray (Lent.by-value) 2048) ∷ τ1 ∷ τ9 ∷ τ7 ∷ τ8 ∷ []
+xs = (Syntax.tyArray (Lent.by-value) 2048) ∷ τ1 ∷ τ10 ∷ τ8 ∷ τ9 ∷ []
 
 abbrev pub m : Nat.ℕ
 m = 2
 
-abbrev pub ps·0 : List.List (Kinds.PK 6)
-ps·0 = (Num.pNum Syntax.w16) ∷ (Num.pNum Syntax.w16) ∷ (ShrSlice.pShrS (Referent.rtF (Referent.fInt Syntax.w8)) 0 tt) ∷ (ShrSlice.pShrS (Referent.rtF (Referent.fInt Syntax.w16)) 1 tt) ∷
-    (ShrSlice.pShrS (Referent.rtF (Referent.fInt Syntax.w16)) 2 tt) ∷ (ShrSlice.pShrS (Referent.rtF (Referent.fInt Syntax.w16)) 3 tt) ∷ (MutSlice.pMutS (Referent.rtF (Referent.fInt Syntax.w16)) 4 tt)
-    ∷ (ShrSlice.pShrS (Lent.row) 5 tt) ∷ []
+abbrev pub ps·0 : List.List (Kinds.PK 7)
+ps·0 = (Num.pNum Syntax.w16) ∷ (ShrSlice.pShrS (Referent.rtF (Referent.fInt Syntax.w16)) 0 tt) ∷ (ShrSlice.pShrS (Referent.rtF (Referent.fInt Syntax.w8)) 1 tt) ∷ (ShrSlice.pShrS (Referent.rtF
+    (Referent.fInt Syntax.w16)) 2 tt) ∷ (ShrSlice.pShrS (Referent.rtF (Referent.fInt Syntax.w16)) 3 tt) ∷ (ShrSlice.pShrS (Referent.rtF (Referent.fInt Syntax.w16)) 4 tt) ∷ (MutSlice.pMutS
+    (Referent.rtF (Referent.fInt Syntax.w16)) 5 tt) ∷ (ShrSlice.pShrS (Lent.row) 6 tt) ∷ []
 
-abbrev pub r·0 : Kinds.RK 6
+abbrev pub r·0 : Kinds.RK 7
 r·0 = Value.rVal record {
   ty = Declared.row LogChecked.the-type;
   one = Path'.refl;
@@ -203,56 +206,57 @@ abbrev pub body : Syntax.Body
 body = b12
 
 abbrev pub Claims : Type 1
-Claims = Kinds.In 6 ps·0 × Kinds.Out 6 ps·0 r·0
+Claims = Kinds.In 7 ps·0 × Kinds.Out 7 ps·0 r·0
 
 abbrev pub t0 : List.List Row.Entry
-t0 = (0, Rows'.any-gone τ11) ∷ (1, Rows'.sc-here (Row.sInt Syntax.w16)) ∷ (2, Rows'.sc-here (Row.sInt Syntax.w16)) ∷ (3, Rows'.sslice (Referent.rtF (Referent.fInt Syntax.w8)) τ2 0) ∷ (
-  4,
-  Rows'.sslice
-      (Referent.rtF (Referent.fInt Syntax.w16)) τ3 1,
-) ∷ (5, Rows'.sslice (Referent.rtF (Referent.fInt Syntax.w16)) τ4 2) ∷ (6, Rows'.sslice (Referent.rtF (Referent.fInt Syntax.w16)) τ5 3) ∷ (
-  7,
-  Mut.mslice (Referent.rtF (Referent.fInt Syntax.w16)) τ6 4,
-) ∷ (8, Rows.arrF (Lent.row) 2048 0) ∷ (9, Rows'.sc-here (Row.sInt Syntax.w64)) ∷ (
+t0 = (0, Rows'.any-gone τ12) ∷ (1, Rows'.sc-here (Row.sInt Syntax.w16)) ∷ (2, Rows'.sslice (Referent.rtF (Referent.fInt Syntax.w16)) τ3 0) ∷ (
+  3,
+  Rows'.sslice (Referent.rtF (Referent.fInt Syntax.w8))
+      τ2 1,
+) ∷ (4, Rows'.sslice (Referent.rtF (Referent.fInt Syntax.w16)) τ4 2) ∷ (5, Rows'.sslice (Referent.rtF (Referent.fInt Syntax.w16)) τ5 3) ∷ (
+  6,
+  Rows'.sslice (Referent.rtF (Referent.fInt
+      Syntax.w16)) τ6 4,
+) ∷ (7, Mut.mslice (Referent.rtF (Referent.fInt Syntax.w16)) τ7 5) ∷ (8, Rows.arrF (Lent.row) 2048 0) ∷ (9, Rows'.sc-here (Row.sInt Syntax.w64)) ∷ (
   10,
-  Rows'.any-gone (Syntax.tyArray (Lent.by-value)
-      2048),
-) ∷ (11, Rows'.any-gone τ1) ∷ (12, Rows'.any-gone τ9) ∷ (13, Rows'.any-gone τ7) ∷ (14, Rows'.any-gone τ8) ∷ []
+  Rows'.any-gone
+      (Syntax.tyArray (Lent.by-value) 2048),
+) ∷ (11, Rows'.any-gone τ1) ∷ (12, Rows'.any-gone τ10) ∷ (13, Rows'.any-gone τ8) ∷ (14, Rows'.any-gone τ9) ∷ []
 
 abbrev pub t1 : List.List Row.Entry
-t1 = Row.setRow 9 (9, Rows'.any-gone (Syntax.tyInt Syntax.w64)) (Row.setRow 8 (8, Rows'.any-gone (Syntax.tyArray (Lent.by-value) 2048)) (Row.setRow 2 (2, Rows'.any-gone (Syntax.tyInt Syntax.w16))
-    (Row.setRow 1 (1, Rows'.any-gone (Syntax.tyInt Syntax.w16)) (Row.setRow 0 (0, Rows'.whole (Declared.row LogChecked.the-type)) t0))))
+t1 = Row.setRow 9 (9, Rows'.any-gone (Syntax.tyInt Syntax.w64)) (Row.setRow 8 (8, Rows'.any-gone (Syntax.tyArray (Lent.by-value) 2048)) (Row.setRow 1 (1, Rows'.any-gone (Syntax.tyInt Syntax.w16))
+    (Row.setRow 0 (0, Rows'.whole (Declared.row LogChecked.the-type)) t0)))
 
 abbrev pub t2 : List.List Row.Entry
-t2 = Row.setRow 10 (10, Rows.arrF (Lent.row) 2048 0) (Row.setRow 9 (9, Rows'.sc-here (Row.sInt Syntax.w64)) (Row.setRow 8 (8, Rows.arrF (Lent.row) 2048 0) (Row.setRow 2 (
-  2,
+t2 = Row.setRow 10 (10, Rows.arrF (Lent.row) 2048 0) (Row.setRow 9 (9, Rows'.sc-here (Row.sInt Syntax.w64)) (Row.setRow 8 (8, Rows.arrF (Lent.row) 2048 0) (Row.setRow 1 (
+  1,
   Rows'.sc-here (Row.sInt
       Syntax.w16),
-) (Row.setRow 1 (1, Rows'.sc-here (Row.sInt Syntax.w16)) (Row.setRow 0 (0, Rows'.any-gone τ11) t1)))))
+) (Row.setRow 0 (0, Rows'.any-gone τ12) t1))))
 
 abbrev pub t3 : List.List Row.Entry
 t3 = Row.setRow 8 (8, Rows'.any-gone (Syntax.tyArray (Lent.by-value) 2048)) t2
 
 abbrev pub t4 : List.List Row.Entry
-t4 = Row.setRow 11 (11, Relend.msptr (Referent.rtF (Referent.fInt Syntax.w16)) τ1 5) (Row.setRow 7 (7, Relend.mslice-owed (Referent.rtF (Referent.fInt Syntax.w16)) τ6 4 5 Row.off) t3)
+t4 = Row.setRow 11 (11, Relend.msptr (Referent.rtF (Referent.fInt Syntax.w16)) τ1 6) (Row.setRow 7 (7, Relend.mslice-owed (Referent.rtF (Referent.fInt Syntax.w16)) τ7 5 6 Row.off) t3)
 
 abbrev pub t5 : List.List Row.Entry
-t5 = Row.setRow 12 (12, Mut.mslice (Referent.rtF (Referent.fInt Syntax.w16)) τ1 5) (Row.setRow 11 (11, Rows'.any-gone τ1) t4)
+t5 = Row.setRow 12 (12, Mut.mslice (Referent.rtF (Referent.fInt Syntax.w16)) τ1 6) (Row.setRow 11 (11, Rows'.any-gone τ1) t4)
 
 abbrev pub t6 : List.List Row.Entry
-t6 = Row.setRow 13 (13, Relend.ssptr (Lent.row) τ7 6) (Row.setRow 10 (10, Rows.arr-shrP (Lent.row) 2048 6) t5)
+t6 = Row.setRow 13 (13, Relend.ssptr (Lent.row) τ8 7) (Row.setRow 10 (10, Rows.arr-shrP (Lent.row) 2048 7) t5)
 
 abbrev pub t7 : List.List Row.Entry
-t7 = Row.setRow 14 (14, Rows'.sslice (Lent.row) τ0 6) (Row.setRow 13 (13, Rows'.any-gone τ7) t6)
+t7 = Row.setRow 14 (14, Rows'.sslice (Lent.row) τ0 7) (Row.setRow 13 (13, Rows'.any-gone τ8) t6)
 
 abbrev pub t8 : List.List Row.Entry
 t8 = Row.setRow 12 (12, Mut.msleft (Referent.rtF (Referent.fInt Syntax.w16)) τ1) (Row.setRow 0 (0, Rows'.whole (Declared.row LogChecked.the-type)) t7)
 
 abbrev pub t9 : List.List Row.Entry
-t9 = Row.setRow 14 (14, Rows'.any-gone τ8) t8
+t9 = Row.setRow 14 (14, Rows'.any-gone τ9) t8
 
 abbrev pub t10 : List.List Row.Entry
-t10 = Row.setRow 12 (12, Rows'.any-gone τ9) (Row.setRow 7 (7, Mut.mslice (Referent.rtF (Referent.fInt Syntax.w16)) τ6 4) t9)
+t10 = Row.setRow 12 (12, Rows'.any-gone τ10) (Row.setRow 7 (7, Mut.mslice (Referent.rtF (Referent.fInt Syntax.w16)) τ7 5) t9)
 
 abbrev pub t11 : List.List Row.Entry
 t11 = Row.setRow 10 (10, Rows.arrF (Lent.row) 2048 0) t10
@@ -262,9 +266,6 @@ t12 = Row.setRow 10 (10, Rows'.any-gone (Syntax.tyArray (Lent.by-value) 2048)) t
 
 abbrev pub t13 : List.List Row.Entry
 t13 = Row.setRow 1 (1, Rows'.any-gone (Syntax.tyInt Syntax.w16)) t12
-
-abbrev pub t14 : List.List Row.Entry
-t14 = Row.setRow 2 (2, Rows'.any-gone (Syntax.tyInt Syntax.w16)) t13
 
 abbrev pub T0 : Row.Cx
 T0 = record { locals = t0; slots = [] }
@@ -288,46 +289,46 @@ abbrev pub T6 : Row.Cx
 T6 = record { locals = t0; slots = [] }
 
 abbrev pub T7 : Row.Cx
-T7 = record { locals = t2; slots = [] }
+T7 = record { locals = t0; slots = [] }
 
 abbrev pub T8 : Row.Cx
-T8 = record { locals = t3; slots = [] }
+T8 = record { locals = t2; slots = [] }
 
-abbrev pub T10 : Row.Cx
-T10 = record { locals = t4; slots = [] }
+abbrev pub T9 : Row.Cx
+T9 = record { locals = t3; slots = [] }
 
 abbrev pub T11 : Row.Cx
-T11 = record { locals = t5; slots = [] }
+T11 = record { locals = t4; slots = [] }
 
-abbrev pub T13 : Row.Cx
-T13 = record { locals = t6; slots = [] }
+abbrev pub T12 : Row.Cx
+T12 = record { locals = t5; slots = [] }
 
 abbrev pub T14 : Row.Cx
-T14 = record { locals = t7; slots = [] }
+T14 = record { locals = t6; slots = [] }
 
 abbrev pub T15 : Row.Cx
-T15 = record { locals = t8; slots = [] }
+T15 = record { locals = t7; slots = [] }
 
 abbrev pub T16 : Row.Cx
-T16 = record { locals = t9; slots = [] }
+T16 = record { locals = t8; slots = [] }
 
-abbrev pub T18 : Row.Cx
-T18 = record { locals = t10; slots = [] }
+abbrev pub T17 : Row.Cx
+T17 = record { locals = t9; slots = [] }
 
 abbrev pub T19 : Row.Cx
 T19 = record { locals = t10; slots = [] }
 
-abbrev pub T22 : Row.Cx
-T22 = record { locals = t11; slots = [] }
+abbrev pub T20 : Row.Cx
+T20 = record { locals = t10; slots = [] }
 
-abbrev pub T24 : Row.Cx
-T24 = record { locals = t12; slots = [] }
+abbrev pub T23 : Row.Cx
+T23 = record { locals = t11; slots = [] }
 
 abbrev pub T25 : Row.Cx
-T25 = record { locals = t13; slots = [] }
+T25 = record { locals = t12; slots = [] }
 
 abbrev pub T26 : Row.Cx
-T26 = record { locals = t14; slots = [] }
+T26 = record { locals = t13; slots = [] }
 
 abbrev pub T27 : Row.Cx
 T27 = record { locals = t1; slots = [] }
@@ -337,108 +338,115 @@ O0 = record { next = Option.none; exits = []; returns = Option.some T1 }
 
 module _ (claims· : Claims) where
   abbrev s0 : Typed.Gives T0 T2
-  s0 = Know.k-shs-known (Referent.fInt Syntax.w8) T0 3 0 τ2 Row.off 0 λ x. x
+  s0 = Know.k-shs-known (Referent.fInt Syntax.w16) T0 2 0 τ3 Row.off 0 λ x. x
 
   abbrev s1 : Typed.Gives T2 T3
-  s1 = Know.k-shs-known (Referent.fInt Syntax.w16) T2 4 1 τ3 Row.off 0 λ x. x
+  s1 = Know.k-shs-known (Referent.fInt Syntax.w8) T2 3 1 τ2 Row.off 0 λ x. x
 
   abbrev s2 : Typed.Gives T3 T4
-  s2 = Know.k-shs-known (Referent.fInt Syntax.w16) T3 5 2 τ4 Row.off 0 λ x. x
+  s2 = Know.k-shs-known (Referent.fInt Syntax.w16) T3 4 2 τ4 Row.off 0 λ x. x
 
   abbrev s3 : Typed.Gives T4 T5
-  s3 = Know.k-shs-known (Referent.fInt Syntax.w16) T4 6 3 τ5 Row.off 0 λ x. x
+  s3 = Know.k-shs-known (Referent.fInt Syntax.w16) T4 5 3 τ5 Row.off 0 λ x. x
 
   abbrev s4 : Typed.Gives T5 T6
-  s4 = Know.k-sl-known (Referent.fInt Syntax.w16) T5 7 4 τ6 Row.off 0 λ x. x
+  s4 = Know.k-shs-known (Referent.fInt Syntax.w16) T5 6 4 τ6 Row.off 0 λ x. x
 
-  abbrev s5 : Typed.Mo T6 → Typed.Mo T7
-  s5 = LocalCopy.n-val-copy T6 8 10 (Array'.Array (Lent.row) 2048) (Rows.arrF (Lent.row) 2048 0) (Rows.arrF (Lent.row) 2048 0) (λ x. x) (λ x. x) λ x. x
+  abbrev s5 : Typed.Gives T6 T7
+  s5 = Know.k-sl-known (Referent.fInt Syntax.w16) T6 7 5 τ7 Row.off 0 λ x. x
 
   abbrev s6 : Typed.Mo T7 → Typed.Mo T8
-  s6 = Scalar.n-room T7 8 (Syntax.tyArray (Lent.by-value) 2048)
+  s6 = LocalCopy.n-val-copy T7 8 10 (Array'.Array (Lent.row) 2048) (Rows.arrF (Lent.row) 2048 0) (Rows.arrF (Lent.row) 2048 0) (λ x. x) (λ x. x) λ x. x
 
-  abbrev s8 : Typed.Gives T8 T10
-  s8 = Relend.k-sl-relend (Referent.rtF (Referent.fInt Syntax.w16)) T8 7 11 4 5 τ6 τ1 Row.off λ x. x
+  abbrev s7 : Typed.Mo T8 → Typed.Mo T9
+  s7 = Scalar.n-room T8 8 (Syntax.tyArray (Lent.by-value) 2048)
 
-  abbrev s9 : Typed.Asks T10 T11
-  s9 = Relend.k-sl-aggregate (Referent.rtF (Referent.fInt Syntax.w16)) (Relend.asMut (Referent.rtF (Referent.fInt Syntax.w16))) T10 11 12 5 τ1 τ1 (λ x. x) (Scalar.oFld 7 ((Syntax.field 1) ∷ [])
+  abbrev s9 : Typed.Gives T9 T11
+  s9 = Relend.k-sl-relend (Referent.rtF (Referent.fInt Syntax.w16)) T9 7 11 5 6 τ7 τ1 Row.off λ x. x
+
+  abbrev s10 : Typed.Asks T11 T12
+  s10 = Relend.k-sl-aggregate (Referent.rtF (Referent.fInt Syntax.w16)) (Relend.asMut (Referent.rtF (Referent.fInt Syntax.w16))) T11 11 12 6 τ1 τ1 (λ x. x) (Scalar.oFld 7 ((Syntax.field 1) ∷ [])
       (Syntax.tyInt Syntax.w64) 8 λ v. Shared.lenV (v .0))
 
-  abbrev s11 : Typed.Both T11 T13
-  s11 = Share.k-arr-shareᵖ (Lent.row) T11 10 13 2048 6 τ7 (λ x. x) λ u. u .1 .1 .1 .1 .1 .1 .1 .1 .1 .0
+  abbrev s12 : Typed.Both T12 T14
+  s12 = Share.k-arr-shareᵖ (Lent.row) T12 10 13 2048 7 τ8 (λ x. x) λ u. u .1 .1 .1 .1 .1 .1 .1 .1 .1 .0
 
-  abbrev s12 : Typed.Asks T13 T14
-  s12 = Relend.k-sl-aggregate (Lent.row) (Relend.asShr (Lent.row)) T13 13 14 6 τ7 τ0 (λ x. x) (Scalar.oAt 9 (Syntax.tyInt Syntax.w64) (Row.valS (Row.sInt Syntax.w64)))
+  abbrev s13 : Typed.Asks T14 T15
+  s13 = Relend.k-sl-aggregate (Lent.row) (Relend.asShr (Lent.row)) T14 13 14 7 τ8 τ0 (λ x. x) (Scalar.oAt 9 (Syntax.tyInt Syntax.w64) (Row.valS (Row.sInt Syntax.w64)))
 
-  abbrev s13 : Typed.Both T14 T15
-  s13 = Call.callB ps·0 r·0 (claims· .0) (claims· .1) T14 (
+  abbrev s14 : Typed.Both T15 T16
+  s14 = Call.callB ps·0 r·0 (claims· .0) (claims· .1) T15 (
     Num.vAt 1 λ x. x,
     (
-      Num.vAt 2 λ x. x,
+      record { pos = 2; ty = Syntax.tyRef (Syntax.named 0) Syntax.imm (Syntax.tyInt Syntax.w16); ref = λ x. x },
       (
         record {
-          pos = 3;
-          ty = Syntax.tyRef (Syntax.named 0) Syntax.imm (Syntax.tyInt Syntax.w8);
-          ref = λ x.
-              x;
+          pos
+              = 3;
+          ty = Syntax.tyRef (Syntax.named 1) Syntax.imm (Syntax.tyInt Syntax.w8);
+          ref = λ x. x;
         },
         (
-          record { pos = 4; ty = Syntax.tyRef (Syntax.named 1) Syntax.imm (Syntax.tyInt Syntax.w16); ref = λ x. x },
+          record {
+            pos = 4;
+            ty = Syntax.tyRef (Syntax.named 2) Syntax.imm (Syntax.tyInt Syntax.w16);
+            ref = λ
+                x. x;
+          },
           (
-            record {
-              pos = 5;
-              ty = Syntax.tyRef (Syntax.named 2) Syntax.imm (Syntax.tyInt
-                  Syntax.w16);
-              ref = λ x. x;
-            },
+            record { pos = 5; ty = Syntax.tyRef (Syntax.named 3) Syntax.imm (Syntax.tyInt Syntax.w16); ref = λ x. x },
             (
-              record { pos = 6; ty = Syntax.tyRef (Syntax.named 3) Syntax.imm (Syntax.tyInt Syntax.w16); ref = λ x. x },
+              record {
+                pos = 6;
+                ty = Syntax.tyRef (Syntax.named 4) Syntax.imm
+                    (Syntax.tyInt Syntax.w16);
+                ref = λ x. x;
+              },
               (
-                record {
-                  pos = 12;
-                  ty = Syntax.tyRef Syntax.erased
-                      Syntax.mut (Syntax.tyInt Syntax.w16);
-                  ref = λ x. x;
-                },
-                (record { pos = 14; ty = Syntax.tyRef Syntax.erased Syntax.imm (Lent.pointed); ref = λ x. x }, tt),
+                record { pos = 12; ty = Syntax.tyRef Syntax.erased Syntax.mut (Syntax.tyInt Syntax.w16); ref = λ x. x },
+                (
+                  record {
+                    pos = 14;
+                    ty = Syntax.tyRef
+                        Syntax.erased Syntax.imm (Lent.pointed);
+                    ref = λ x. x;
+                  },
+                  tt,
+                ),
               ),
             ),
           ),
         ),
       ),
     ),
-  ) 0 (0 ∷ 1 ∷ 2 ∷ 3 ∷ 5 ∷ 6 ∷ [])
-      τ11
+  ) 0 (0 ∷ 1 ∷ 2 ∷ 3 ∷ 4 ∷ 6 ∷ 7 ∷ []) τ12
 
-  abbrev s14 : Typed.Mo T15 → Typed.Mo T16
-  s14 = Scalar.n-room T15 14 τ8
+  abbrev s15 : Typed.Mo T16 → Typed.Mo T17
+  s15 = Scalar.n-room T16 14 τ9
 
-  abbrev s16 : Typed.Both T16 T18
-  s16 = Relend.k-back-sl (Referent.rtF (Referent.fInt Syntax.w16)) T16 12 7 4 5 τ6 τ1 Row.off (λ x. x) λ x. x
+  abbrev s17 : Typed.Both T17 T19
+  s17 = Relend.k-back-sl (Referent.rtF (Referent.fInt Syntax.w16)) T17 12 7 5 6 τ7 τ1 Row.off (λ x. x) λ x. x
 
-  abbrev s17 : Typed.Gives T18 T19
-  s17 = Know.k-sl-known (Referent.fInt Syntax.w16) T18 7 4 τ6 Row.off 0 λ x. x
+  abbrev s18 : Typed.Gives T19 T20
+  s18 = Know.k-sl-known (Referent.fInt Syntax.w16) T19 7 5 τ7 Row.off 0 λ x. x
 
-  abbrev s20 : Typed.Mo T19 → Typed.Mo T22
-  s20 = Share.n-back-arr-shr (Lent.row) T19 10 2048 6 λ x. x
+  abbrev s21 : Typed.Mo T20 → Typed.Mo T23
+  s21 = Share.n-back-arr-shr (Lent.row) T20 10 2048 7 λ x. x
 
-  abbrev s22 : Typed.Mo T22 → Typed.Mo T24
-  s22 = Scalar.n-room T22 10 (Syntax.tyArray (Lent.by-value) 2048)
-
-  abbrev s23 : Typed.Mo T24 → Typed.Mo T25
-  s23 = Scalar.n-room T24 1 (Syntax.tyInt Syntax.w16)
+  abbrev s23 : Typed.Mo T23 → Typed.Mo T25
+  s23 = Scalar.n-room T23 10 (Syntax.tyArray (Lent.by-value) 2048)
 
   abbrev s24 : Typed.Mo T25 → Typed.Mo T26
-  s24 = Scalar.n-room T25 2 (Syntax.tyInt Syntax.w16)
+  s24 = Scalar.n-room T25 1 (Syntax.tyInt Syntax.w16)
 
   abbrev s25 : Typed.Mo T26 → Typed.Mo T27
   s25 = Scalar.n-room T26 9 (Syntax.tyInt Syntax.w64)
 
-  module _ (Pre· : (κs : Lifetimes.Lfts 5) → Kinds.Dens κs ps → Type 0) (Post· : (κs : Lifetimes.Lfts 5) → (a : Kinds.Dens κs ps) → Kinds.Plain 5 ps r κs) where
+  module _ (Pre· : (κs : Lifetimes.Lfts 6) → Kinds.Dens κs ps → Type 0) (Post· : (κs : Lifetimes.Lfts 6) → (a : Kinds.Dens κs ps) → Kinds.Plain 6 ps r κs) where
     module _ (M : Type 1) where
       abbrev pub Closed : Type 2
-      Closed = (𝓤 : URA.URA M) (H : Wp.Heap 𝓤) (A : Atoms.Atoms 𝓤) (W : Kit.Given 𝓤 H A) (𝓣 : Wp.Tables 𝓤 H) (known0 : Plain.Known 𝓤 H A W 𝓣 6 ps·0 r·0 (claims· .0) (claims· .1) "log::check_log") →
-          Statement.Triple 𝓤 (Wp.WpFn 𝓤 H (𝓣 .C) (𝓣 .Λ) (Function.fnOf 5 ps r xs m hs body)) (Function.plainOf 𝓤 H A 5 ps r Pre· Post·)
+      Closed = (𝓤 : URA.URA M) (H : Wp.Heap 𝓤) (A : Atoms.Atoms 𝓤) (W : Kit.Given 𝓤 H A) (𝓣 : Wp.Tables 𝓤 H) (known0 : Plain.Known 𝓤 H A W 𝓣 7 ps·0 r·0 (claims· .0) (claims· .1) "log::check_log") →
+          Statement.Triple 𝓤 (Wp.WpFn 𝓤 H (𝓣 .C) (𝓣 .Λ) (Function.fnOf 6 ps r xs m hs body)) (Function.plainOf 𝓤 H A 6 ps r Pre· Post·)
 
     module _ where
       abbrev at0 : Typed.TF T27 O0
@@ -450,62 +458,62 @@ module _ (claims· : Claims) where
       abbrev at2 : Typed.TF T25 O0
       at2 = λ Ψ. Typed.pass T25 T26 s24 (at1 Ψ)
 
-      abbrev at3 : Typed.TF T24 O0
-      at3 = λ Ψ. Typed.pass T24 T25 s23 (at2 Ψ)
+      abbrev at3 : Typed.TF T23 O0
+      at3 = λ Ψ. Typed.pass T23 T25 s23 (at2 Ψ)
 
-      abbrev at4 : Typed.TF T22 O0
-      at4 = λ Ψ. Typed.pass T22 T24 s22 (at3 Ψ)
+      abbrev at4 : Typed.TF T23 O0
+      at4 = λ Ψ. at3 Ψ
 
-      abbrev at5 : Typed.TF T22 O0
-      at5 = λ Ψ. at4 Ψ
+      abbrev at5 : Typed.TF T20 O0
+      at5 = λ Ψ. Typed.pass T20 T23 s21 (at4 Ψ)
 
-      abbrev at6 : Typed.TF T19 O0
-      at6 = λ Ψ. Typed.pass T19 T22 s20 (at5 Ψ)
+      abbrev at6 : Typed.TF T20 O0
+      at6 = λ Ψ. at5 Ψ
 
-      abbrev at7 : Typed.TF T19 O0
+      abbrev at7 : Typed.TF T20 O0
       at7 = λ Ψ. at6 Ψ
 
       abbrev at8 : Typed.TF T19 O0
-      at8 = λ Ψ. at7 Ψ
+      at8 = λ Ψ. Typed.give s18 (at7 Ψ)
 
-      abbrev at9 : Typed.TF T18 O0
-      at9 = λ Ψ. Typed.give s17 (at8 Ψ)
+      abbrev at9 : Typed.TF T17 O0
+      at9 = λ Ψ. Typed.both s17 (at8 Ψ)
 
-      abbrev at10 : Typed.TF T16 O0
-      at10 = λ Ψ. Typed.both s16 (at9 Ψ)
+      abbrev at10 : Typed.TF T17 O0
+      at10 = λ Ψ. at9 Ψ
 
       abbrev at11 : Typed.TF T16 O0
-      at11 = λ Ψ. at10 Ψ
+      at11 = λ Ψ. Typed.pass T16 T17 s15 (at10 Ψ)
 
       abbrev at12 : Typed.TF T15 O0
-      at12 = λ Ψ. Typed.pass T15 T16 s14 (at11 Ψ)
+      at12 = λ Ψ. Typed.both s14 (at11 Ψ)
 
       abbrev at13 : Typed.TF T14 O0
-      at13 = λ Ψ. Typed.both s13 (at12 Ψ)
+      at13 = λ Ψ. Typed.ask s13 (at12 Ψ)
 
-      abbrev at14 : Typed.TF T13 O0
-      at14 = λ Ψ. Typed.ask s12 (at13 Ψ)
+      abbrev at14 : Typed.TF T12 O0
+      at14 = λ Ψ. Typed.both s12 (at13 Ψ)
 
-      abbrev at15 : Typed.TF T11 O0
-      at15 = λ Ψ. Typed.both s11 (at14 Ψ)
+      abbrev at15 : Typed.TF T12 O0
+      at15 = λ Ψ. at14 Ψ
 
       abbrev at16 : Typed.TF T11 O0
-      at16 = λ Ψ. at15 Ψ
+      at16 = λ Ψ. Typed.ask s10 (at15 Ψ)
 
-      abbrev at17 : Typed.TF T10 O0
-      at17 = λ Ψ. Typed.ask s9 (at16 Ψ)
+      abbrev at17 : Typed.TF T9 O0
+      at17 = λ Ψ. Typed.give s9 (at16 Ψ)
 
-      abbrev at18 : Typed.TF T8 O0
-      at18 = λ Ψ. Typed.give s8 (at17 Ψ)
+      abbrev at18 : Typed.TF T9 O0
+      at18 = λ Ψ. at17 Ψ
 
       abbrev at19 : Typed.TF T8 O0
-      at19 = λ Ψ. at18 Ψ
+      at19 = λ Ψ. Typed.pass T8 T9 s7 (at18 Ψ)
 
       abbrev at20 : Typed.TF T7 O0
       at20 = λ Ψ. Typed.pass T7 T8 s6 (at19 Ψ)
 
       abbrev at21 : Typed.TF T6 O0
-      at21 = λ Ψ. Typed.pass T6 T7 s5 (at20 Ψ)
+      at21 = λ Ψ. Typed.give s5 (at20 Ψ)
 
       abbrev at22 : Typed.TF T5 O0
       at22 = λ Ψ. Typed.give s4 (at21 Ψ)
@@ -527,319 +535,317 @@ module _ (claims· : Claims) where
 
       module _ {M : Type 1} (𝓤 : URA.URA M) (H : Wp.Heap 𝓤) (A : Atoms.Atoms 𝓤) (W : Kit.Given 𝓤 H A) (𝓣 : Wp.Tables 𝓤 H) where
         abbrev Knowns : Type 1
-        Knowns = Plain.Known 𝓤 H A W 𝓣 6 ps·0 r·0 (claims· .0) (claims· .1) "log::check_log"
+        Knowns = Plain.Known 𝓤 H A W 𝓣 7 ps·0 r·0 (claims· .0) (claims· .1) "log::check_log"
 
-      module _ (κs : Lifetimes.Lfts 5) (qs : Lifetimes.Shares 5) where
+      module _ (κs : Lifetimes.Lfts 6) (qs : Lifetimes.Shares 6) where
         abbrev g4 : List.List Row.Entry
-        g4 = (0, Rows'.any-gone τ11) ∷ (1, Rows'.sc-here (Row.sInt Syntax.w16)) ∷ (2, Rows'.sc-here (Row.sInt Syntax.w16)) ∷ (3, Rows'.sslice (Referent.rtF (Referent.fInt Syntax.w8)) τ2 0) ∷ (
-          4,
-          Rows'.sslice (Referent.rtF (Referent.fInt Syntax.w16)) τ3 1,
-        ) ∷ (5, Rows'.sslice (Referent.rtF (Referent.fInt Syntax.w16)) τ4 2) ∷ (
-          6,
+        g4 = (0, Rows'.any-gone τ12) ∷ (1, Rows'.sc-here (Row.sInt Syntax.w16)) ∷ (2, Rows'.sslice (Referent.rtF (Referent.fInt Syntax.w16)) τ3 0) ∷ (
+          3,
           Rows'.sslice (Referent.rtF (Referent.fInt
-              Syntax.w16)) τ5 3,
-        ) ∷ (7, Relend.mslice-owed (Referent.rtF (Referent.fInt Syntax.w16)) τ6 4 5 (Row.lease (κs .1 .1 .1 .1 .0) (qs .1 .1 .1 .1 .0))) ∷ (
+              Syntax.w8)) τ2 1,
+        ) ∷ (4, Rows'.sslice (Referent.rtF (Referent.fInt Syntax.w16)) τ4 2) ∷ (5, Rows'.sslice (Referent.rtF (Referent.fInt Syntax.w16)) τ5 3) ∷ (
+          6,
+          Rows'.sslice (Referent.rtF
+              (Referent.fInt Syntax.w16)) τ6 4,
+        ) ∷ (7, Relend.mslice-owed (Referent.rtF (Referent.fInt Syntax.w16)) τ7 5 6 (Row.lease (κs .1 .1 .1 .1 .1 .0) (qs .1 .1 .1 .1 .1 .0))) ∷ (
           8,
-          Rows'.any-gone (Syntax.tyArray
-              (Lent.by-value) 2048),
-        ) ∷ (9, Rows'.sc-here (Row.sInt Syntax.w64)) ∷ (10, Rows.arrF (Lent.row) 2048 0) ∷ (11, Relend.msptr (Referent.rtF (Referent.fInt Syntax.w16)) τ1 5) ∷ (
-          12,
-          Rows'.any-gone τ9,
-        ) ∷ (13, Rows'.any-gone τ7) ∷ (14, Rows'.any-gone τ8) ∷ []
+          Rows'.any-gone
+              (Syntax.tyArray (Lent.by-value) 2048),
+        ) ∷ (9, Rows'.sc-here (Row.sInt Syntax.w64)) ∷ (10, Rows.arrF (Lent.row) 2048 0) ∷ (11, Relend.msptr (Referent.rtF (Referent.fInt Syntax.w16)) τ1 6) ∷
+            (12, Rows'.any-gone τ10) ∷ (13, Rows'.any-gone τ8) ∷ (14, Rows'.any-gone τ9) ∷ []
 
         abbrev g5 : List.List Row.Entry
-        g5 = (0, Rows'.any-gone τ11) ∷ (1, Rows'.sc-here (Row.sInt Syntax.w16)) ∷ (2, Rows'.sc-here (Row.sInt Syntax.w16)) ∷ (3, Rows'.sslice (Referent.rtF (Referent.fInt Syntax.w8)) τ2 0) ∷ (
-          4,
-          Rows'.sslice (Referent.rtF (Referent.fInt Syntax.w16)) τ3 1,
-        ) ∷ (5, Rows'.sslice (Referent.rtF (Referent.fInt Syntax.w16)) τ4 2) ∷ (
-          6,
+        g5 = (0, Rows'.any-gone τ12) ∷ (1, Rows'.sc-here (Row.sInt Syntax.w16)) ∷ (2, Rows'.sslice (Referent.rtF (Referent.fInt Syntax.w16)) τ3 0) ∷ (
+          3,
           Rows'.sslice (Referent.rtF (Referent.fInt
-              Syntax.w16)) τ5 3,
-        ) ∷ (7, Relend.mslice-owed (Referent.rtF (Referent.fInt Syntax.w16)) τ6 4 5 (Row.lease (κs .1 .1 .1 .1 .0) (qs .1 .1 .1 .1 .0))) ∷ (
+              Syntax.w8)) τ2 1,
+        ) ∷ (4, Rows'.sslice (Referent.rtF (Referent.fInt Syntax.w16)) τ4 2) ∷ (5, Rows'.sslice (Referent.rtF (Referent.fInt Syntax.w16)) τ5 3) ∷ (
+          6,
+          Rows'.sslice (Referent.rtF
+              (Referent.fInt Syntax.w16)) τ6 4,
+        ) ∷ (7, Relend.mslice-owed (Referent.rtF (Referent.fInt Syntax.w16)) τ7 5 6 (Row.lease (κs .1 .1 .1 .1 .1 .0) (qs .1 .1 .1 .1 .1 .0))) ∷ (
           8,
-          Rows'.any-gone (Syntax.tyArray
-              (Lent.by-value) 2048),
+          Rows'.any-gone
+              (Syntax.tyArray (Lent.by-value) 2048),
         ) ∷ (9, Rows'.sc-here (Row.sInt Syntax.w64)) ∷ (10, Rows.arrF (Lent.row) 2048 0) ∷ (11, Rows'.any-gone τ1) ∷ (
           12,
-          Mut.mslice (Referent.rtF (Referent.fInt Syntax.w16))
-              τ1 5,
-        ) ∷ (13, Rows'.any-gone τ7) ∷ (14, Rows'.any-gone τ8) ∷ []
+          Mut.mslice (Referent.rtF
+              (Referent.fInt Syntax.w16)) τ1 6,
+        ) ∷ (13, Rows'.any-gone τ8) ∷ (14, Rows'.any-gone τ9) ∷ []
 
         abbrev g6 : List.List Row.Entry
-        g6 = (0, Rows'.any-gone τ11) ∷ (1, Rows'.sc-here (Row.sInt Syntax.w16)) ∷ (2, Rows'.sc-here (Row.sInt Syntax.w16)) ∷ (3, Rows'.sslice (Referent.rtF (Referent.fInt Syntax.w8)) τ2 0) ∷ (
-          4,
-          Rows'.sslice (Referent.rtF (Referent.fInt Syntax.w16)) τ3 1,
-        ) ∷ (5, Rows'.sslice (Referent.rtF (Referent.fInt Syntax.w16)) τ4 2) ∷ (
-          6,
+        g6 = (0, Rows'.any-gone τ12) ∷ (1, Rows'.sc-here (Row.sInt Syntax.w16)) ∷ (2, Rows'.sslice (Referent.rtF (Referent.fInt Syntax.w16)) τ3 0) ∷ (
+          3,
           Rows'.sslice (Referent.rtF (Referent.fInt
-              Syntax.w16)) τ5 3,
-        ) ∷ (7, Relend.mslice-owed (Referent.rtF (Referent.fInt Syntax.w16)) τ6 4 5 (Row.lease (κs .1 .1 .1 .1 .0) (qs .1 .1 .1 .1 .0))) ∷ (
+              Syntax.w8)) τ2 1,
+        ) ∷ (4, Rows'.sslice (Referent.rtF (Referent.fInt Syntax.w16)) τ4 2) ∷ (5, Rows'.sslice (Referent.rtF (Referent.fInt Syntax.w16)) τ5 3) ∷ (
+          6,
+          Rows'.sslice (Referent.rtF
+              (Referent.fInt Syntax.w16)) τ6 4,
+        ) ∷ (7, Relend.mslice-owed (Referent.rtF (Referent.fInt Syntax.w16)) τ7 5 6 (Row.lease (κs .1 .1 .1 .1 .1 .0) (qs .1 .1 .1 .1 .1 .0))) ∷ (
           8,
-          Rows'.any-gone (Syntax.tyArray
-              (Lent.by-value) 2048),
-        ) ∷ (9, Rows'.sc-here (Row.sInt Syntax.w64)) ∷ (10, Rows.arr-shrP (Lent.row) 2048 6) ∷ (11, Rows'.any-gone τ1) ∷ (
+          Rows'.any-gone
+              (Syntax.tyArray (Lent.by-value) 2048),
+        ) ∷ (9, Rows'.sc-here (Row.sInt Syntax.w64)) ∷ (10, Rows.arr-shrP (Lent.row) 2048 7) ∷ (11, Rows'.any-gone τ1) ∷ (
           12,
-          Mut.mslice (Referent.rtF (Referent.fInt
-              Syntax.w16)) τ1 5,
-        ) ∷ (13, Relend.ssptr (Lent.row) τ7 6) ∷ (14, Rows'.any-gone τ8) ∷ []
+          Mut.mslice (Referent.rtF
+              (Referent.fInt Syntax.w16)) τ1 6,
+        ) ∷ (13, Relend.ssptr (Lent.row) τ8 7) ∷ (14, Rows'.any-gone τ9) ∷ []
 
         abbrev g7 : List.List Row.Entry
-        g7 = (0, Rows'.any-gone τ11) ∷ (1, Rows'.sc-here (Row.sInt Syntax.w16)) ∷ (2, Rows'.sc-here (Row.sInt Syntax.w16)) ∷ (3, Rows'.sslice (Referent.rtF (Referent.fInt Syntax.w8)) τ2 0) ∷ (
-          4,
-          Rows'.sslice (Referent.rtF (Referent.fInt Syntax.w16)) τ3 1,
-        ) ∷ (5, Rows'.sslice (Referent.rtF (Referent.fInt Syntax.w16)) τ4 2) ∷ (
-          6,
+        g7 = (0, Rows'.any-gone τ12) ∷ (1, Rows'.sc-here (Row.sInt Syntax.w16)) ∷ (2, Rows'.sslice (Referent.rtF (Referent.fInt Syntax.w16)) τ3 0) ∷ (
+          3,
           Rows'.sslice (Referent.rtF (Referent.fInt
-              Syntax.w16)) τ5 3,
-        ) ∷ (7, Relend.mslice-owed (Referent.rtF (Referent.fInt Syntax.w16)) τ6 4 5 (Row.lease (κs .1 .1 .1 .1 .0) (qs .1 .1 .1 .1 .0))) ∷ (
+              Syntax.w8)) τ2 1,
+        ) ∷ (4, Rows'.sslice (Referent.rtF (Referent.fInt Syntax.w16)) τ4 2) ∷ (5, Rows'.sslice (Referent.rtF (Referent.fInt Syntax.w16)) τ5 3) ∷ (
+          6,
+          Rows'.sslice (Referent.rtF
+              (Referent.fInt Syntax.w16)) τ6 4,
+        ) ∷ (7, Relend.mslice-owed (Referent.rtF (Referent.fInt Syntax.w16)) τ7 5 6 (Row.lease (κs .1 .1 .1 .1 .1 .0) (qs .1 .1 .1 .1 .1 .0))) ∷ (
           8,
-          Rows'.any-gone (Syntax.tyArray
-              (Lent.by-value) 2048),
-        ) ∷ (9, Rows'.sc-here (Row.sInt Syntax.w64)) ∷ (10, Rows.arr-shrP (Lent.row) 2048 6) ∷ (11, Rows'.any-gone τ1) ∷ (
+          Rows'.any-gone
+              (Syntax.tyArray (Lent.by-value) 2048),
+        ) ∷ (9, Rows'.sc-here (Row.sInt Syntax.w64)) ∷ (10, Rows.arr-shrP (Lent.row) 2048 7) ∷ (11, Rows'.any-gone τ1) ∷ (
           12,
-          Mut.mslice (Referent.rtF (Referent.fInt
-              Syntax.w16)) τ1 5,
-        ) ∷ (13, Rows'.any-gone τ7) ∷ (14, Rows'.sslice (Lent.row) τ0 6) ∷ []
+          Mut.mslice (Referent.rtF
+              (Referent.fInt Syntax.w16)) τ1 6,
+        ) ∷ (13, Rows'.any-gone τ8) ∷ (14, Rows'.sslice (Lent.row) τ0 7) ∷ []
 
         abbrev g8 : List.List Row.Entry
-        g8 = (0, Rows'.whole (Declared.row LogChecked.the-type)) ∷ (1, Rows'.sc-here (Row.sInt Syntax.w16)) ∷ (2, Rows'.sc-here (Row.sInt Syntax.w16)) ∷ (
+        g8 = (0, Rows'.whole (Declared.row LogChecked.the-type)) ∷ (1, Rows'.sc-here (Row.sInt Syntax.w16)) ∷ (2, Rows'.sslice (Referent.rtF (Referent.fInt Syntax.w16)) τ3 0) ∷ (
           3,
-          Rows'.sslice (Referent.rtF (Referent.fInt
-              Syntax.w8)) τ2 0,
-        ) ∷ (4, Rows'.sslice (Referent.rtF (Referent.fInt Syntax.w16)) τ3 1) ∷ (5, Rows'.sslice (Referent.rtF (Referent.fInt Syntax.w16)) τ4 2) ∷ (
+          Rows'.sslice
+              (Referent.rtF (Referent.fInt Syntax.w8)) τ2 1,
+        ) ∷ (4, Rows'.sslice (Referent.rtF (Referent.fInt Syntax.w16)) τ4 2) ∷ (5, Rows'.sslice (Referent.rtF (Referent.fInt Syntax.w16)) τ5 3) ∷ (
           6,
-          Rows'.sslice (Referent.rtF
-              (Referent.fInt Syntax.w16)) τ5 3,
-        ) ∷ (7, Relend.mslice-owed (Referent.rtF (Referent.fInt Syntax.w16)) τ6 4 5 (Row.lease (κs .1 .1 .1 .1 .0) (qs .1 .1 .1 .1 .0))) ∷ (
-          8,
-          Rows'.any-gone
-              (Syntax.tyArray (Lent.by-value) 2048),
-        ) ∷ (9, Rows'.sc-here (Row.sInt Syntax.w64)) ∷ (10, Rows.arr-shrP (Lent.row) 2048 6) ∷ (11, Rows'.any-gone τ1) ∷ (
+          Rows'.sslice (Referent.rtF (Referent.fInt Syntax.w16)) τ6 4,
+        ) ∷ (
+          7,
+          Relend.mslice-owed (Referent.rtF (Referent.fInt Syntax.w16)) τ7 5 6 (Row.lease (κs .1 .1 .1 .1 .1 .0) (qs .1 .1 .1 .1 .1
+              .0)),
+        ) ∷ (8, Rows'.any-gone (Syntax.tyArray (Lent.by-value) 2048)) ∷ (9, Rows'.sc-here (Row.sInt Syntax.w64)) ∷ (10, Rows.arr-shrP (Lent.row) 2048 7) ∷ (11, Rows'.any-gone τ1) ∷ (
           12,
-          Mut.msleft (Referent.rtF
-              (Referent.fInt Syntax.w16)) τ1,
-        ) ∷ (13, Rows'.any-gone τ7) ∷ (14, Rows'.sslice (Lent.row) τ0 6) ∷ []
+          Mut.msleft (Referent.rtF (Referent.fInt Syntax.w16)) τ1,
+        ) ∷ (13, Rows'.any-gone τ8) ∷ (14, Rows'.sslice (Lent.row) τ0 7) ∷ []
 
         abbrev g9 : List.List Row.Entry
-        g9 = (0, Rows'.whole (Declared.row LogChecked.the-type)) ∷ (1, Rows'.sc-here (Row.sInt Syntax.w16)) ∷ (2, Rows'.sc-here (Row.sInt Syntax.w16)) ∷ (
+        g9 = (0, Rows'.whole (Declared.row LogChecked.the-type)) ∷ (1, Rows'.sc-here (Row.sInt Syntax.w16)) ∷ (2, Rows'.sslice (Referent.rtF (Referent.fInt Syntax.w16)) τ3 0) ∷ (
           3,
-          Rows'.sslice (Referent.rtF (Referent.fInt
-              Syntax.w8)) τ2 0,
-        ) ∷ (4, Rows'.sslice (Referent.rtF (Referent.fInt Syntax.w16)) τ3 1) ∷ (5, Rows'.sslice (Referent.rtF (Referent.fInt Syntax.w16)) τ4 2) ∷ (
+          Rows'.sslice
+              (Referent.rtF (Referent.fInt Syntax.w8)) τ2 1,
+        ) ∷ (4, Rows'.sslice (Referent.rtF (Referent.fInt Syntax.w16)) τ4 2) ∷ (5, Rows'.sslice (Referent.rtF (Referent.fInt Syntax.w16)) τ5 3) ∷ (
           6,
-          Rows'.sslice (Referent.rtF
-              (Referent.fInt Syntax.w16)) τ5 3,
-        ) ∷ (7, Relend.mslice-owed (Referent.rtF (Referent.fInt Syntax.w16)) τ6 4 5 (Row.lease (κs .1 .1 .1 .1 .0) (qs .1 .1 .1 .1 .0))) ∷ (
-          8,
-          Rows'.any-gone
-              (Syntax.tyArray (Lent.by-value) 2048),
-        ) ∷ (9, Rows'.sc-here (Row.sInt Syntax.w64)) ∷ (10, Rows.arr-shrP (Lent.row) 2048 6) ∷ (11, Rows'.any-gone τ1) ∷ (
+          Rows'.sslice (Referent.rtF (Referent.fInt Syntax.w16)) τ6 4,
+        ) ∷ (
+          7,
+          Relend.mslice-owed (Referent.rtF (Referent.fInt Syntax.w16)) τ7 5 6 (Row.lease (κs .1 .1 .1 .1 .1 .0) (qs .1 .1 .1 .1 .1
+              .0)),
+        ) ∷ (8, Rows'.any-gone (Syntax.tyArray (Lent.by-value) 2048)) ∷ (9, Rows'.sc-here (Row.sInt Syntax.w64)) ∷ (10, Rows.arr-shrP (Lent.row) 2048 7) ∷ (11, Rows'.any-gone τ1) ∷ (
           12,
-          Mut.msleft (Referent.rtF
-              (Referent.fInt Syntax.w16)) τ1,
-        ) ∷ (13, Rows'.any-gone τ7) ∷ (14, Rows'.any-gone τ8) ∷ []
+          Mut.msleft (Referent.rtF (Referent.fInt Syntax.w16)) τ1,
+        ) ∷ (13, Rows'.any-gone τ8) ∷ (14, Rows'.any-gone τ9) ∷ []
 
         abbrev G0 : Row.Cx
         G0 = record {
           locals = t0;
           slots = (Row.lease (κs .0) (qs .0)) ∷ (Row.lease (κs .1 .0) (qs .1 .0)) ∷ (Row.lease (κs .1 .1 .0) (qs .1 .1 .0)) ∷ (Row.lease (κs .1 .1 .1 .0) (qs .1 .1 .1 .0)) ∷
-              (Row.lease (κs .1 .1 .1 .1 .0) (qs .1 .1 .1 .1 .0)) ∷ Row.off ∷ Row.off ∷ [];
+              (Row.lease (κs .1 .1 .1 .1 .0) (qs .1 .1 .1 .1 .0)) ∷ (Row.lease (κs .1 .1 .1 .1 .1 .0) (qs .1 .1 .1 .1 .1 .0)) ∷ Row.off ∷ Row.off ∷ [];
         }
 
         abbrev G1 : Row.Cx
         G1 = record {
           locals = t1;
           slots = (Row.lease (κs .0) (qs .0)) ∷ (Row.lease (κs .1 .0) (qs .1 .0)) ∷ (Row.lease (κs .1 .1 .0) (qs .1 .1 .0)) ∷ (Row.lease (κs .1 .1 .1 .0) (qs .1 .1 .1 .0)) ∷
-              (Row.lease (κs .1 .1 .1 .1 .0) (qs .1 .1 .1 .1 .0)) ∷ Row.off ∷ Row.off ∷ [];
+              (Row.lease (κs .1 .1 .1 .1 .0) (qs .1 .1 .1 .1 .0)) ∷ (Row.lease (κs .1 .1 .1 .1 .1 .0) (qs .1 .1 .1 .1 .1 .0)) ∷ Row.off ∷ Row.off ∷ [];
         }
 
         abbrev G2 : Row.Cx
         G2 = record {
           locals = t0;
           slots = (Row.lease (κs .0) (qs .0)) ∷ (Row.lease (κs .1 .0) (qs .1 .0)) ∷ (Row.lease (κs .1 .1 .0) (qs .1 .1 .0)) ∷ (Row.lease (κs .1 .1 .1 .0) (qs .1 .1 .1 .0)) ∷
-              (Row.lease (κs .1 .1 .1 .1 .0) (qs .1 .1 .1 .1 .0)) ∷ Row.off ∷ Row.off ∷ [];
+              (Row.lease (κs .1 .1 .1 .1 .0) (qs .1 .1 .1 .1 .0)) ∷ (Row.lease (κs .1 .1 .1 .1 .1 .0) (qs .1 .1 .1 .1 .1 .0)) ∷ Row.off ∷ Row.off ∷ [];
         }
 
         abbrev G3 : Row.Cx
         G3 = record {
           locals = t0;
           slots = (Row.lease (κs .0) (qs .0)) ∷ (Row.lease (κs .1 .0) (qs .1 .0)) ∷ (Row.lease (κs .1 .1 .0) (qs .1 .1 .0)) ∷ (Row.lease (κs .1 .1 .1 .0) (qs .1 .1 .1 .0)) ∷
-              (Row.lease (κs .1 .1 .1 .1 .0) (qs .1 .1 .1 .1 .0)) ∷ Row.off ∷ Row.off ∷ [];
+              (Row.lease (κs .1 .1 .1 .1 .0) (qs .1 .1 .1 .1 .0)) ∷ (Row.lease (κs .1 .1 .1 .1 .1 .0) (qs .1 .1 .1 .1 .1 .0)) ∷ Row.off ∷ Row.off ∷ [];
         }
 
         abbrev G4 : Row.Cx
         G4 = record {
           locals = t0;
           slots = (Row.lease (κs .0) (qs .0)) ∷ (Row.lease (κs .1 .0) (qs .1 .0)) ∷ (Row.lease (κs .1 .1 .0) (qs .1 .1 .0)) ∷ (Row.lease (κs .1 .1 .1 .0) (qs .1 .1 .1 .0)) ∷
-              (Row.lease (κs .1 .1 .1 .1 .0) (qs .1 .1 .1 .1 .0)) ∷ Row.off ∷ Row.off ∷ [];
+              (Row.lease (κs .1 .1 .1 .1 .0) (qs .1 .1 .1 .1 .0)) ∷ (Row.lease (κs .1 .1 .1 .1 .1 .0) (qs .1 .1 .1 .1 .1 .0)) ∷ Row.off ∷ Row.off ∷ [];
         }
 
         abbrev G5 : Row.Cx
         G5 = record {
           locals = t0;
           slots = (Row.lease (κs .0) (qs .0)) ∷ (Row.lease (κs .1 .0) (qs .1 .0)) ∷ (Row.lease (κs .1 .1 .0) (qs .1 .1 .0)) ∷ (Row.lease (κs .1 .1 .1 .0) (qs .1 .1 .1 .0)) ∷
-              (Row.lease (κs .1 .1 .1 .1 .0) (qs .1 .1 .1 .1 .0)) ∷ Row.off ∷ Row.off ∷ [];
+              (Row.lease (κs .1 .1 .1 .1 .0) (qs .1 .1 .1 .1 .0)) ∷ (Row.lease (κs .1 .1 .1 .1 .1 .0) (qs .1 .1 .1 .1 .1 .0)) ∷ Row.off ∷ Row.off ∷ [];
         }
 
         abbrev G6 : Row.Cx
         G6 = record {
           locals = t0;
           slots = (Row.lease (κs .0) (qs .0)) ∷ (Row.lease (κs .1 .0) (qs .1 .0)) ∷ (Row.lease (κs .1 .1 .0) (qs .1 .1 .0)) ∷ (Row.lease (κs .1 .1 .1 .0) (qs .1 .1 .1 .0)) ∷
-              (Row.lease (κs .1 .1 .1 .1 .0) (qs .1 .1 .1 .1 .0)) ∷ Row.off ∷ Row.off ∷ [];
+              (Row.lease (κs .1 .1 .1 .1 .0) (qs .1 .1 .1 .1 .0)) ∷ (Row.lease (κs .1 .1 .1 .1 .1 .0) (qs .1 .1 .1 .1 .1 .0)) ∷ Row.off ∷ Row.off ∷ [];
         }
 
         abbrev G7 : Row.Cx
         G7 = record {
-          locals = t2;
+          locals = t0;
           slots = (Row.lease (κs .0) (qs .0)) ∷ (Row.lease (κs .1 .0) (qs .1 .0)) ∷ (Row.lease (κs .1 .1 .0) (qs .1 .1 .0)) ∷ (Row.lease (κs .1 .1 .1 .0) (qs .1 .1 .1 .0)) ∷
-              (Row.lease (κs .1 .1 .1 .1 .0) (qs .1 .1 .1 .1 .0)) ∷ Row.off ∷ Row.off ∷ [];
+              (Row.lease (κs .1 .1 .1 .1 .0) (qs .1 .1 .1 .1 .0)) ∷ (Row.lease (κs .1 .1 .1 .1 .1 .0) (qs .1 .1 .1 .1 .1 .0)) ∷ Row.off ∷ Row.off ∷ [];
         }
 
         abbrev G8 : Row.Cx
         G8 = record {
-          locals = t3;
+          locals = t2;
           slots = (Row.lease (κs .0) (qs .0)) ∷ (Row.lease (κs .1 .0) (qs .1 .0)) ∷ (Row.lease (κs .1 .1 .0) (qs .1 .1 .0)) ∷ (Row.lease (κs .1 .1 .1 .0) (qs .1 .1 .1 .0)) ∷
-              (Row.lease (κs .1 .1 .1 .1 .0) (qs .1 .1 .1 .1 .0)) ∷ Row.off ∷ Row.off ∷ [];
+              (Row.lease (κs .1 .1 .1 .1 .0) (qs .1 .1 .1 .1 .0)) ∷ (Row.lease (κs .1 .1 .1 .1 .1 .0) (qs .1 .1 .1 .1 .1 .0)) ∷ Row.off ∷ Row.off ∷ [];
         }
 
         abbrev G9 : Row.Cx
         G9 = record {
           locals = t3;
           slots = (Row.lease (κs .0) (qs .0)) ∷ (Row.lease (κs .1 .0) (qs .1 .0)) ∷ (Row.lease (κs .1 .1 .0) (qs .1 .1 .0)) ∷ (Row.lease (κs .1 .1 .1 .0) (qs .1 .1 .1 .0)) ∷
-              (Row.lease (κs .1 .1 .1 .1 .0) (qs .1 .1 .1 .1 .0)) ∷ Row.alive ∷ Row.off ∷ [];
+              (Row.lease (κs .1 .1 .1 .1 .0) (qs .1 .1 .1 .1 .0)) ∷ (Row.lease (κs .1 .1 .1 .1 .1 .0) (qs .1 .1 .1 .1 .1 .0)) ∷ Row.off ∷ Row.off ∷ [];
         }
 
         abbrev G10 : Row.Cx
         G10 = record {
-          locals = g4;
+          locals = t3;
           slots = (Row.lease (κs .0) (qs .0)) ∷ (Row.lease (κs .1 .0) (qs .1 .0)) ∷ (Row.lease (κs .1 .1 .0) (qs .1 .1 .0)) ∷ (Row.lease (κs .1 .1 .1 .0) (qs .1 .1 .1 .0)) ∷
-              Row.off ∷ Row.alive ∷ Row.off ∷ [];
+              (Row.lease (κs .1 .1 .1 .1 .0) (qs .1 .1 .1 .1 .0)) ∷ (Row.lease (κs .1 .1 .1 .1 .1 .0) (qs .1 .1 .1 .1 .1 .0)) ∷ Row.alive ∷ Row.off ∷ [];
         }
 
         abbrev G11 : Row.Cx
         G11 = record {
-          locals = g5;
+          locals = g4;
           slots = (Row.lease (κs .0) (qs .0)) ∷ (Row.lease (κs .1 .0) (qs .1 .0)) ∷ (Row.lease (κs .1 .1 .0) (qs .1 .1 .0)) ∷ (Row.lease (κs .1 .1 .1 .0) (qs .1 .1 .1 .0)) ∷
-              Row.off ∷ Row.alive ∷ Row.off ∷ [];
+              (Row.lease (κs .1 .1 .1 .1 .0) (qs .1 .1 .1 .1 .0)) ∷ Row.off ∷ Row.alive ∷ Row.off ∷ [];
         }
 
         abbrev G12 : Row.Cx
         G12 = record {
           locals = g5;
           slots = (Row.lease (κs .0) (qs .0)) ∷ (Row.lease (κs .1 .0) (qs .1 .0)) ∷ (Row.lease (κs .1 .1 .0) (qs .1 .1 .0)) ∷ (Row.lease (κs .1 .1 .1 .0) (qs .1 .1 .1 .0)) ∷
-              Row.off ∷ Row.alive ∷ Row.alive ∷ [];
+              (Row.lease (κs .1 .1 .1 .1 .0) (qs .1 .1 .1 .1 .0)) ∷ Row.off ∷ Row.alive ∷ Row.off ∷ [];
         }
 
         abbrev G13 : Row.Cx
         G13 = record {
-          locals = g6;
+          locals = g5;
           slots = (Row.lease (κs .0) (qs .0)) ∷ (Row.lease (κs .1 .0) (qs .1 .0)) ∷ (Row.lease (κs .1 .1 .0) (qs .1 .1 .0)) ∷ (Row.lease (κs .1 .1 .1 .0) (qs .1 .1 .1 .0)) ∷
-              Row.off ∷ Row.alive ∷ Row.alive ∷ [];
+              (Row.lease (κs .1 .1 .1 .1 .0) (qs .1 .1 .1 .1 .0)) ∷ Row.off ∷ Row.alive ∷ Row.alive ∷ [];
         }
 
         abbrev G14 : Row.Cx
         G14 = record {
-          locals = g7;
+          locals = g6;
           slots = (Row.lease (κs .0) (qs .0)) ∷ (Row.lease (κs .1 .0) (qs .1 .0)) ∷ (Row.lease (κs .1 .1 .0) (qs .1 .1 .0)) ∷ (Row.lease (κs .1 .1 .1 .0) (qs .1 .1 .1 .0)) ∷
-              Row.off ∷ Row.alive ∷ Row.alive ∷ [];
+              (Row.lease (κs .1 .1 .1 .1 .0) (qs .1 .1 .1 .1 .0)) ∷ Row.off ∷ Row.alive ∷ Row.alive ∷ [];
         }
 
         abbrev G15 : Row.Cx
         G15 = record {
-          locals = g8;
+          locals = g7;
           slots = (Row.lease (κs .0) (qs .0)) ∷ (Row.lease (κs .1 .0) (qs .1 .0)) ∷ (Row.lease (κs .1 .1 .0) (qs .1 .1 .0)) ∷ (Row.lease (κs .1 .1 .1 .0) (qs .1 .1 .1 .0)) ∷
-              Row.off ∷ Row.alive ∷ Row.alive ∷ [];
+              (Row.lease (κs .1 .1 .1 .1 .0) (qs .1 .1 .1 .1 .0)) ∷ Row.off ∷ Row.alive ∷ Row.alive ∷ [];
         }
 
         abbrev G16 : Row.Cx
         G16 = record {
-          locals = g9;
+          locals = g8;
           slots = (Row.lease (κs .0) (qs .0)) ∷ (Row.lease (κs .1 .0) (qs .1 .0)) ∷ (Row.lease (κs .1 .1 .0) (qs .1 .1 .0)) ∷ (Row.lease (κs .1 .1 .1 .0) (qs .1 .1 .1 .0)) ∷
-              Row.off ∷ Row.alive ∷ Row.alive ∷ [];
+              (Row.lease (κs .1 .1 .1 .1 .0) (qs .1 .1 .1 .1 .0)) ∷ Row.off ∷ Row.alive ∷ Row.alive ∷ [];
         }
 
         abbrev G17 : Row.Cx
         G17 = record {
           locals = g9;
           slots = (Row.lease (κs .0) (qs .0)) ∷ (Row.lease (κs .1 .0) (qs .1 .0)) ∷ (Row.lease (κs .1 .1 .0) (qs .1 .1 .0)) ∷ (Row.lease (κs .1 .1 .1 .0) (qs .1 .1 .1 .0)) ∷
-              Row.off ∷ Row.dead ∷ Row.alive ∷ [];
+              (Row.lease (κs .1 .1 .1 .1 .0) (qs .1 .1 .1 .1 .0)) ∷ Row.off ∷ Row.alive ∷ Row.alive ∷ [];
         }
 
         abbrev G18 : Row.Cx
         G18 = record {
-          locals = t10;
-          slots = (Row.lease (κs .0) (qs .0)) ∷ (Row.lease (κs .1 .0) (qs .1 .0)) ∷ (Row.lease (κs .1 .1 .0) (qs .1 .1 .0)) ∷ (Row.lease (κs .1 .1 .1 .0) (qs .1 .1 .1 .0))
-              ∷ (Row.lease (κs .1 .1 .1 .1 .0) (qs .1 .1 .1 .1 .0)) ∷ Row.dead ∷ Row.alive ∷ [];
+          locals = g9;
+          slots = (Row.lease (κs .0) (qs .0)) ∷ (Row.lease (κs .1 .0) (qs .1 .0)) ∷ (Row.lease (κs .1 .1 .0) (qs .1 .1 .0)) ∷ (Row.lease (κs .1 .1 .1 .0) (qs .1 .1 .1 .0)) ∷
+              (Row.lease (κs .1 .1 .1 .1 .0) (qs .1 .1 .1 .1 .0)) ∷ Row.off ∷ Row.dead ∷ Row.alive ∷ [];
         }
 
         abbrev G19 : Row.Cx
         G19 = record {
           locals = t10;
           slots = (Row.lease (κs .0) (qs .0)) ∷ (Row.lease (κs .1 .0) (qs .1 .0)) ∷ (Row.lease (κs .1 .1 .0) (qs .1 .1 .0)) ∷ (Row.lease (κs .1 .1 .1 .0) (qs .1 .1 .1 .0))
-              ∷ (Row.lease (κs .1 .1 .1 .1 .0) (qs .1 .1 .1 .1 .0)) ∷ Row.dead ∷ Row.alive ∷ [];
+              ∷ (Row.lease (κs .1 .1 .1 .1 .0) (qs .1 .1 .1 .1 .0)) ∷ (Row.lease (κs .1 .1 .1 .1 .1 .0) (qs .1 .1 .1 .1 .1 .0)) ∷ Row.dead ∷ Row.alive ∷ [];
         }
 
         abbrev G20 : Row.Cx
         G20 = record {
           locals = t10;
           slots = (Row.lease (κs .0) (qs .0)) ∷ (Row.lease (κs .1 .0) (qs .1 .0)) ∷ (Row.lease (κs .1 .1 .0) (qs .1 .1 .0)) ∷ (Row.lease (κs .1 .1 .1 .0) (qs .1 .1 .1 .0))
-              ∷ (Row.lease (κs .1 .1 .1 .1 .0) (qs .1 .1 .1 .1 .0)) ∷ Row.off ∷ Row.alive ∷ [];
+              ∷ (Row.lease (κs .1 .1 .1 .1 .0) (qs .1 .1 .1 .1 .0)) ∷ (Row.lease (κs .1 .1 .1 .1 .1 .0) (qs .1 .1 .1 .1 .1 .0)) ∷ Row.dead ∷ Row.alive ∷ [];
         }
 
         abbrev G21 : Row.Cx
         G21 = record {
           locals = t10;
           slots = (Row.lease (κs .0) (qs .0)) ∷ (Row.lease (κs .1 .0) (qs .1 .0)) ∷ (Row.lease (κs .1 .1 .0) (qs .1 .1 .0)) ∷ (Row.lease (κs .1 .1 .1 .0) (qs .1 .1 .1 .0))
-              ∷ (Row.lease (κs .1 .1 .1 .1 .0) (qs .1 .1 .1 .1 .0)) ∷ Row.off ∷ Row.dead ∷ [];
+              ∷ (Row.lease (κs .1 .1 .1 .1 .0) (qs .1 .1 .1 .1 .0)) ∷ (Row.lease (κs .1 .1 .1 .1 .1 .0) (qs .1 .1 .1 .1 .1 .0)) ∷ Row.off ∷ Row.alive ∷ [];
         }
 
         abbrev G22 : Row.Cx
         G22 = record {
-          locals = t11;
+          locals = t10;
           slots = (Row.lease (κs .0) (qs .0)) ∷ (Row.lease (κs .1 .0) (qs .1 .0)) ∷ (Row.lease (κs .1 .1 .0) (qs .1 .1 .0)) ∷ (Row.lease (κs .1 .1 .1 .0) (qs .1 .1 .1 .0))
-              ∷ (Row.lease (κs .1 .1 .1 .1 .0) (qs .1 .1 .1 .1 .0)) ∷ Row.off ∷ Row.dead ∷ [];
+              ∷ (Row.lease (κs .1 .1 .1 .1 .0) (qs .1 .1 .1 .1 .0)) ∷ (Row.lease (κs .1 .1 .1 .1 .1 .0) (qs .1 .1 .1 .1 .1 .0)) ∷ Row.off ∷ Row.dead ∷ [];
         }
 
         abbrev G23 : Row.Cx
         G23 = record {
           locals = t11;
           slots = (Row.lease (κs .0) (qs .0)) ∷ (Row.lease (κs .1 .0) (qs .1 .0)) ∷ (Row.lease (κs .1 .1 .0) (qs .1 .1 .0)) ∷ (Row.lease (κs .1 .1 .1 .0) (qs .1 .1 .1 .0))
-              ∷ (Row.lease (κs .1 .1 .1 .1 .0) (qs .1 .1 .1 .1 .0)) ∷ Row.off ∷ Row.off ∷ [];
+              ∷ (Row.lease (κs .1 .1 .1 .1 .0) (qs .1 .1 .1 .1 .0)) ∷ (Row.lease (κs .1 .1 .1 .1 .1 .0) (qs .1 .1 .1 .1 .1 .0)) ∷ Row.off ∷ Row.dead ∷ [];
         }
 
         abbrev G24 : Row.Cx
         G24 = record {
-          locals = t12;
+          locals = t11;
           slots = (Row.lease (κs .0) (qs .0)) ∷ (Row.lease (κs .1 .0) (qs .1 .0)) ∷ (Row.lease (κs .1 .1 .0) (qs .1 .1 .0)) ∷ (Row.lease (κs .1 .1 .1 .0) (qs .1 .1 .1 .0))
-              ∷ (Row.lease (κs .1 .1 .1 .1 .0) (qs .1 .1 .1 .1 .0)) ∷ Row.off ∷ Row.off ∷ [];
+              ∷ (Row.lease (κs .1 .1 .1 .1 .0) (qs .1 .1 .1 .1 .0)) ∷ (Row.lease (κs .1 .1 .1 .1 .1 .0) (qs .1 .1 .1 .1 .1 .0)) ∷ Row.off ∷ Row.off ∷ [];
         }
 
         abbrev G25 : Row.Cx
         G25 = record {
-          locals = t13;
+          locals = t12;
           slots = (Row.lease (κs .0) (qs .0)) ∷ (Row.lease (κs .1 .0) (qs .1 .0)) ∷ (Row.lease (κs .1 .1 .0) (qs .1 .1 .0)) ∷ (Row.lease (κs .1 .1 .1 .0) (qs .1 .1 .1 .0))
-              ∷ (Row.lease (κs .1 .1 .1 .1 .0) (qs .1 .1 .1 .1 .0)) ∷ Row.off ∷ Row.off ∷ [];
+              ∷ (Row.lease (κs .1 .1 .1 .1 .0) (qs .1 .1 .1 .1 .0)) ∷ (Row.lease (κs .1 .1 .1 .1 .1 .0) (qs .1 .1 .1 .1 .1 .0)) ∷ Row.off ∷ Row.off ∷ [];
         }
 
         abbrev G26 : Row.Cx
         G26 = record {
-          locals = t14;
+          locals = t13;
           slots = (Row.lease (κs .0) (qs .0)) ∷ (Row.lease (κs .1 .0) (qs .1 .0)) ∷ (Row.lease (κs .1 .1 .0) (qs .1 .1 .0)) ∷ (Row.lease (κs .1 .1 .1 .0) (qs .1 .1 .1 .0))
-              ∷ (Row.lease (κs .1 .1 .1 .1 .0) (qs .1 .1 .1 .1 .0)) ∷ Row.off ∷ Row.off ∷ [];
+              ∷ (Row.lease (κs .1 .1 .1 .1 .0) (qs .1 .1 .1 .1 .0)) ∷ (Row.lease (κs .1 .1 .1 .1 .1 .0) (qs .1 .1 .1 .1 .1 .0)) ∷ Row.off ∷ Row.off ∷ [];
         }
 
         abbrev G27 : Row.Cx
         G27 = record {
           locals = t1;
           slots = (Row.lease (κs .0) (qs .0)) ∷ (Row.lease (κs .1 .0) (qs .1 .0)) ∷ (Row.lease (κs .1 .1 .0) (qs .1 .1 .0)) ∷ (Row.lease (κs .1 .1 .1 .0) (qs .1 .1 .1 .0)) ∷
-              (Row.lease (κs .1 .1 .1 .1 .0) (qs .1 .1 .1 .1 .0)) ∷ Row.off ∷ Row.off ∷ [];
+              (Row.lease (κs .1 .1 .1 .1 .0) (qs .1 .1 .1 .1 .0)) ∷ (Row.lease (κs .1 .1 .1 .1 .1 .0) (qs .1 .1 .1 .1 .1 .0)) ∷ Row.off ∷ Row.off ∷ [];
         }
 
         abbrev Δ0 : Typed.Outs
         Δ0 = record { next = Option.none; exits = []; returns = Option.some G1 }
 
         module _ {M : Type 1} (𝓤 : URA.URA M) (H : Wp.Heap 𝓤) (A : Atoms.Atoms 𝓤) (W : Kit.Given 𝓤 H A) (𝓣 : Wp.Tables 𝓤 H) (known : Knowns 𝓤 H A W 𝓣) (bs : List.List Nat.ℕ) (bd :
-            Lifetimes.AllOutlive 5 (Kinds.osR r) κs) where
+            Lifetimes.AllOutlive 6 (Kinds.osR r) κs) where
           abbrev E : Wp.Env 𝓤 H
           E = Frame.EnvOf 𝓤 H ((Kinds.tyR r) ∷ (Enter.tysP ps xs)) bs
 
@@ -850,129 +856,141 @@ module _ (claims· : Claims) where
           d1 = Typed.g-pre 𝓤 H A W 𝓣 E G26 G27 b6 Δ0 (Typed.pass T26 T27 s25) at0 (Scalar.g-room 𝓤 H A W E G26 9 (Syntax.tyInt Syntax.w64) (Scalar.room-sc 𝓤 H A W (Row.sInt Syntax.w64))) d0
 
           d2 : Typed.Typed 𝓤 H A 𝓣 E G25 b6 Δ0 at2
-          d2 = Typed.g-pre 𝓤 H A W 𝓣 E G25 G26 b6 Δ0 (Typed.pass T25 T26 s24) at1 (Scalar.g-room 𝓤 H A W E G25 2 (Syntax.tyInt Syntax.w16) (Scalar.room-sc 𝓤 H A W (Row.sInt Syntax.w16))) d1
+          d2 = Typed.g-pre 𝓤 H A W 𝓣 E G25 G26 b6 Δ0 (Typed.pass T25 T26 s24) at1 (Scalar.g-room 𝓤 H A W E G25 1 (Syntax.tyInt Syntax.w16) (Scalar.room-sc 𝓤 H A W (Row.sInt Syntax.w16))) d1
 
           d3 : Typed.Typed 𝓤 H A 𝓣 E G24 b6 Δ0 at3
-          d3 = Typed.g-pre 𝓤 H A W 𝓣 E G24 G25 b6 Δ0 (Typed.pass T24 T25 s23) at2 (Scalar.g-room 𝓤 H A W E G24 1 (Syntax.tyInt Syntax.w16) (Scalar.room-sc 𝓤 H A W (Row.sInt Syntax.w16))) d2
+          d3 = Typed.g-pre 𝓤 H A W 𝓣 E G24 G25 b6 Δ0 (Typed.pass T23 T25 s23) at2 (Scalar.g-room 𝓤 H A W E G24 10 (Syntax.tyArray (Lent.by-value) 2048) (Init.room-arr 𝓤 H A W (Lent.row) 2048 0 2048
+              Path'.refl)) d2
 
           d4 : Typed.Typed 𝓤 H A 𝓣 E G23 b6 Δ0 at4
-          d4 = Typed.g-pre 𝓤 H A W 𝓣 E G23 G24 b6 Δ0 (Typed.pass T22 T24 s22) at3 (Scalar.g-room 𝓤 H A W E G23 10 (Syntax.tyArray (Lent.by-value) 2048) (Init.room-arr 𝓤 H A W (Lent.row) 2048 0 2048
-              Path'.refl)) d3
+          d4 = Typed.g-pre 𝓤 H A W 𝓣 E G23 G24 b6 Δ0 (λ Ψ. Ψ) at3 (Lifetime.g-forget 𝓤 H A W E G23 7 Row.dead Path'.refl) d3
 
           d5 : Typed.Typed 𝓤 H A 𝓣 E G22 b6 Δ0 at5
-          d5 = Typed.g-pre 𝓤 H A W 𝓣 E G22 G23 b6 Δ0 (λ Ψ. Ψ) at4 (Lifetime.g-forget 𝓤 H A W E G22 6 Row.dead Path'.refl) d4
+          d5 = Typed.g-pre 𝓤 H A W 𝓣 E G22 G23 b6 Δ0 (Typed.pass T20 T23 s21) at4 (Share.g-back-arr-shrᵖ 𝓤 H A W E (Lent.row) G22 10 2048 7 (λ x. x) (Reads.as-is 𝓤 H A (Rows.arr-shrP (Lent.row) 2048
+              7)) Path'.refl) d4
 
           d6 : Typed.Typed 𝓤 H A 𝓣 E G21 b6 Δ0 at6
-          d6 = Typed.g-pre 𝓤 H A W 𝓣 E G21 G22 b6 Δ0 (Typed.pass T19 T22 s20) at5 (Share.g-back-arr-shrᵖ 𝓤 H A W E (Lent.row) G21 10 2048 6 (λ x. x) (Reads.as-is 𝓤 H A (Rows.arr-shrP (Lent.row) 2048
-              6)) Path'.refl) d5
+          d6 = Typed.g-pre 𝓤 H A W 𝓣 E G21 G22 b6 Δ0 (λ Ψ. Ψ) at5 (Lifetime.g-end 𝓤 H A W E G21 7 Path'.refl) d5
 
           d7 : Typed.Typed 𝓤 H A 𝓣 E G20 b6 Δ0 at7
-          d7 = Typed.g-pre 𝓤 H A W 𝓣 E G20 G21 b6 Δ0 (λ Ψ. Ψ) at6 (Lifetime.g-end 𝓤 H A W E G20 6 Path'.refl) d6
+          d7 = Typed.g-pre 𝓤 H A W 𝓣 E G20 G21 b6 Δ0 (λ Ψ. Ψ) at6 (Lifetime.g-forget 𝓤 H A W E G20 6 Row.dead Path'.refl) d6
 
           d8 : Typed.Typed 𝓤 H A 𝓣 E G19 b6 Δ0 at8
-          d8 = Typed.g-pre 𝓤 H A W 𝓣 E G19 G20 b6 Δ0 (λ Ψ. Ψ) at7 (Lifetime.g-forget 𝓤 H A W E G19 5 Row.dead Path'.refl) d7
+          d8 = Typed.g-pre 𝓤 H A W 𝓣 E G19 G20 b6 Δ0 (Typed.give s18) at7 (Know.g-sl-known 𝓤 H A W (Referent.fInt Syntax.w16) E G19 7 5 τ7 (Row.lease (κs .1 .1 .1 .1 .1 .0) (qs .1 .1 .1 .1 .1 .0)) 0
+              (λ x. x) record { fits = Dec'.lit< tt } (Reads.as-is 𝓤 H A (Mut.mslice (Referent.rtF (Referent.fInt Syntax.w16)) τ7 5)) Path'.refl tt) d7
 
           d9 : Typed.Typed 𝓤 H A 𝓣 E G18 b6 Δ0 at9
-          d9 = Typed.g-pre 𝓤 H A W 𝓣 E G18 G19 b6 Δ0 (Typed.give s17) at8 (Know.g-sl-known 𝓤 H A W (Referent.fInt Syntax.w16) E G18 7 4 τ6 (Row.lease (κs .1 .1 .1 .1 .0) (qs .1 .1 .1 .1 .0)) 0 (λ x.
-              x) record { fits = Dec'.lit< tt } (Reads.as-is 𝓤 H A (Mut.mslice (Referent.rtF (Referent.fInt Syntax.w16)) τ6 4)) Path'.refl tt) d8
+          d9 = Typed.g-pre 𝓤 H A W 𝓣 E G18 G19 b6 Δ0 (Typed.both s17) at8 (Relend.g-back-sl 𝓤 H A W E (Referent.rtF (Referent.fInt Syntax.w16)) G18 12 7 5 6 τ7 τ1 (Row.lease (κs .1 .1 .1 .1 .1 .0)
+              (qs .1 .1 .1 .1 .1 .0)) (λ x. x) (λ x. x) (Reads.as-is 𝓤 H A (Mut.msleft (Referent.rtF (Referent.fInt Syntax.w16)) τ1)) (Reads.as-is 𝓤 H A (Relend.mslice-owed (Referent.rtF
+              (Referent.fInt Syntax.w16)) τ7 5 6 (Row.lease (κs .1 .1 .1 .1 .1 .0) (qs .1 .1 .1 .1 .1 .0)))) Path'.refl Path'.refl) d8
 
           d10 : Typed.Typed 𝓤 H A 𝓣 E G17 b6 Δ0 at10
-          d10 = Typed.g-pre 𝓤 H A W 𝓣 E G17 G18 b6 Δ0 (Typed.both s16) at9 (Relend.g-back-sl 𝓤 H A W E (Referent.rtF (Referent.fInt Syntax.w16)) G17 12 7 4 5 τ6 τ1 (Row.lease (κs .1 .1 .1 .1 .0) (qs
-              .1 .1 .1 .1 .0)) (λ x. x) (λ x. x) (Reads.as-is 𝓤 H A (Mut.msleft (Referent.rtF (Referent.fInt Syntax.w16)) τ1)) (Reads.as-is 𝓤 H A (Relend.mslice-owed (Referent.rtF (Referent.fInt
-              Syntax.w16)) τ6 4 5 (Row.lease (κs .1 .1 .1 .1 .0) (qs .1 .1 .1 .1 .0)))) Path'.refl Path'.refl) d9
+          d10 = Typed.g-pre 𝓤 H A W 𝓣 E G17 G18 b6 Δ0 (λ Ψ. Ψ) at9 (Lifetime.g-end 𝓤 H A W E G17 6 Path'.refl) d9
 
           d11 : Typed.Typed 𝓤 H A 𝓣 E G16 b6 Δ0 at11
-          d11 = Typed.g-pre 𝓤 H A W 𝓣 E G16 G17 b6 Δ0 (λ Ψ. Ψ) at10 (Lifetime.g-end 𝓤 H A W E G16 5 Path'.refl) d10
+          d11 = Typed.g-pre 𝓤 H A W 𝓣 E G16 G17 b6 Δ0 (Typed.pass T16 T17 s15) at10 (Scalar.g-room 𝓤 H A W E G16 14 τ9 (Shared.room-sslice 𝓤 H A W (Lent.row) τ0 7)) d10
 
-          d12 : Typed.Typed 𝓤 H A 𝓣 E G15 b6 Δ0 at12
-          d12 = Typed.g-pre 𝓤 H A W 𝓣 E G15 G16 b6 Δ0 (Typed.pass T15 T16 s14) at11 (Scalar.g-room 𝓤 H A W E G15 14 τ8 (Shared.room-sslice 𝓤 H A W (Lent.row) τ0 6)) d11
-
-          d13 : Typed.Typed 𝓤 H A 𝓣 E G14 b7 Δ0 at13
-          d13 = Typed.s-seq 𝓤 H A W 𝓣 E G14 G15 b5 b6 Δ0 (Typed.both s13) at12 (Plain.t-call-plain 𝓤 H A W 𝓣 6 ps·0 r·0 (claims· .0) (claims· .1) "log::check_log" known E (λ pos β. β) G14 (
+          d12 : Typed.Typed 𝓤 H A 𝓣 E G15 b7 Δ0 at12
+          d12 = Typed.s-seq 𝓤 H A W 𝓣 E G15 G16 b5 b6 Δ0 (Typed.both s14) at11 (Plain.t-call-plain 𝓤 H A W 𝓣 7 ps·0 r·0 (claims· .0) (claims· .1) "log::check_log" known E (λ pos β. β) G15 (
             Num.vAt 1
                 λ x. x,
             (
-              Num.vAt 2 λ x. x,
+              record { pos = 2; ty = Syntax.tyRef (Syntax.named 0) Syntax.imm (Syntax.tyInt Syntax.w16); ref = λ x. x },
               (
-                record { pos = 3; ty = Syntax.tyRef (Syntax.named 0) Syntax.imm (Syntax.tyInt Syntax.w8); ref = λ x. x },
+                record {
+                  pos = 3;
+                  ty = Syntax.tyRef (Syntax.named 1) Syntax.imm
+                      (Syntax.tyInt Syntax.w8);
+                  ref = λ x. x;
+                },
                 (
-                  record {
-                    pos = 4;
-                    ty = Syntax.tyRef (Syntax.named
-                        1) Syntax.imm (Syntax.tyInt Syntax.w16);
-                    ref = λ x. x;
-                  },
+                  record { pos = 4; ty = Syntax.tyRef (Syntax.named 2) Syntax.imm (Syntax.tyInt Syntax.w16); ref = λ x. x },
                   (
-                    record { pos = 5; ty = Syntax.tyRef (Syntax.named 2) Syntax.imm (Syntax.tyInt Syntax.w16); ref = λ x. x },
+                    record {
+                      pos = 5;
+                      ty =
+                          Syntax.tyRef (Syntax.named 3) Syntax.imm (Syntax.tyInt Syntax.w16);
+                      ref = λ x. x;
+                    },
                     (
                       record {
                         pos = 6;
-                        ty = Syntax.tyRef (Syntax.named 3) Syntax.imm (Syntax.tyInt Syntax.w16);
-                        ref = λ x. x;
+                        ty = Syntax.tyRef (Syntax.named 4) Syntax.imm (Syntax.tyInt Syntax.w16);
+                        ref = λ
+                            x. x;
                       },
                       (
-                        record {
-                          pos = 12;
-                          ty = Syntax.tyRef Syntax.erased Syntax.mut (Syntax.tyInt Syntax.w16);
-                          ref =
-                              λ x. x;
-                        },
-                        (record { pos = 14; ty = Syntax.tyRef Syntax.erased Syntax.imm (Lent.pointed); ref = λ x. x }, tt),
+                        record { pos = 12; ty = Syntax.tyRef Syntax.erased Syntax.mut (Syntax.tyInt Syntax.w16); ref = λ x. x },
+                        (
+                          record {
+                            pos = 14;
+                            ty = Syntax.tyRef Syntax.erased Syntax.imm
+                                (Lent.pointed);
+                            ref = λ x. x;
+                          },
+                          tt,
+                        ),
                       ),
                     ),
                   ),
                 ),
               ),
             ),
-          ) 0 (0 ∷ 1 ∷ 2 ∷ 3 ∷ 5 ∷ 6 ∷ []) (Call.sub-id 𝓤 H A W (G14 .slots)) (
+          ) 0 (0 ∷ 1 ∷ 2 ∷ 3 ∷ 4 ∷ 6 ∷ 7 ∷ []) (Call.sub-id 𝓤 H A W (G15 .slots)) (
             (Scalar.reads-sc 𝓤 H A W (Row.sInt Syntax.w16), Path'.refl),
             (
-              (Scalar.reads-sc 𝓤 H A W (Row.sInt Syntax.w16), Path'.refl),
+              ShrSlice.spares-sslice 𝓤 H A W (Referent.rtF (Referent.fInt Syntax.w16)) τ3 0,
+              Shared.reads-sslice 𝓤 H A W (Referent.rtF (Referent.fInt Syntax.w16)) τ3 0,
+              Path'.refl,
               (
-                ShrSlice.spares-sslice 𝓤 H A W (Referent.rtF (Referent.fInt
-                    Syntax.w8)) τ2 0,
-                Shared.reads-sslice 𝓤 H A W (Referent.rtF (Referent.fInt Syntax.w8)) τ2 0,
+                ShrSlice.spares-sslice 𝓤 H A W (Referent.rtF (Referent.fInt Syntax.w8)) τ2 1,
+                Shared.reads-sslice 𝓤 H A W (Referent.rtF (Referent.fInt Syntax.w8)) τ2 1,
                 Path'.refl,
                 (
-                  ShrSlice.spares-sslice 𝓤 H A W (Referent.rtF (Referent.fInt Syntax.w16)) τ3 1,
-                  Shared.reads-sslice 𝓤 H A W (Referent.rtF (Referent.fInt Syntax.w16)) τ3 1,
+                  ShrSlice.spares-sslice 𝓤 H A W (Referent.rtF (Referent.fInt Syntax.w16)) τ4 2,
+                  Shared.reads-sslice 𝓤 H A W (Referent.rtF (Referent.fInt Syntax.w16)) τ4 2,
                   Path'.refl,
                   (
-                    ShrSlice.spares-sslice 𝓤 H A W (Referent.rtF (Referent.fInt Syntax.w16)) τ4 2,
-                    Shared.reads-sslice 𝓤 H A W (Referent.rtF (Referent.fInt Syntax.w16)) τ4 2,
+                    ShrSlice.spares-sslice 𝓤 H A W (Referent.rtF (Referent.fInt Syntax.w16)) τ5 3,
+                    Shared.reads-sslice 𝓤 H A W (Referent.rtF (Referent.fInt Syntax.w16)) τ5 3,
                     Path'.refl,
                     (
-                      ShrSlice.spares-sslice 𝓤 H A W (Referent.rtF (Referent.fInt Syntax.w16)) τ5 3,
-                      Shared.reads-sslice 𝓤 H A W (Referent.rtF (Referent.fInt Syntax.w16)) τ5 3,
+                      ShrSlice.spares-sslice 𝓤 H A W (Referent.rtF (Referent.fInt Syntax.w16)) τ6 4,
+                      Shared.reads-sslice 𝓤 H A W (Referent.rtF (Referent.fInt Syntax.w16)) τ6 4,
                       Path'.refl,
                       (
-                        Reads.as-is 𝓤 H A (Mut.mslice (Referent.rtF (Referent.fInt Syntax.w16)) τ1 5),
-                        Mut.reads-mslice
-                            𝓤 H A W (Referent.rtF (Referent.fInt Syntax.w16)) τ1 5,
+                        Reads.as-is 𝓤 H
+                            A (Mut.mslice (Referent.rtF (Referent.fInt Syntax.w16)) τ1 6),
+                        Mut.reads-mslice 𝓤 H A W (Referent.rtF (Referent.fInt Syntax.w16)) τ1 6,
                         Path'.refl,
-                        (ShrSlice.spares-sslice 𝓤 H A W (Lent.row) τ0 6, Shared.reads-sslice 𝓤 H A W (Lent.row) τ0 6, Path'.refl, tt),
+                        (
+                          ShrSlice.spares-sslice 𝓤 H A W
+                              (Lent.row) τ0 7,
+                          Shared.reads-sslice 𝓤 H A W (Lent.row) τ0 7,
+                          Path'.refl,
+                          tt,
+                        ),
                       ),
                     ),
                   ),
                 ),
               ),
             ),
-          )
-              (Reads.room-gone 𝓤 H A τ11) (tt, (tt, (tt, (tt, (tt, (tt, tt)))))) Path'.refl) d12
+          ) (Reads.room-gone 𝓤 H A τ12) (tt, (tt, (tt, (tt, (tt, (tt, (tt, tt))))))) Path'.refl) d11
 
-          d14 : Typed.Typed 𝓤 H A 𝓣 E G13 b8 Δ0 at14
-          d14 = Typed.s-seq 𝓤 H A W 𝓣 E G13 G14 b4 b7 Δ0 (Typed.ask s12) at13 (Relend.t-sl-aggregate 𝓤 H A W E (Lent.row) 𝓣 (Relend.asShr (Lent.row)) G13 13 14 6 τ7 τ0 (λ x. x) (Scalar.oAt 9
-              (Syntax.tyInt Syntax.w64) (Row.valS (Row.sInt Syntax.w64))) (Reads.as-is 𝓤 H A (Relend.ssptr (Lent.row) τ7 6)) (Reads.room-gone 𝓤 H A τ8) (
+          d13 : Typed.Typed 𝓤 H A 𝓣 E G14 b8 Δ0 at13
+          d13 = Typed.s-seq 𝓤 H A W 𝓣 E G14 G15 b4 b7 Δ0 (Typed.ask s13) at12 (Relend.t-sl-aggregate 𝓤 H A W E (Lent.row) 𝓣 (Relend.asShr (Lent.row)) G14 13 14 7 τ8 τ0 (λ x. x) (Scalar.oAt 9
+              (Syntax.tyInt Syntax.w64) (Row.valS (Row.sInt Syntax.w64))) (Reads.as-is 𝓤 H A (Relend.ssptr (Lent.row) τ8 7)) (Reads.room-gone 𝓤 H A τ9) (
                 Scalar.reads-sc 𝓤 H A W (Row.sInt Syntax.w64),
                 Path'.refl,
-              ) Path'.refl Path'.refl λ b o k. tt) d13
+              ) Path'.refl Path'.refl λ b o k. tt) d12
+
+          d14 : Typed.Typed 𝓤 H A 𝓣 E G13 b9 Δ0 at14
+          d14 = Typed.s-seq 𝓤 H A W 𝓣 E G13 G14 b3 b8 Δ0 (Typed.both s12) at13 (Share.t-arr-shareᵖ 𝓤 H A W E 𝓣 (Lent.row) G13 10 13 2048 7 τ8 (λ x. x) (λ u. u .1 .1 .1 .1 .1 .1 .1 .1 .1 .0)
+              (Reads.as-is 𝓤 H A (Rows.arrF (Lent.row) 2048 0)) (Reads.room-gone 𝓤 H A τ8) Path'.refl (λ b o. tt) (Dec'.lit< tt, Dec'.lit< tt)) d13
 
           d15 : Typed.Typed 𝓤 H A 𝓣 E G12 b9 Δ0 at15
-          d15 = Typed.s-seq 𝓤 H A W 𝓣 E G12 G13 b3 b8 Δ0 (Typed.both s11) at14 (Share.t-arr-shareᵖ 𝓤 H A W E 𝓣 (Lent.row) G12 10 13 2048 6 τ7 (λ x. x) (λ u. u .1 .1 .1 .1 .1 .1 .1 .1 .1 .0)
-              (Reads.as-is 𝓤 H A (Rows.arrF (Lent.row) 2048 0)) (Reads.room-gone 𝓤 H A τ7) Path'.refl (λ b o. tt) (Dec'.lit< tt, Dec'.lit< tt)) d14
-
-          d16 : Typed.Typed 𝓤 H A 𝓣 E G11 b9 Δ0 at16
-          d16 = Typed.g-pre 𝓤 H A W 𝓣 E G11 G12 b9 Δ0 (λ Ψ. Ψ) at15 (Lifetime.g-begin 𝓤 H A W E G11 6 (
+          d15 = Typed.g-pre 𝓤 H A W 𝓣 E G12 G13 b9 Δ0 (λ Ψ. Ψ) at14 (Lifetime.g-begin 𝓤 H A W E G12 7 (
             tt,
             (
               tt,
@@ -1017,98 +1035,101 @@ module _ (claims· : Claims) where
                 ),
               ),
             ),
-          )) d15
+          )) d14
 
-          d17 : Typed.Typed 𝓤 H A 𝓣 E G10 b10 Δ0 at17
-          d17 = Typed.s-seq 𝓤 H A W 𝓣 E G10 G11 b2 b9 Δ0 (Typed.ask s9) at16 (Relend.t-sl-aggregate 𝓤 H A W E (Referent.rtF (Referent.fInt Syntax.w16)) 𝓣 (Relend.asMut (Referent.rtF (Referent.fInt
-              Syntax.w16))) G10 11 12 5 τ1 τ1 (λ x. x) (Scalar.oFld 7 ((Syntax.field 1) ∷ []) (Syntax.tyInt Syntax.w64) 8 λ v. Shared.lenV (v .0)) (Reads.as-is 𝓤 H A (Relend.msptr (Referent.rtF
-              (Referent.fInt Syntax.w16)) τ1 5)) (Reads.room-gone 𝓤 H A τ9) (
-                Relend.reads-owed-len 𝓤 H A W (Referent.rtF (Referent.fInt Syntax.w16)) τ6 4 5 (Row.lease (κs .1 .1 .1 .1 .0) (qs .1 .1 .1
-                    .1 .0)) 8 Path'.refl,
+          d16 : Typed.Typed 𝓤 H A 𝓣 E G11 b10 Δ0 at16
+          d16 = Typed.s-seq 𝓤 H A W 𝓣 E G11 G12 b2 b9 Δ0 (Typed.ask s10) at15 (Relend.t-sl-aggregate 𝓤 H A W E (Referent.rtF (Referent.fInt Syntax.w16)) 𝓣 (Relend.asMut (Referent.rtF (Referent.fInt
+              Syntax.w16))) G11 11 12 6 τ1 τ1 (λ x. x) (Scalar.oFld 7 ((Syntax.field 1) ∷ []) (Syntax.tyInt Syntax.w64) 8 λ v. Shared.lenV (v .0)) (Reads.as-is 𝓤 H A (Relend.msptr (Referent.rtF
+              (Referent.fInt Syntax.w16)) τ1 6)) (Reads.room-gone 𝓤 H A τ10) (
+                Relend.reads-owed-len 𝓤 H A W (Referent.rtF (Referent.fInt Syntax.w16)) τ7 5 6 (Row.lease (κs .1 .1 .1 .1 .1 .0) (qs .1
+                    .1 .1 .1 .1 .0)) 8 Path'.refl,
                 Path'.refl,
-              ) Path'.refl Path'.refl λ b o k. tt) d16
+              ) Path'.refl Path'.refl λ b o k. tt) d15
+
+          d17 : Typed.Typed 𝓤 H A 𝓣 E G10 b11 Δ0 at17
+          d17 = Typed.s-seq 𝓤 H A W 𝓣 E G10 G11 b1 b10 Δ0 (Typed.give s9) at16 (Relend.t-sl-relend 𝓤 H A W E (Referent.rtF (Referent.fInt Syntax.w16)) 𝓣 G10 7 11 5 6 τ7 τ1 (Row.lease (κs .1 .1 .1 .1
+              .1 .0) (qs .1 .1 .1 .1 .1 .0)) 0 (λ x. x) (Reads.as-is 𝓤 H A (Mut.mslice (Referent.rtF (Referent.fInt Syntax.w16)) τ7 5)) (Reads.room-gone 𝓤 H A τ1) Path'.refl tt Path'.refl Path'.refl
+              Path'.refl λ b o. tt) d16
 
           d18 : Typed.Typed 𝓤 H A 𝓣 E G9 b11 Δ0 at18
-          d18 = Typed.s-seq 𝓤 H A W 𝓣 E G9 G10 b1 b10 Δ0 (Typed.give s8) at17 (Relend.t-sl-relend 𝓤 H A W E (Referent.rtF (Referent.fInt Syntax.w16)) 𝓣 G9 7 11 4 5 τ6 τ1 (Row.lease (κs .1 .1 .1 .1
-              .0) (qs .1 .1 .1 .1 .0)) 0 (λ x. x) (Reads.as-is 𝓤 H A (Mut.mslice (Referent.rtF (Referent.fInt Syntax.w16)) τ6 4)) (Reads.room-gone 𝓤 H A τ1) Path'.refl tt Path'.refl Path'.refl
-              Path'.refl λ b o. tt) d17
+          d18 = Typed.g-pre 𝓤 H A W 𝓣 E G9 G10 b11 Δ0 (λ Ψ. Ψ) at17 (Lifetime.g-begin 𝓤 H A W E G9 6 (tt, (tt, (tt, (tt, (tt, (tt, (tt, (tt, (tt, (tt, (tt, (tt, (tt, (tt, (tt, tt)))))))))))))))) d17
 
           d19 : Typed.Typed 𝓤 H A 𝓣 E G8 b11 Δ0 at19
-          d19 = Typed.g-pre 𝓤 H A W 𝓣 E G8 G9 b11 Δ0 (λ Ψ. Ψ) at18 (Lifetime.g-begin 𝓤 H A W E G8 5 (tt, (tt, (tt, (tt, (tt, (tt, (tt, (tt, (tt, (tt, (tt, (tt, (tt, (tt, (tt, tt)))))))))))))))) d18
+          d19 = Typed.g-pre 𝓤 H A W 𝓣 E G8 G9 b11 Δ0 (Typed.pass T8 T9 s7) at18 (Scalar.g-room 𝓤 H A W E G8 8 (Syntax.tyArray (Lent.by-value) 2048) (Init.room-arr 𝓤 H A W (Lent.row) 2048 0 2048
+              Path'.refl)) d18
 
-          d20 : Typed.Typed 𝓤 H A 𝓣 E G7 b11 Δ0 at20
-          d20 = Typed.g-pre 𝓤 H A W 𝓣 E G7 G8 b11 Δ0 (Typed.pass T7 T8 s6) at19 (Scalar.g-room 𝓤 H A W E G7 8 (Syntax.tyArray (Lent.by-value) 2048) (Init.room-arr 𝓤 H A W (Lent.row) 2048 0 2048
-              Path'.refl)) d19
-
-          d21 : Typed.Typed 𝓤 H A 𝓣 E G6 b12 Δ0 at21
-          d21 = Typed.s-seq 𝓤 H A W 𝓣 E G6 G7 b0 b11 Δ0 (Typed.pass T6 T7 s5) at20 (LocalCopy.t-val-copy 𝓤 H A W E 𝓣 (λ ρ. Unit) G6 8 10 (Array'.Array (Lent.row) 2048) (Syntax.tyArray (Lent.by-value)
-              2048) (Syntax.tyArray (Lent.by-value) 2048) (Rows.arrF (Lent.row) 2048 0) (Rows.arrF (Lent.row) 2048 0) (λ x. x) (λ x. x) (λ x. x) Path'.refl (Own.told-none 𝓤 H A (G6 .slots))
+          d20 : Typed.Typed 𝓤 H A 𝓣 E G7 b12 Δ0 at20
+          d20 = Typed.s-seq 𝓤 H A W 𝓣 E G7 G8 b0 b11 Δ0 (Typed.pass T7 T8 s6) at19 (LocalCopy.t-val-copy 𝓤 H A W E 𝓣 (λ ρ. Unit) G7 8 10 (Array'.Array (Lent.row) 2048) (Syntax.tyArray (Lent.by-value)
+              2048) (Syntax.tyArray (Lent.by-value) 2048) (Rows.arrF (Lent.row) 2048 0) (Rows.arrF (Lent.row) 2048 0) (λ x. x) (λ x. x) (λ x. x) Path'.refl (Own.told-none 𝓤 H A (G7 .slots))
               (Yields.yields-copy 𝓤 H A W (λ ρ. Unit) (Array'.Array (Lent.row) 2048) Path'.refl (Copies.cArr (Lent.row) (Lent.copies) 2048 .copy 𝓤 H A W) (Rows.arrF (Lent.row) 2048 0) (λ x. x) (λ x.
               x) (λ ρ told. Whole.mem-arr 𝓤 H A W (Lent.row) 2048 ρ) λ ρ told. Whole.arr-mem 𝓤 H A W (Lent.row) 2048 tt ρ) (Reads.room-gone 𝓤 H A (Syntax.tyArray (Lent.by-value) 2048))
               (Yields.makes-mem 𝓤 H A W (λ ρ. Unit) (Array'.Array (Lent.row) 2048) Path'.refl (Rows.arrF (Lent.row) 2048 0) (λ x. x) λ ρ told. Whole.arr-mem 𝓤 H A W (Lent.row) 2048 tt ρ) Path'.refl
-              Path'.refl) d20
+              Path'.refl) d19
+
+          d21 : Typed.Typed 𝓤 H A 𝓣 E G6 b12 Δ0 at21
+          d21 = Typed.g-pre 𝓤 H A W 𝓣 E G6 G7 b12 Δ0 (Typed.give s5) at20 (Know.g-sl-known 𝓤 H A W (Referent.fInt Syntax.w16) E G6 7 5 τ7 (Row.lease (κs .1 .1 .1 .1 .1 .0) (qs .1 .1 .1 .1 .1 .0)) 0
+              (λ x. x) record { fits = Dec'.lit< tt } (Reads.as-is 𝓤 H A (Mut.mslice (Referent.rtF (Referent.fInt Syntax.w16)) τ7 5)) Path'.refl tt) d20
 
           d22 : Typed.Typed 𝓤 H A 𝓣 E G5 b12 Δ0 at22
-          d22 = Typed.g-pre 𝓤 H A W 𝓣 E G5 G6 b12 Δ0 (Typed.give s4) at21 (Know.g-sl-known 𝓤 H A W (Referent.fInt Syntax.w16) E G5 7 4 τ6 (Row.lease (κs .1 .1 .1 .1 .0) (qs .1 .1 .1 .1 .0)) 0 (λ x.
-              x) record { fits = Dec'.lit< tt } (Reads.as-is 𝓤 H A (Mut.mslice (Referent.rtF (Referent.fInt Syntax.w16)) τ6 4)) Path'.refl tt) d21
+          d22 = Typed.g-pre 𝓤 H A W 𝓣 E G5 G6 b12 Δ0 (Typed.give s4) at21 (Know.g-shs-known 𝓤 H A W (Referent.fInt Syntax.w16) E G5 6 4 τ6 (Row.lease (κs .1 .1 .1 .1 .0) (qs .1 .1 .1 .1 .0)) 0 (λ x.
+              x) record { fits = Dec'.lit< tt } (Reads.as-is 𝓤 H A (Rows'.sslice (Referent.rtF (Referent.fInt Syntax.w16)) τ6 4)) Path'.refl tt) d21
 
           d23 : Typed.Typed 𝓤 H A 𝓣 E G4 b12 Δ0 at23
-          d23 = Typed.g-pre 𝓤 H A W 𝓣 E G4 G5 b12 Δ0 (Typed.give s3) at22 (Know.g-shs-known 𝓤 H A W (Referent.fInt Syntax.w16) E G4 6 3 τ5 (Row.lease (κs .1 .1 .1 .0) (qs .1 .1 .1 .0)) 0 (λ x. x)
+          d23 = Typed.g-pre 𝓤 H A W 𝓣 E G4 G5 b12 Δ0 (Typed.give s3) at22 (Know.g-shs-known 𝓤 H A W (Referent.fInt Syntax.w16) E G4 5 3 τ5 (Row.lease (κs .1 .1 .1 .0) (qs .1 .1 .1 .0)) 0 (λ x. x)
               record { fits = Dec'.lit< tt } (Reads.as-is 𝓤 H A (Rows'.sslice (Referent.rtF (Referent.fInt Syntax.w16)) τ5 3)) Path'.refl tt) d22
 
           d24 : Typed.Typed 𝓤 H A 𝓣 E G3 b12 Δ0 at24
-          d24 = Typed.g-pre 𝓤 H A W 𝓣 E G3 G4 b12 Δ0 (Typed.give s2) at23 (Know.g-shs-known 𝓤 H A W (Referent.fInt Syntax.w16) E G3 5 2 τ4 (Row.lease (κs .1 .1 .0) (qs .1 .1 .0)) 0 (λ x. x) record
+          d24 = Typed.g-pre 𝓤 H A W 𝓣 E G3 G4 b12 Δ0 (Typed.give s2) at23 (Know.g-shs-known 𝓤 H A W (Referent.fInt Syntax.w16) E G3 4 2 τ4 (Row.lease (κs .1 .1 .0) (qs .1 .1 .0)) 0 (λ x. x) record
               { fits = Dec'.lit< tt } (Reads.as-is 𝓤 H A (Rows'.sslice (Referent.rtF (Referent.fInt Syntax.w16)) τ4 2)) Path'.refl tt) d23
 
           d25 : Typed.Typed 𝓤 H A 𝓣 E G2 b12 Δ0 at25
-          d25 = Typed.g-pre 𝓤 H A W 𝓣 E G2 G3 b12 Δ0 (Typed.give s1) at24 (Know.g-shs-known 𝓤 H A W (Referent.fInt Syntax.w16) E G2 4 1 τ3 (Row.lease (κs .1 .0) (qs .1 .0)) 0 (λ x. x) record {
+          d25 = Typed.g-pre 𝓤 H A W 𝓣 E G2 G3 b12 Δ0 (Typed.give s1) at24 (Know.g-shs-known 𝓤 H A W (Referent.fInt Syntax.w8) E G2 3 1 τ2 (Row.lease (κs .1 .0) (qs .1 .0)) 0 (λ x. x) record {
             fits =
                 Dec'.lit< tt;
-          } (Reads.as-is 𝓤 H A (Rows'.sslice (Referent.rtF (Referent.fInt Syntax.w16)) τ3 1)) Path'.refl tt) d24
+          } (Reads.as-is 𝓤 H A (Rows'.sslice (Referent.rtF (Referent.fInt Syntax.w8)) τ2 1)) Path'.refl tt) d24
 
           d26 : Typed.Typed 𝓤 H A 𝓣 E G0 b12 Δ0 at26
-          d26 = Typed.g-pre 𝓤 H A W 𝓣 E G0 G2 b12 Δ0 (Typed.give s0) at25 (Know.g-shs-known 𝓤 H A W (Referent.fInt Syntax.w8) E G0 3 0 τ2 (Row.lease (κs .0) (qs .0)) 0 (λ x. x) record {
+          d26 = Typed.g-pre 𝓤 H A W 𝓣 E G0 G2 b12 Δ0 (Typed.give s0) at25 (Know.g-shs-known 𝓤 H A W (Referent.fInt Syntax.w16) E G0 2 0 τ3 (Row.lease (κs .0) (qs .0)) 0 (λ x. x) record {
             fits =
                 Dec'.lit< tt;
-          } (Reads.as-is 𝓤 H A (Rows'.sslice (Referent.rtF (Referent.fInt Syntax.w8)) τ2 0)) Path'.refl tt) d25
+          } (Reads.as-is 𝓤 H A (Rows'.sslice (Referent.rtF (Referent.fInt Syntax.w16)) τ3 0)) Path'.refl tt) d25
 
-          pub typed : Typed.Typed 𝓤 H A 𝓣 E (Function.Γin 5 ps r xs m κs qs) b12 (Function.Δret 5 ps r xs m κs qs) Φ
+          pub typed : Typed.Typed 𝓤 H A 𝓣 E (Function.Γin 6 ps r xs m κs qs) b12 (Function.Δret 6 ps r xs m κs qs) Φ
           typed = d26
 
-      module _ (κs : Lifetimes.Lfts 5) where
+      module _ (κs : Lifetimes.Lfts 6) where
         pub record Args : Type 0 where
-          pub hours : Kinds.Den {n = 5} κs (Num.pNum Syntax.w16)
-          pub capacity : Kinds.Den {n = 5} κs (Num.pNum Syntax.w16)
-          pub calendars : Kinds.Den {n = 5} κs (ShrSlice.pShrS (Referent.rtF (Referent.fInt Syntax.w8)) 0 tt)
-          pub task-calendars : Kinds.Den {n = 5} κs (ShrSlice.pShrS (Referent.rtF (Referent.fInt Syntax.w16)) 1 tt)
-          pub work-times : Kinds.Den {n = 5} κs (ShrSlice.pShrS (Referent.rtF (Referent.fInt Syntax.w16)) 2 tt)
-          pub heights : Kinds.Den {n = 5} κs (ShrSlice.pShrS (Referent.rtF (Referent.fInt Syntax.w16)) 3 tt)
-          pub boxes : Kinds.Den {n = 5} κs (MutSlice.pMutS (Referent.rtF (Referent.fInt Syntax.w16)) 4 tt)
-          pub t8 : Kinds.Den {n = 5} κs (Array.pArr (Lent.elem) (Lent.elem-laws) 2048)
-          pub count : Kinds.Den {n = 5} κs (Num.pNum Syntax.w64)
+          pub hours : Kinds.Den {n = 6} κs (Num.pNum Syntax.w16)
+          pub capacities : Kinds.Den {n = 6} κs (ShrSlice.pShrS (Referent.rtF (Referent.fInt Syntax.w16)) 0 tt)
+          pub calendars : Kinds.Den {n = 6} κs (ShrSlice.pShrS (Referent.rtF (Referent.fInt Syntax.w8)) 1 tt)
+          pub task-calendars : Kinds.Den {n = 6} κs (ShrSlice.pShrS (Referent.rtF (Referent.fInt Syntax.w16)) 2 tt)
+          pub work-times : Kinds.Den {n = 6} κs (ShrSlice.pShrS (Referent.rtF (Referent.fInt Syntax.w16)) 3 tt)
+          pub heights : Kinds.Den {n = 6} κs (ShrSlice.pShrS (Referent.rtF (Referent.fInt Syntax.w16)) 4 tt)
+          pub boxes : Kinds.Den {n = 6} κs (MutSlice.pMutS (Referent.rtF (Referent.fInt Syntax.w16)) 5 tt)
+          pub t8 : Kinds.Den {n = 6} κs (Array.pArr (Lent.elem) (Lent.elem-laws) 2048)
+          pub count : Kinds.Den {n = 6} κs (Num.pNum Syntax.w64)
 
         abbrev pub dens : (a : Args) → Kinds.Dens κs ps
-        dens = λ a. (a .hours, (a .capacity, (a .calendars, (a .task-calendars, (a .work-times, (a .heights, (a .boxes, (a .t8, (a .count, tt)))))))))
+        dens = λ a. (a .hours, (a .capacities, (a .calendars, (a .task-calendars, (a .work-times, (a .heights, (a .boxes, (a .t8, (a .count, tt)))))))))
 
         module _ (args· : Args) where
           pub record Ranges : Type 0 where
             pub hours : Val.Fits Syntax.w16 (args· .hours)
-            pub capacity : Val.Fits Syntax.w16 (args· .capacity)
             pub count : Val.Fits Syntax.w64 (args· .count)
 
-      abbrev pub m0 : (κs : Lifetimes.Lfts 5) → (args : Args κs) → Typed.Mo T0
+      abbrev pub m0 : (κs : Lifetimes.Lfts 6) → (args : Args κs) → Typed.Mo T0
       m0 = λ κs args. (tt, Enter.partsP κs 1 ps xs (dens κs args))
 
-      abbrev W0 : (κs : Lifetimes.Lfts 5) → (args : Args κs) → Typed.Want O0
+      abbrev W0 : (κs : Lifetimes.Lfts 6) → (args : Args κs) → Typed.Want O0
       W0 = λ κs args. (
         λ u. ⊥,
         tt,
-        λ u. Enter.Fixs κs 1 ps xs (dens κs args) (u .1) × Post· κs (dens κs args) (Function.resV r κs (u .0)) (Clauses.atExit (Kinds.endedOf 5 ps r) κs (dens κs args)
+        λ u. Enter.Fixs κs 1 ps xs (dens κs args) (u .1) × Post· κs (dens κs args) (Function.resV r κs (u .0)) (Clauses.atExit (Kinds.endedOf 6 ps r) κs (dens κs args)
             (Enter.lastsP κs 1 ps xs (dens κs args) (u .1))),
       )
 
       pub record Start : Type 0 where
-        pub κs : Lifetimes.Lfts 5
+        pub κs : Lifetimes.Lfts 6
         pub args : Args κs
         pub good : Kinds.GoodsP κs ps (dens κs args)
         pub fits : Ranges κs args
@@ -1161,92 +1182,100 @@ module _ (claims· : Claims) where
       abbrev pub m5 : (before : After-shared-slice-known4) → (given : s4 .gives (m4 (before .before) (before .shared-slice-known4 .given))) → Typed.Mo T6
       m5 = λ before given. s4 .next (m4 (before .before) (before .shared-slice-known4 .given)) given
 
-      abbrev pub m6 : (before : After-shared-slice-known4) → (given : s4 .gives (m4 (before .before) (before .shared-slice-known4 .given))) → Typed.Mo T7
-      m6 = λ before given. s5 (m5 before given)
-
-      abbrev pub m7 : (before : After-shared-slice-known4) → (given : s4 .gives (m4 (before .before) (before .shared-slice-known4 .given))) → Typed.Mo T8
-      m7 = λ before given. s6 (m6 before given)
-
       module _ (before· : After-shared-slice-known4) where
-        pub record After-slice-known·own : Type 0 where
+        pub record After-shared-slice-known5·own : Type 0 where
           pub given : s4 .gives (m4 (before· .before) (before· .shared-slice-known4 .given))
 
-      pub record After-slice-known : Type 0 where
+      pub record After-shared-slice-known5 : Type 0 where
         pub before : After-shared-slice-known4
+        pub shared-slice-known5 : After-shared-slice-known5·own before
+
+      abbrev pub m6 : (before : After-shared-slice-known5) → (given : s5 .gives (m5 (before .before) (before .shared-slice-known5 .given))) → Typed.Mo T7
+      m6 = λ before given. s5 .next (m5 (before .before) (before .shared-slice-known5 .given)) given
+
+      abbrev pub m7 : (before : After-shared-slice-known5) → (given : s5 .gives (m5 (before .before) (before .shared-slice-known5 .given))) → Typed.Mo T8
+      m7 = λ before given. s6 (m6 before given)
+
+      abbrev pub m8 : (before : After-shared-slice-known5) → (given : s5 .gives (m5 (before .before) (before .shared-slice-known5 .given))) → Typed.Mo T9
+      m8 = λ before given. s7 (m7 before given)
+
+      module _ (before· : After-shared-slice-known5) where
+        pub record After-slice-known·own : Type 0 where
+          pub given : s5 .gives (m5 (before· .before) (before· .shared-slice-known5 .given))
+
+      pub record After-slice-known : Type 0 where
+        pub before : After-shared-slice-known5
         pub slice-known : After-slice-known·own before
 
-      abbrev pub m8 : (before : After-slice-known) → (given : s8 .gives (m7 (before .before) (before .slice-known .given))) → Typed.Mo T10
-      m8 = λ before given. s8 .next (m7 (before .before) (before .slice-known .given)) given
+      abbrev pub m9 : (before : After-slice-known) → (given : s9 .gives (m8 (before .before) (before .slice-known .given))) → Typed.Mo T11
+      m9 = λ before given. s9 .next (m8 (before .before) (before .slice-known .given)) given
 
-      abbrev pub m9 : (before : After-slice-known) → (given : s8 .gives (m7 (before .before) (before .slice-known .given))) → Typed.Mo T11
-      m9 = λ before given. s9 .next (m8 before given)
+      abbrev pub m10 : (before : After-slice-known) → (given : s9 .gives (m8 (before .before) (before .slice-known .given))) → Typed.Mo T12
+      m10 = λ before given. s10 .next (m9 before given)
 
       module _ (before· : After-slice-known) where
         pub record After-check-log-arg·own : Type 0 where
-          pub given : s8 .gives (m7 (before· .before) (before· .slice-known .given))
+          pub given : s9 .gives (m8 (before· .before) (before· .slice-known .given))
 
       pub record After-check-log-arg : Type 0 where
         pub before : After-slice-known
         pub check-log-arg : After-check-log-arg·own before
 
       abbrev pub Need-array-share-prefix-log : Type 0
-      Need-array-share-prefix-log = (c : After-check-log-arg) → s11 .asks (m9 (c .before) (c .check-log-arg .given))
+      Need-array-share-prefix-log = (c : After-check-log-arg) → s12 .asks (m10 (c .before) (c .check-log-arg .given))
 
-      abbrev pub m10 : (before : After-check-log-arg) → (given : s11 .gives (m9 (before .before) (before .check-log-arg .given))) → Typed.Mo T13
-      m10 = λ before given. s11 .next (m9 (before .before) (before .check-log-arg .given)) given
+      abbrev pub m11 : (before : After-check-log-arg) → (given : s12 .gives (m10 (before .before) (before .check-log-arg .given))) → Typed.Mo T14
+      m11 = λ before given. s12 .next (m10 (before .before) (before .check-log-arg .given)) given
 
       module _ (before· : After-check-log-arg) where
         pub record After-log·own : Type 0 where
-          pub given : s11 .gives (m9 (before· .before) (before· .check-log-arg .given))
+          pub given : s12 .gives (m10 (before· .before) (before· .check-log-arg .given))
 
       pub record After-log : Type 0 where
         pub before : After-check-log-arg
         pub log : After-log·own before
 
       abbrev pub Need-slice-aggregate-check-log : Type 0
-      Need-slice-aggregate-check-log = (c : After-log) → Relend.CountIs T13 13 14 (λ x. x) (λ u. u .1 .1 .1 .1 .1 .1 .1 .1 .1 .0) (m10 (c .before) (c .log .given))
+      Need-slice-aggregate-check-log = (c : After-log) → Relend.CountIs T14 13 14 (λ x. x) (λ u. u .1 .1 .1 .1 .1 .1 .1 .1 .1 .0) (m11 (c .before) (c .log .given))
 
-      abbrev pub m11 : (before : After-check-log-arg) → (given : s11 .gives (m9 (before .before) (before .check-log-arg .given))) → Typed.Mo T14
-      m11 = λ before given. s12 .next (m10 before given)
+      abbrev pub m12 : (before : After-check-log-arg) → (given : s12 .gives (m10 (before .before) (before .check-log-arg .given))) → Typed.Mo T15
+      m12 = λ before given. s13 .next (m11 before given)
 
       abbrev pub Need-check-log-requires : Type 0
-      Need-check-log-requires = (c : After-log) → s13 .asks (m11 (c .before) (c .log .given))
+      Need-check-log-requires = (c : After-log) → s14 .asks (m12 (c .before) (c .log .given))
 
-      abbrev pub m12 : (before : After-log) → (given : s13 .gives (m11 (before .before) (before .log .given))) → Typed.Mo T15
-      m12 = λ before given. s13 .next (m11 (before .before) (before .log .given)) given
+      abbrev pub m13 : (before : After-log) → (given : s14 .gives (m12 (before .before) (before .log .given))) → Typed.Mo T16
+      m13 = λ before given. s14 .next (m12 (before .before) (before .log .given)) given
 
       module _ (before· : After-log) where
         abbrev pub After-check-log·own : Type 0
-        After-check-log·own = Called.Called ps·0 r·0 (claims· .1) T14 (
+        After-check-log·own = Called.Called ps·0 r·0 (claims· .1) T15 (
           Num.vAt 1 λ x. x,
           (
-            Num.vAt 2 λ x. x,
+            record { pos = 2; ty = Syntax.tyRef (Syntax.named 0) Syntax.imm (Syntax.tyInt Syntax.w16); ref = λ x. x },
             (
-              record {
-                pos = 3;
-                ty = Syntax.tyRef (Syntax.named 0) Syntax.imm (Syntax.tyInt Syntax.w8);
-                ref = λ x. x;
-              },
+              record { pos = 3; ty = Syntax.tyRef (Syntax.named 1) Syntax.imm (Syntax.tyInt Syntax.w8); ref = λ x. x },
               (
-                record { pos = 4; ty = Syntax.tyRef (Syntax.named 1) Syntax.imm (Syntax.tyInt Syntax.w16); ref = λ x. x },
+                record {
+                  pos = 4;
+                  ty = Syntax.tyRef (Syntax.named 2) Syntax.imm (Syntax.tyInt
+                      Syntax.w16);
+                  ref = λ x. x;
+                },
                 (
-                  record {
-                    pos = 5;
-                    ty = Syntax.tyRef (Syntax.named 2)
-                        Syntax.imm (Syntax.tyInt Syntax.w16);
-                    ref = λ x. x;
-                  },
+                  record { pos = 5; ty = Syntax.tyRef (Syntax.named 3) Syntax.imm (Syntax.tyInt Syntax.w16); ref = λ x. x },
                   (
-                    record { pos = 6; ty = Syntax.tyRef (Syntax.named 3) Syntax.imm (Syntax.tyInt Syntax.w16); ref = λ x. x },
+                    record {
+                      pos = 6;
+                      ty = Syntax.tyRef
+                          (Syntax.named 4) Syntax.imm (Syntax.tyInt Syntax.w16);
+                      ref = λ x. x;
+                    },
                     (
-                      record {
-                        pos = 12;
-                        ty
-                            = Syntax.tyRef Syntax.erased Syntax.mut (Syntax.tyInt Syntax.w16);
-                        ref = λ x. x;
-                      },
+                      record { pos = 12; ty = Syntax.tyRef Syntax.erased Syntax.mut (Syntax.tyInt Syntax.w16); ref = λ x. x },
                       (
-                        record { pos = 14; ty = Syntax.tyRef Syntax.erased Syntax.imm (Lent.pointed); ref = λ x. x },
+                        record
+                            { pos = 14; ty = Syntax.tyRef Syntax.erased Syntax.imm (Lent.pointed); ref = λ x. x },
                         tt,
                       ),
                     ),
@@ -1255,44 +1284,48 @@ module _ (claims· : Claims) where
               ),
             ),
           ),
-        ) (m11 (before· .before) (before· .log .given))
+        ) (m12 (before· .before) (before· .log .given))
 
       pub record After-check-log : Type 0 where
         pub before : After-log
         pub check-log : After-check-log·own before
 
-      abbrev pub After-check-log·gave : (c : After-check-log) → s13 .gives (m11 (c .before .before) (c .before .log .given))
-      After-check-log·gave = λ c. Called.given ps·0 r·0 (claims· .1) T14 (
+      abbrev pub After-check-log·gave : (c : After-check-log) → s14 .gives (m12 (c .before .before) (c .before .log .given))
+      After-check-log·gave = λ c. Called.given ps·0 r·0 (claims· .1) T15 (
         Num.vAt 1 λ x. x,
         (
-          Num.vAt 2 λ x. x,
+          record {
+            pos = 2;
+            ty = Syntax.tyRef (Syntax.named 0) Syntax.imm (Syntax.tyInt Syntax.w16);
+            ref = λ x. x;
+          },
           (
-            record {
-              pos = 3;
-              ty = Syntax.tyRef (Syntax.named 0) Syntax.imm (Syntax.tyInt
-                  Syntax.w8);
-              ref = λ x. x;
-            },
+            record { pos = 3; ty = Syntax.tyRef (Syntax.named 1) Syntax.imm (Syntax.tyInt Syntax.w8); ref = λ x. x },
             (
-              record { pos = 4; ty = Syntax.tyRef (Syntax.named 1) Syntax.imm (Syntax.tyInt Syntax.w16); ref = λ x. x },
+              record {
+                pos = 4;
+                ty = Syntax.tyRef (Syntax.named 2) Syntax.imm (Syntax.tyInt
+                    Syntax.w16);
+                ref = λ x. x;
+              },
               (
-                record {
-                  pos = 5;
-                  ty = Syntax.tyRef (Syntax.named
-                      2) Syntax.imm (Syntax.tyInt Syntax.w16);
-                  ref = λ x. x;
-                },
+                record { pos = 5; ty = Syntax.tyRef (Syntax.named 3) Syntax.imm (Syntax.tyInt Syntax.w16); ref = λ x. x },
                 (
-                  record { pos = 6; ty = Syntax.tyRef (Syntax.named 3) Syntax.imm (Syntax.tyInt Syntax.w16); ref = λ x. x },
+                  record {
+                    pos = 6;
+                    ty = Syntax.tyRef (Syntax.named
+                        4) Syntax.imm (Syntax.tyInt Syntax.w16);
+                    ref = λ x. x;
+                  },
                   (
-                    record {
-                      pos = 12;
-                      ty
-                          = Syntax.tyRef Syntax.erased Syntax.mut (Syntax.tyInt Syntax.w16);
-                      ref = λ x. x;
-                    },
+                    record { pos = 12; ty = Syntax.tyRef Syntax.erased Syntax.mut (Syntax.tyInt Syntax.w16); ref = λ x. x },
                     (
-                      record { pos = 14; ty = Syntax.tyRef Syntax.erased Syntax.imm (Lent.pointed); ref = λ x. x },
+                      record {
+                        pos = 14;
+                        ty =
+                            Syntax.tyRef Syntax.erased Syntax.imm (Lent.pointed);
+                        ref = λ x. x;
+                      },
                       tt,
                     ),
                   ),
@@ -1301,43 +1334,40 @@ module _ (claims· : Claims) where
             ),
           ),
         ),
-      ) (m11 (c .before .before) (c .before .log .given)) (c .check-log)
+      ) (m12 (c .before .before) (c .before .log .given)) (c .check-log)
 
-      abbrev pub m13 : (before : After-log) → (given : s13 .gives (m11 (before .before) (before .log .given))) → Typed.Mo T16
-      m13 = λ before given. s14 (m12 before given)
+      abbrev pub m14 : (before : After-log) → (given : s14 .gives (m12 (before .before) (before .log .given))) → Typed.Mo T17
+      m14 = λ before given. s15 (m13 before given)
 
-      abbrev pub m14 : (before : After-check-log) → (given : s16 .gives (m13 (before .before) (After-check-log·gave before))) → Typed.Mo T18
-      m14 = λ before given. s16 .next (m13 (before .before) (After-check-log·gave before)) given
+      abbrev pub m15 : (before : After-check-log) → (given : s17 .gives (m14 (before .before) (After-check-log·gave before))) → Typed.Mo T19
+      m15 = λ before given. s17 .next (m14 (before .before) (After-check-log·gave before)) given
 
       module _ (before· : After-check-log) where
         pub record After-boxes·own : Type 0 where
-          pub given : s16 .gives (m13 (before· .before) (After-check-log·gave before·))
+          pub given : s17 .gives (m14 (before· .before) (After-check-log·gave before·))
 
       pub record After-boxes : Type 0 where
         pub before : After-check-log
         pub boxes : After-boxes·own before
 
-      abbrev pub m15 : (before : After-boxes) → (given : s17 .gives (m14 (before .before) (before .boxes .given))) → Typed.Mo T19
-      m15 = λ before given. s17 .next (m14 (before .before) (before .boxes .given)) given
+      abbrev pub m16 : (before : After-boxes) → (given : s18 .gives (m15 (before .before) (before .boxes .given))) → Typed.Mo T20
+      m16 = λ before given. s18 .next (m15 (before .before) (before .boxes .given)) given
 
-      abbrev pub m16 : (before : After-boxes) → (given : s17 .gives (m14 (before .before) (before .boxes .given))) → Typed.Mo T22
-      m16 = λ before given. s20 (m15 before given)
+      abbrev pub m17 : (before : After-boxes) → (given : s18 .gives (m15 (before .before) (before .boxes .given))) → Typed.Mo T23
+      m17 = λ before given. s21 (m16 before given)
 
-      abbrev pub m17 : (before : After-boxes) → (given : s17 .gives (m14 (before .before) (before .boxes .given))) → Typed.Mo T24
-      m17 = λ before given. s22 (m16 before given)
-
-      abbrev pub m18 : (before : After-boxes) → (given : s17 .gives (m14 (before .before) (before .boxes .given))) → Typed.Mo T25
+      abbrev pub m18 : (before : After-boxes) → (given : s18 .gives (m15 (before .before) (before .boxes .given))) → Typed.Mo T25
       m18 = λ before given. s23 (m17 before given)
 
-      abbrev pub m19 : (before : After-boxes) → (given : s17 .gives (m14 (before .before) (before .boxes .given))) → Typed.Mo T26
+      abbrev pub m19 : (before : After-boxes) → (given : s18 .gives (m15 (before .before) (before .boxes .given))) → Typed.Mo T26
       m19 = λ before given. s24 (m18 before given)
 
-      abbrev pub m20 : (before : After-boxes) → (given : s17 .gives (m14 (before .before) (before .boxes .given))) → Typed.Mo T27
+      abbrev pub m20 : (before : After-boxes) → (given : s18 .gives (m15 (before .before) (before .boxes .given))) → Typed.Mo T27
       m20 = λ before given. s25 (m19 before given)
 
       module _ (before· : After-boxes) where
         pub record After-slice-known2·own : Type 0 where
-          pub given : s17 .gives (m14 (before· .before) (before· .boxes .given))
+          pub given : s18 .gives (m15 (before· .before) (before· .boxes .given))
 
       pub record After-slice-known2 : Type 0 where
         pub before : After-boxes
@@ -1345,27 +1375,28 @@ module _ (claims· : Claims) where
 
       abbrev pub Need-same-length : Type 0
       Need-same-length = (c : After-slice-known2) → MutSlice.SameLen (Row.get 7 (T27 .locals) (m20 (c .before) (c .slice-known2 .given))) (dens (c .before .before .before .before .before .before
-          .before .before .before .before .κs) (c .before .before .before .before .before .before .before .before .before .before .args) .1 .1 .1 .1 .1 .1 .0)
+          .before .before .before .before .before .κs) (c .before .before .before .before .before .before .before .before .before .before .before .args) .1 .1 .1 .1 .1 .1 .0)
 
       abbrev pub Need-returns : Type 0
-      Need-returns = (c : After-slice-known2) → Post· (c .before .before .before .before .before .before .before .before .before .before .κs) (dens (c .before .before .before .before .before .before
-          .before .before .before .before .κs) (c .before .before .before .before .before .before .before .before .before .before .args)) (Function.resV r (c .before .before .before .before .before
-          .before .before .before .before .before .κs) (m20 (c .before) (c .slice-known2 .given) .0)) (Clauses.atExit (Kinds.endedOf 5 ps r) (c .before .before .before .before .before .before .before
-          .before .before .before .κs) (dens (c .before .before .before .before .before .before .before .before .before .before .κs) (c .before .before .before .before .before .before .before .before
-          .before .before .args)) (Enter.lastsP (c .before .before .before .before .before .before .before .before .before .before .κs) 1 ps xs (dens (c .before .before .before .before .before
-          .before .before .before .before .before .κs) (c .before .before .before .before .before .before .before .before .before .before .args)) (m20 (c .before) (c .slice-known2 .given) .1)))
+      Need-returns = (c : After-slice-known2) → Post· (c .before .before .before .before .before .before .before .before .before .before .before .κs) (dens (c .before .before .before .before .before
+          .before .before .before .before .before .before .κs) (c .before .before .before .before .before .before .before .before .before .before .before .args)) (Function.resV r (c .before .before
+          .before .before .before .before .before .before .before .before .before .κs) (m20 (c .before) (c .slice-known2 .given) .0)) (Clauses.atExit (Kinds.endedOf 6 ps r) (c .before .before .before
+          .before .before .before .before .before .before .before .before .κs) (dens (c .before .before .before .before .before .before .before .before .before .before .before .κs) (c .before .before
+          .before .before .before .before .before .before .before .before .before .args)) (Enter.lastsP (c .before .before .before .before .before .before .before .before .before .before .before .κs)
+          1 ps xs (dens (c .before .before .before .before .before .before .before .before .before .before .before .κs) (c .before .before .before .before .before .before .before .before .before
+          .before .before .args)) (m20 (c .before) (c .slice-known2 .given) .1)))
 
       module _ (array-share-prefix-log : Need-array-share-prefix-log) (slice-aggregate-check-log : Need-slice-aggregate-check-log) (check-log-requires : Need-check-log-requires) (same-length :
           Need-same-length) (returns : Need-returns) where
-        lay1 : (c : After-check-log) → at12 (W0 (c .before .before .before .before .before .before .before .before .κs) (c .before .before .before .before .before .before .before .before .args)) (m12
-            (c .before) (After-check-log·gave c))
+        lay1 : (c : After-check-log) → at11 (W0 (c .before .before .before .before .before .before .before .before .before .κs) (c .before .before .before .before .before .before .before .before
+            .before .args)) (m13 (c .before) (After-check-log·gave c))
         lay1 = λ c. (
           Path'.refl,
           λ g. λ g'. (
             (
               tt,
               (
-                tt,
+                Path'.refl,
                 (
                   Path'.refl,
                   (
@@ -1377,18 +1408,17 @@ module _ (claims· : Claims) where
                         (
                           MutSlice.fix-len (Row.get 7 (T27 .locals) (m20 record {
                             before = record {
-                              before = c
-                                  .before;
+                              before =
+                                  c .before;
                               check-log = c .check-log;
                             };
                             boxes = record { given = g };
                           } g') .ptr) (Row.get 7 (T27 .locals) (m20 record {
                             before = record { before = c .before; check-log = c .check-log };
-                            boxes
-                                = record { given = g };
-                          } g') .name) (Row.get 7 (T27 .locals) (m20 record { before = record { before = c .before; check-log = c .check-log }; boxes = record { given = g } } g') .now) (dens
-                              (c .before .before .before .before .before .before .before .before .κs) (c .before .before .before .before .before .before .before .before .args) .1 .1 .1 .1 .1 .1 .0 .now) (same-length
-                              record { before = record { before = record { before = c .before; check-log = c .check-log }; boxes = record { given = g } }; slice-known2 = record { given = g' } }),
+                            boxes = record { given = g };
+                          } g') .name) (Row.get 7 (T27 .locals) (m20 record { before = record { before = c .before; check-log = c .check-log }; boxes = record { given = g } } g') .now)
+                              (dens (c .before .before .before .before .before .before .before .before .before .κs) (c .before .before .before .before .before .before .before .before .before .args) .1 .1 .1 .1 .1 .1
+                              .0 .now) (same-length record { before = record { before = record { before = c .before; check-log = c .check-log }; boxes = record { given = g } }; slice-known2 = record { given = g' } }),
                           (tt, (tt, tt)),
                         ),
                       ),
@@ -1397,12 +1427,18 @@ module _ (claims· : Claims) where
                 ),
               ),
             ),
-            returns record { before = record { before = record { before = c .before; check-log = c .check-log }; boxes = record { given = g } }; slice-known2 = record { given = g' } },
+            returns record {
+              before = record { before = record { before = c .before; check-log = c .check-log }; boxes = record { given = g } };
+              slice-known2 = record {
+                given =
+                    g';
+              };
+            },
           ),
         )
 
         pub laid : (c : Start) → at26 (W0 (c .κs) (c .args)) (m0 (c .κs) (c .args))
-        laid = λ c. λ g. λ g'. λ g''. λ g'3. λ g'4. λ g'5. (
+        laid = λ c. λ g. λ g'. λ g''. λ g'3. λ g'4. λ g'5. λ g'6. (
           Path'.refl,
           (
             array-share-prefix-log record {
@@ -1410,187 +1446,183 @@ module _ (claims· : Claims) where
                 before = record {
                   before = record {
                     before = record {
-                      before = record {
-                        before = c;
-                        shared-slice-known = record { given = g };
-                      };
-                      shared-slice-known2 = record { given = g' };
-                    };
-                    shared-slice-known3 = record { given = g'' };
-                  };
-                  shared-slice-known4 = record {
-                    given =
-                        g'3;
-                  };
-                };
-                slice-known = record { given = g'4 };
-              };
-              check-log-arg = record { given = g'5 };
-            },
-            λ g'6. (
-              Relend.count-is T13 13 14 (λ x. x) (λ u. u .1 .1 .1 .1 .1 .1 .1 .1 .1 .0) (m10 record {
-                before = record {
-                  before = record {
-                    before = record {
-                      before = record {
-                        before = record { before = c; shared-slice-known = record { given = g } };
-                        shared-slice-known2 = record {
-                          given =
-                              g';
-                        };
-                      };
+                      before = record
+                          { before = record { before = c; shared-slice-known = record { given = g } }; shared-slice-known2 = record { given = g' } };
                       shared-slice-known3 = record { given = g'' };
                     };
                     shared-slice-known4 = record { given = g'3 };
                   };
-                  slice-known = record { given = g'4 };
+                  shared-slice-known5 = record { given = g'4 };
                 };
-                check-log-arg = record { given = g'5 };
-              } g'6)
-                  (slice-aggregate-check-log record {
-                    before = record {
-                      before = record {
-                        before = record {
-                          before = record {
-                            before = record {
-                              before = record {
-                                before = c;
-                                shared-slice-known = record
-                                    { given = g };
-                              };
-                              shared-slice-known2 = record { given = g' };
-                            };
-                            shared-slice-known3 = record { given = g'' };
-                          };
-                          shared-slice-known4 = record { given = g'3 };
-                        };
-                        slice-known = record {
-                          given =
-                              g'4;
-                        };
-                      };
-                      check-log-arg = record { given = g'5 };
-                    };
-                    log = record { given = g'6 };
-                  }),
-              (
-                check-log-requires record {
+                slice-known = record { given = g'5 };
+              };
+              check-log-arg = record { given = g'6 };
+            },
+            λ g'7. (
+              Relend.count-is T14 13 14 (λ x. x) (λ u. u .1 .1 .1 .1 .1 .1 .1 .1 .1 .0) (m11 record {
+                before = record {
                   before = record {
                     before = record {
                       before = record {
                         before = record {
-                          before = record { before = record { before = c; shared-slice-known = record { given = g } }; shared-slice-known2 = record { given = g' } };
+                          before =
+                              record { before = c; shared-slice-known = record { given = g } };
+                          shared-slice-known2 = record { given = g' };
+                        };
+                        shared-slice-known3 = record { given = g'' };
+                      };
+                      shared-slice-known4 = record
+                          { given = g'3 };
+                    };
+                    shared-slice-known5 = record { given = g'4 };
+                  };
+                  slice-known = record { given = g'5 };
+                };
+                check-log-arg = record { given = g'6 };
+              } g'7) (slice-aggregate-check-log record {
+                before = record {
+                  before = record {
+                    before = record {
+                      before = record {
+                        before = record {
+                          before = record {
+                            before = record { before = c; shared-slice-known = record { given = g } };
+                            shared-slice-known2 = record { given = g' };
+                          };
                           shared-slice-known3 = record { given = g'' };
                         };
                         shared-slice-known4 = record { given = g'3 };
                       };
-                      slice-known = record { given = g'4 };
+                      shared-slice-known5 = record { given = g'4 };
                     };
-                    check-log-arg = record { given = g'5 };
+                    slice-known = record { given = g'5 };
                   };
-                  log = record { given = g'6 };
-                },
-                λ g'7. lay1 record {
-                  before =
-                      record {
-                        before = record {
-                          before = record {
+                  check-log-arg = record { given = g'6 };
+                };
+                log = record { given = g'7 };
+              }),
+              (
+                check-log-requires record {
+                  before = record {
+                    before = record {
+                      before =
+                          record {
                             before = record {
                               before = record {
-                                before = record {
-                                  before = record { before = c; shared-slice-known = record { given = g } };
-                                  shared-slice-known2 = record { given = g' };
-                                };
+                                before = record { before = record { before = c; shared-slice-known = record { given = g } }; shared-slice-known2 = record { given = g' } };
                                 shared-slice-known3 = record { given = g'' };
                               };
                               shared-slice-known4 = record { given = g'3 };
                             };
-                            slice-known = record { given = g'4 };
+                            shared-slice-known5 = record { given = g'4 };
                           };
-                          check-log-arg = record { given = g'5 };
+                      slice-known = record { given = g'5 };
+                    };
+                    check-log-arg = record { given = g'6 };
+                  };
+                  log = record { given = g'7 };
+                },
+                λ g'8. lay1 record {
+                  before = record {
+                    before = record {
+                      before = record {
+                        before = record {
+                          before = record {
+                            before = record {
+                              before = record { before = record { before = c; shared-slice-known = record { given = g } }; shared-slice-known2 = record { given = g' } };
+                              shared-slice-known3 = record
+                                  { given = g'' };
+                            };
+                            shared-slice-known4 = record { given = g'3 };
+                          };
+                          shared-slice-known5 = record { given = g'4 };
                         };
-                        log = record { given = g'6 };
+                        slice-known = record { given = g'5 };
                       };
-                  check-log = Called.called ps·0 r·0 (claims· .1) T14 (
+                      check-log-arg = record {
+                        given =
+                            g'6;
+                      };
+                    };
+                    log = record { given = g'7 };
+                  };
+                  check-log = Called.called ps·0 r·0 (claims· .1) T15 (
                     Num.vAt 1 λ x. x,
                     (
-                      Num.vAt 2 λ x. x,
+                      record {
+                        pos = 2;
+                        ty = Syntax.tyRef (Syntax.named 0) Syntax.imm
+                            (Syntax.tyInt Syntax.w16);
+                        ref = λ x. x;
+                      },
                       (
-                        record {
-                          pos = 3;
-                          ty =
-                              Syntax.tyRef (Syntax.named 0) Syntax.imm (Syntax.tyInt Syntax.w8);
-                          ref = λ x. x;
-                        },
+                        record { pos = 3; ty = Syntax.tyRef (Syntax.named 1) Syntax.imm (Syntax.tyInt Syntax.w8); ref = λ x. x },
                         (
                           record {
                             pos = 4;
-                            ty = Syntax.tyRef (Syntax.named 1) Syntax.imm (Syntax.tyInt Syntax.w16);
-                            ref = λ x.
-                                x;
+                            ty =
+                                Syntax.tyRef (Syntax.named 2) Syntax.imm (Syntax.tyInt Syntax.w16);
+                            ref = λ x. x;
                           },
                           (
-                            record { pos = 5; ty = Syntax.tyRef (Syntax.named 2) Syntax.imm (Syntax.tyInt Syntax.w16); ref = λ x. x },
+                            record {
+                              pos = 5;
+                              ty = Syntax.tyRef (Syntax.named 3) Syntax.imm (Syntax.tyInt Syntax.w16);
+                              ref = λ x.
+                                  x;
+                            },
                             (
-                              record {
-                                pos = 6;
-                                ty = Syntax.tyRef (Syntax.named 3) Syntax.imm
-                                    (Syntax.tyInt Syntax.w16);
-                                ref = λ x. x;
-                              },
+                              record { pos = 6; ty = Syntax.tyRef (Syntax.named 4) Syntax.imm (Syntax.tyInt Syntax.w16); ref = λ x. x },
                               (
-                                record { pos = 12; ty = Syntax.tyRef Syntax.erased Syntax.mut (Syntax.tyInt Syntax.w16); ref = λ x. x },
-                                (
-                                  record {
-                                    pos = 14;
-                                    ty =
-                                        Syntax.tyRef Syntax.erased Syntax.imm (Lent.pointed);
-                                    ref = λ x. x;
-                                  },
-                                  tt,
-                                ),
+                                record {
+                                  pos = 12;
+                                  ty = Syntax.tyRef Syntax.erased Syntax.mut
+                                      (Syntax.tyInt Syntax.w16);
+                                  ref = λ x. x;
+                                },
+                                (record { pos = 14; ty = Syntax.tyRef Syntax.erased Syntax.imm (Lent.pointed); ref = λ x. x }, tt),
                               ),
                             ),
                           ),
                         ),
                       ),
                     ),
-                  ) (m11 record {
+                  ) (m12 record {
                     before = record {
                       before = record {
                         before = record {
                           before = record {
                             before = record {
-                              before = c;
-                              shared-slice-known = record { given = g };
+                              before = record { before = c; shared-slice-known = record { given = g } };
+                              shared-slice-known2 = record {
+                                given =
+                                    g';
+                              };
                             };
-                            shared-slice-known2 = record { given = g' };
+                            shared-slice-known3 = record { given = g'' };
                           };
-                          shared-slice-known3 = record { given = g'' };
+                          shared-slice-known4 = record { given = g'3 };
                         };
-                        shared-slice-known4 = record {
-                          given =
-                              g'3;
-                        };
+                        shared-slice-known5 = record { given = g'4 };
                       };
-                      slice-known = record { given = g'4 };
+                      slice-known = record { given = g'5 };
                     };
-                    check-log-arg = record { given = g'5 };
-                  } g'6) g'7;
+                    check-log-arg = record { given = g'6 };
+                  } g'7) g'8;
                 },
               ),
             ),
           ),
         )
 
-        module _ (κs : Lifetimes.Lfts 5) (qs : Lifetimes.Shares 5) where
-          pub asked : (a : Kinds.Dens κs ps) → (good : Kinds.GoodsP κs ps a) → (pre : Pre· κs a) → (bs : List.List Nat.ℕ) → Φ (Any.wantQ 5 ps r xs m κs qs a (Post· κs a)) (Function.init 5 ps r xs m
+        module _ (κs : Lifetimes.Lfts 6) (qs : Lifetimes.Shares 6) where
+          pub asked : (a : Kinds.Dens κs ps) → (good : Kinds.GoodsP κs ps a) → (pre : Pre· κs a) → (bs : List.List Nat.ℕ) → Φ (Any.wantQ 6 ps r xs m κs qs a (Post· κs a)) (Function.init 6 ps r xs m
               κs qs a)
           asked = λ a good pre bs. laid record {
             κs = κs;
             args = record {
               hours = a .0;
-              capacity = a .1 .0;
+              capacities = a .1 .0;
               calendars = a .1 .1 .0;
               task-calendars = a .1 .1 .1 .0;
               work-times = a .1 .1 .1 .1 .0;
@@ -1605,13 +1637,12 @@ module _ (claims· : Claims) where
                 fits
                     = good .0 .1;
               };
-              capacity = record { fits = good .1 .0 .1 };
               count = record { fits = good .1 .1 .1 .1 .1 .1 .1 .1 .0 .1 };
             };
             pre = pre;
           }
 
-        module _ {M : Type 1} (𝓤 : URA.URA M) (H : Wp.Heap 𝓤) (A : Atoms.Atoms 𝓤) (W : Kit.Given 𝓤 H A) (𝓣 : Wp.Tables 𝓤 H) (known0 : Plain.Known 𝓤 H A W 𝓣 6 ps·0 r·0 (claims· .0) (claims· .1)
+        module _ {M : Type 1} (𝓤 : URA.URA M) (H : Wp.Heap 𝓤) (A : Atoms.Atoms 𝓤) (W : Kit.Given 𝓤 H A) (𝓣 : Wp.Tables 𝓤 H) (known0 : Plain.Known 𝓤 H A W 𝓣 7 ps·0 r·0 (claims· .0) (claims· .1)
             "log::check_log") where
-          pub spec : Statement.Triple 𝓤 (Wp.WpFn 𝓤 H (𝓣 .C) (𝓣 .Λ) (Function.fnOf 5 ps r xs m hs body)) (Function.plainOf 𝓤 H A 5 ps r Pre· Post·)
-          spec = Plain.t-fn-plain 𝓤 H A W 𝓣 5 ps r xs m hs body (λ κs qs bs. Φ) (λ κs qs bs bd. typed κs qs 𝓤 H A W 𝓣 known0 bs bd) Pre· Post· asked
+          pub spec : Statement.Triple 𝓤 (Wp.WpFn 𝓤 H (𝓣 .C) (𝓣 .Λ) (Function.fnOf 6 ps r xs m hs body)) (Function.plainOf 𝓤 H A 6 ps r Pre· Post·)
+          spec = Plain.t-fn-plain 𝓤 H A W 𝓣 6 ps r xs m hs body (λ κs qs bs. Φ) (λ κs qs bs bd. typed κs qs 𝓤 H A W 𝓣 known0 bs bd) Pre· Post· asked

@@ -63,10 +63,10 @@ abbrev pub τ1 : Syntax.Ty
 τ1 = Syntax.tyRef Syntax.erased Syntax.mut (Syntax.tyInt Syntax.w16)
 
 abbrev pub τ2 : Syntax.Ty
-τ2 = Syntax.tyRef (Syntax.named 0) Syntax.imm (Syntax.tyInt Syntax.w8)
+τ2 = Syntax.tyRef (Syntax.named 1) Syntax.imm (Syntax.tyInt Syntax.w8)
 
 abbrev pub τ3 : Syntax.Ty
-τ3 = Syntax.tyRef (Syntax.named 1) Syntax.imm (Syntax.tyInt Syntax.w16)
+τ3 = Syntax.tyRef (Syntax.named 0) Syntax.imm (Syntax.tyInt Syntax.w16)
 
 abbrev pub τ4 : Syntax.Ty
 τ4 = Syntax.tyRef (Syntax.named 2) Syntax.imm (Syntax.tyInt Syntax.w16)
@@ -75,39 +75,42 @@ abbrev pub τ5 : Syntax.Ty
 τ5 = Syntax.tyRef (Syntax.named 3) Syntax.imm (Syntax.tyInt Syntax.w16)
 
 abbrev pub τ6 : Syntax.Ty
-τ6 = Syntax.tyRef (Syntax.named 4) Syntax.mut (Syntax.tyInt Syntax.w16)
+τ6 = Syntax.tyRef (Syntax.named 4) Syntax.imm (Syntax.tyInt Syntax.w16)
 
 abbrev pub τ7 : Syntax.Ty
-τ7 = Syntax.tyRef Syntax.erased Syntax.mut (Syntax.tyArray (Lent.pointed) 2048)
+τ7 = Syntax.tyRef (Syntax.named 5) Syntax.mut (Syntax.tyInt Syntax.w16)
 
 abbrev pub τ8 : Syntax.Ty
-τ8 = Syntax.tyStruct (38 ∷ 91 ∷ 93 ∷ []) (Syntax.tcons τ0 (Syntax.tcons (Syntax.tyInt Syntax.w64) Syntax.tnil))
+τ8 = Syntax.tyRef Syntax.erased Syntax.mut (Syntax.tyArray (Lent.pointed) 2048)
 
 abbrev pub τ9 : Syntax.Ty
-τ9 = Syntax.tyStruct (38 ∷ 91 ∷ 93 ∷ []) (Syntax.tcons τ1 (Syntax.tcons (Syntax.tyInt Syntax.w64) Syntax.tnil))
+τ9 = Syntax.tyStruct (38 ∷ 91 ∷ 93 ∷ []) (Syntax.tcons τ0 (Syntax.tcons (Syntax.tyInt Syntax.w64) Syntax.tnil))
 
 abbrev pub τ10 : Syntax.Ty
-τ10 = Syntax.tyEnum (112 ∷ 108 ∷ 97 ∷ 110 ∷ 58 ∷ 58 ∷ 82 ∷ 101 ∷ 102 ∷ 117 ∷ 115 ∷ 97 ∷ 108 ∷ []) (Syntax.ttcons (Syntax.tcons (Syntax.tyInt Syntax.w64) Syntax.tnil) (Syntax.ttcons Syntax.tnil
+τ10 = Syntax.tyStruct (38 ∷ 91 ∷ 93 ∷ []) (Syntax.tcons τ1 (Syntax.tcons (Syntax.tyInt Syntax.w64) Syntax.tnil))
+
+abbrev pub τ11 : Syntax.Ty
+τ11 = Syntax.tyEnum (112 ∷ 108 ∷ 97 ∷ 110 ∷ 58 ∷ 58 ∷ 82 ∷ 101 ∷ 102 ∷ 117 ∷ 115 ∷ 97 ∷ 108 ∷ []) (Syntax.ttcons (Syntax.tcons (Syntax.tyInt Syntax.w64) Syntax.tnil) (Syntax.ttcons Syntax.tnil
     (Syntax.ttcons Syntax.tnil (Syntax.ttcons (Syntax.tcons (Syntax.tyInt Syntax.w64) Syntax.tnil) (Syntax.ttcons Syntax.tnil (Syntax.ttcons (Syntax.tcons (Syntax.tyInt Syntax.w64) Syntax.tnil)
     (Syntax.ttcons (Syntax.tcons (Syntax.tyInt Syntax.w64) Syntax.tnil) (Syntax.ttcons (Syntax.tcons (Syntax.tyInt Syntax.w64) Syntax.tnil) (Syntax.ttcons (Syntax.tcons (Syntax.tyInt Syntax.w64)
     Syntax.tnil) (Syntax.ttcons Syntax.tnil (Syntax.ttcons (Syntax.tcons (Syntax.tyInt Syntax.w64) Syntax.tnil) (Syntax.ttcons (Syntax.tcons (Syntax.tyInt Syntax.w64) Syntax.tnil) (Syntax.ttcons
     (Syntax.tcons (Syntax.tyInt Syntax.w64) Syntax.tnil) (Syntax.ttcons (Syntax.tcons (Syntax.tyInt Syntax.w64) Syntax.tnil) (Syntax.ttcons (Syntax.tcons (Syntax.tyInt Syntax.w64) Syntax.tnil)
-    (Syntax.ttcons (Syntax.tcons (Syntax.tyInt Syntax.w64) Syntax.tnil) (Syntax.ttcons Syntax.tnil (Syntax.ttcons Syntax.tnil Syntax.ttnil))))))))))))))))))
+    (Syntax.ttcons (Syntax.tcons (Syntax.tyInt Syntax.w64) Syntax.tnil) (Syntax.ttcons Syntax.tnil (Syntax.ttcons Syntax.tnil (Syntax.ttcons Syntax.tnil Syntax.ttnil)))))))))))))))))))
 
-abbrev pub τ11 : Syntax.Ty
-τ11 = Syntax.tyEnum (115 ∷ 116 ∷ 101 ∷ 112 ∷ 115 ∷ 58 ∷ 58 ∷ 70 ∷ 105 ∷ 108 ∷ 116 ∷ 101 ∷ 114 ∷ 101 ∷ 100 ∷ []) (Syntax.ttcons (Syntax.tcons τ10 Syntax.tnil) (Syntax.ttcons (Syntax.tcons
+abbrev pub τ12 : Syntax.Ty
+τ12 = Syntax.tyEnum (115 ∷ 116 ∷ 101 ∷ 112 ∷ 115 ∷ 58 ∷ 58 ∷ 70 ∷ 105 ∷ 108 ∷ 116 ∷ 101 ∷ 114 ∷ 101 ∷ 100 ∷ []) (Syntax.ttcons (Syntax.tcons τ11 Syntax.tnil) (Syntax.ttcons (Syntax.tcons
     (Syntax.tyInt Syntax.w64) Syntax.tnil) (Syntax.ttcons (Syntax.tcons (Syntax.tyInt Syntax.w64) Syntax.tnil) (Syntax.ttcons (Syntax.tcons (Syntax.tyInt Syntax.w64) Syntax.tnil) Syntax.ttnil))))
 
-abbrev pub ps : List.List (Kinds.PK 5)
-ps = (Num.pNum Syntax.w16) ∷ (Num.pNum Syntax.w16) ∷ (ShrSlice.pShrS (Referent.rtF (Referent.fInt Syntax.w8)) 0 tt) ∷ (ShrSlice.pShrS (Referent.rtF (Referent.fInt Syntax.w16)) 1 tt) ∷ (ShrSlice.pShrS
-    (Referent.rtF (Referent.fInt Syntax.w16)) 2 tt) ∷ (ShrSlice.pShrS (Referent.rtF (Referent.fInt Syntax.w16)) 3 tt) ∷ (MutSlice.pMutS (Referent.rtF (Referent.fInt Syntax.w16)) 4 tt) ∷ (Num.pNum
-    Syntax.w64) ∷ []
+abbrev pub ps : List.List (Kinds.PK 6)
+ps = (Num.pNum Syntax.w16) ∷ (ShrSlice.pShrS (Referent.rtF (Referent.fInt Syntax.w16)) 0 tt) ∷ (ShrSlice.pShrS (Referent.rtF (Referent.fInt Syntax.w8)) 1 tt) ∷ (ShrSlice.pShrS (Referent.rtF
+    (Referent.fInt Syntax.w16)) 2 tt) ∷ (ShrSlice.pShrS (Referent.rtF (Referent.fInt Syntax.w16)) 3 tt) ∷ (ShrSlice.pShrS (Referent.rtF (Referent.fInt Syntax.w16)) 4 tt) ∷ (MutSlice.pMutS
+    (Referent.rtF (Referent.fInt Syntax.w16)) 5 tt) ∷ (Num.pNum Syntax.w64) ∷ []
 
-abbrev pub r : Kinds.RK 5
+abbrev pub r : Kinds.RK 6
 r = Array.rArr (Lent.elem) (Lent.elem-laws) 2048
 
 abbrev pub xs : List.List Syntax.Ty
-xs = (Syntax.tyArray (Lent.by-value) 2048) ∷ τ11 ∷ (Syntax.tyArray (Lent.by-value) 2048) ∷ τ1 ∷ τ9 ∷ τ7 ∷ τ8 ∷ Syntax.tyUnit ∷ []
+xs = (Syntax.tyArray (Lent.by-value) 2048) ∷ τ12 ∷ (Syntax.tyArray (Lent.by-value) 2048) ∷ τ1 ∷ τ10 ∷ τ8 ∷ τ9 ∷ Syntax.tyUnit ∷ []
 
 abbrev pub m : Nat.ℕ
 m = 2
@@ -118,12 +121,12 @@ ps·0 = []
 abbrev pub r·0 : Kinds.RK 0
 r·0 = Array.rArr (Lent.elem) (Lent.elem-laws) 2048
 
-abbrev pub ps·1 : List.List (Kinds.PK 6)
-ps·1 = (Num.pNum Syntax.w16) ∷ (Num.pNum Syntax.w16) ∷ (ShrSlice.pShrS (Referent.rtF (Referent.fInt Syntax.w8)) 0 tt) ∷ (ShrSlice.pShrS (Referent.rtF (Referent.fInt Syntax.w16)) 1 tt) ∷
-    (ShrSlice.pShrS (Referent.rtF (Referent.fInt Syntax.w16)) 2 tt) ∷ (ShrSlice.pShrS (Referent.rtF (Referent.fInt Syntax.w16)) 3 tt) ∷ (MutSlice.pMutS (Referent.rtF (Referent.fInt Syntax.w16)) 4 tt)
-    ∷ (MutSlice.pMutS (Lent.row) 5 tt) ∷ []
+abbrev pub ps·1 : List.List (Kinds.PK 7)
+ps·1 = (Num.pNum Syntax.w16) ∷ (ShrSlice.pShrS (Referent.rtF (Referent.fInt Syntax.w16)) 0 tt) ∷ (ShrSlice.pShrS (Referent.rtF (Referent.fInt Syntax.w8)) 1 tt) ∷ (ShrSlice.pShrS (Referent.rtF
+    (Referent.fInt Syntax.w16)) 2 tt) ∷ (ShrSlice.pShrS (Referent.rtF (Referent.fInt Syntax.w16)) 3 tt) ∷ (ShrSlice.pShrS (Referent.rtF (Referent.fInt Syntax.w16)) 4 tt) ∷ (MutSlice.pMutS
+    (Referent.rtF (Referent.fInt Syntax.w16)) 5 tt) ∷ (MutSlice.pMutS (Lent.row) 6 tt) ∷ []
 
-abbrev pub r·1 : Kinds.RK 6
+abbrev pub r·1 : Kinds.RK 7
 r·1 = Value.rVal record {
   ty = Declared.row Filtered.the-type;
   one = Path'.refl;
@@ -234,47 +237,52 @@ abbrev pub body : Syntax.Body
 body = b18
 
 abbrev pub Claims : Type 1
-Claims = Kinds.In 0 ps·0 × Kinds.Out 0 ps·0 r·0 × Kinds.In 6 ps·1 × Kinds.Out 6 ps·1 r·1 × Kinds.In 0 ps·2 × Kinds.Out 0 ps·2 r·2
+Claims = Kinds.In 0 ps·0 × Kinds.Out 0 ps·0 r·0 × Kinds.In 7 ps·1 × Kinds.Out 7 ps·1 r·1 × Kinds.In 0 ps·2 × Kinds.Out 0 ps·2 r·2
 
 abbrev pub t0 : List.List Row.Entry
-t0 = (0, Rows'.any-gone (Syntax.tyArray (Lent.by-value) 2048)) ∷ (1, Rows'.sc-here (Row.sInt Syntax.w16)) ∷ (2, Rows'.sc-here (Row.sInt Syntax.w16)) ∷ (
+t0 = (0, Rows'.any-gone (Syntax.tyArray (Lent.by-value) 2048)) ∷ (1, Rows'.sc-here (Row.sInt Syntax.w16)) ∷ (2, Rows'.sslice (Referent.rtF (Referent.fInt Syntax.w16)) τ3 0) ∷ (
   3,
-  Rows'.sslice (Referent.rtF (Referent.fInt
-      Syntax.w8)) τ2 0,
-) ∷ (4, Rows'.sslice (Referent.rtF (Referent.fInt Syntax.w16)) τ3 1) ∷ (5, Rows'.sslice (Referent.rtF (Referent.fInt Syntax.w16)) τ4 2) ∷ (
+  Rows'.sslice
+      (Referent.rtF (Referent.fInt Syntax.w8)) τ2 1,
+) ∷ (4, Rows'.sslice (Referent.rtF (Referent.fInt Syntax.w16)) τ4 2) ∷ (5, Rows'.sslice (Referent.rtF (Referent.fInt Syntax.w16)) τ5 3) ∷ (
   6,
-  Rows'.sslice (Referent.rtF
-      (Referent.fInt Syntax.w16)) τ5 3,
-) ∷ (7, Mut.mslice (Referent.rtF (Referent.fInt Syntax.w16)) τ6 4) ∷ (8, Rows'.sc-here (Row.sInt Syntax.w64)) ∷ (
+  Rows'.sslice (Referent.rtF (Referent.fInt Syntax.w16)) τ6 4,
+) ∷ (7, Mut.mslice (Referent.rtF (Referent.fInt Syntax.w16)) τ7 5) ∷ (8, Rows'.sc-here (Row.sInt Syntax.w64)) ∷ (
   9,
-  Rows'.any-gone (Syntax.tyArray (Lent.by-value)
-      2048),
-) ∷ (10, Rows'.any-gone τ11) ∷ (11, Rows'.any-gone (Syntax.tyArray (Lent.by-value) 2048)) ∷ (12, Rows'.any-gone τ1) ∷ (13, Rows'.any-gone τ9) ∷ (14, Rows'.any-gone τ7) ∷ (
-  15,
   Rows'.any-gone
-      τ8,
-) ∷ []
+      (Syntax.tyArray (Lent.by-value) 2048),
+) ∷ (10, Rows'.any-gone τ12) ∷ (11, Rows'.any-gone (Syntax.tyArray (Lent.by-value) 2048)) ∷ (12, Rows'.any-gone τ1) ∷ (13, Rows'.any-gone τ10) ∷ (
+  14,
+  Rows'.any-gone τ8,
+) ∷ (15, Rows'.any-gone τ9) ∷ []
 
 abbrev pub t1 : List.List Row.Entry
 t1 = (16, Rows'.any-gone Syntax.tyUnit) ∷ []
 
 abbrev pub t2 : List.List Row.Entry
-t2 = (0, Rows.arrF (Lent.row) 2048 0) ∷ (1, Rows'.any-gone (Syntax.tyInt Syntax.w16)) ∷ (2, Rows'.any-gone (Syntax.tyInt Syntax.w16)) ∷ (3, Rows'.sslice (Referent.rtF (Referent.fInt Syntax.w8)) τ2 0)
-    ∷ (4, Rows'.sslice (Referent.rtF (Referent.fInt Syntax.w16)) τ3 1) ∷ (5, Rows'.sslice (Referent.rtF (Referent.fInt Syntax.w16)) τ4 2) ∷ (
-      6,
-      Rows'.sslice (Referent.rtF (Referent.fInt Syntax.w16))
-          τ5 3,
-    ) ∷ (7, Mut.mslice (Referent.rtF (Referent.fInt Syntax.w16)) τ6 4) ∷ (8, Rows'.any-gone (Syntax.tyInt Syntax.w64)) ∷ (9, Rows'.any-gone (Syntax.tyArray (Lent.by-value) 2048)) ∷ (
-      10,
-      Rows'.any-gone τ11,
-    ) ∷ (11, Rows'.any-gone (Syntax.tyArray (Lent.by-value) 2048)) ∷ (12, Rows'.any-gone τ1) ∷ (13, Rows'.any-gone τ9) ∷ (14, Rows'.any-gone τ7) ∷ (15, Rows'.any-gone τ8) ∷ []
+t2 = (0, Rows.arrF (Lent.row) 2048 0) ∷ (1, Rows'.any-gone (Syntax.tyInt Syntax.w16)) ∷ (2, Rows'.sslice (Referent.rtF (Referent.fInt Syntax.w16)) τ3 0) ∷ (
+  3,
+  Rows'.sslice (Referent.rtF
+      (Referent.fInt Syntax.w8)) τ2 1,
+) ∷ (4, Rows'.sslice (Referent.rtF (Referent.fInt Syntax.w16)) τ4 2) ∷ (5, Rows'.sslice (Referent.rtF (Referent.fInt Syntax.w16)) τ5 3) ∷ (
+  6,
+  Rows'.sslice
+      (Referent.rtF (Referent.fInt Syntax.w16)) τ6 4,
+) ∷ (7, Mut.mslice (Referent.rtF (Referent.fInt Syntax.w16)) τ7 5) ∷ (8, Rows'.any-gone (Syntax.tyInt Syntax.w64)) ∷ (
+  9,
+  Rows'.any-gone
+      (Syntax.tyArray (Lent.by-value) 2048),
+) ∷ (10, Rows'.any-gone τ12) ∷ (11, Rows'.any-gone (Syntax.tyArray (Lent.by-value) 2048)) ∷ (12, Rows'.any-gone τ1) ∷ (13, Rows'.any-gone τ10) ∷ (
+  14,
+  Rows'.any-gone τ8,
+) ∷ (15, Rows'.any-gone τ9) ∷ []
 
 abbrev pub t3 : List.List Row.Entry
-t3 = Row.setRow 11 (11, Rows.arrF (Lent.row) 2048 0) (Row.setRow 8 (8, Rows'.sc-here (Row.sInt Syntax.w64)) (Row.setRow 2 (2, Rows'.sc-here (Row.sInt Syntax.w16)) (Row.setRow 1 (
-  1,
-  Rows'.sc-here
-      (Row.sInt Syntax.w16),
-) (Row.setRow 0 (0, Rows'.any-gone (Syntax.tyArray (Lent.by-value) 2048)) t2))))
+t3 = Row.setRow 11 (11, Rows.arrF (Lent.row) 2048 0) (Row.setRow 8 (8, Rows'.sc-here (Row.sInt Syntax.w64)) (Row.setRow 1 (1, Rows'.sc-here (Row.sInt Syntax.w16)) (Row.setRow 0 (
+  0,
+  Rows'.any-gone
+      (Syntax.tyArray (Lent.by-value) 2048),
+) t2)))
 
 abbrev pub t4 : List.List Row.Entry
 t4 = Row.setRow 9 (9, Rows.arrF (Lent.row) 2048 0) t3
@@ -283,48 +291,48 @@ abbrev pub t5 : List.List Row.Entry
 t5 = Row.setRow 11 (11, Rows'.any-gone (Syntax.tyArray (Lent.by-value) 2048)) t4
 
 abbrev pub t6 : List.List Row.Entry
-t6 = Row.setRow 12 (12, Relend.msptr (Referent.rtF (Referent.fInt Syntax.w16)) τ1 5) (Row.setRow 7 (7, Relend.mslice-owed (Referent.rtF (Referent.fInt Syntax.w16)) τ6 4 5 Row.off) t5)
+t6 = Row.setRow 12 (12, Relend.msptr (Referent.rtF (Referent.fInt Syntax.w16)) τ1 6) (Row.setRow 7 (7, Relend.mslice-owed (Referent.rtF (Referent.fInt Syntax.w16)) τ7 5 6 Row.off) t5)
 
 abbrev pub t7 : List.List Row.Entry
-t7 = Row.setRow 13 (13, Mut.mslice (Referent.rtF (Referent.fInt Syntax.w16)) τ1 5) (Row.setRow 12 (12, Rows'.any-gone τ1) t6)
+t7 = Row.setRow 13 (13, Mut.mslice (Referent.rtF (Referent.fInt Syntax.w16)) τ1 6) (Row.setRow 12 (12, Rows'.any-gone τ1) t6)
 
 abbrev pub t8 : List.List Row.Entry
-t8 = Row.setRow 14 (14, Relend.msptr (Lent.row) τ7 6) (Row.setRow 9 (9, Rows.arr-owedP (Lent.row) 2048 6) t7)
+t8 = Row.setRow 14 (14, Relend.msptr (Lent.row) τ8 7) (Row.setRow 9 (9, Rows.arr-owedP (Lent.row) 2048 7) t7)
 
 abbrev pub t9 : List.List Row.Entry
-t9 = Row.setRow 15 (15, Mut.mslice (Lent.row) τ0 6) (Row.setRow 14 (14, Rows'.any-gone τ7) t8)
+t9 = Row.setRow 15 (15, Mut.mslice (Lent.row) τ0 7) (Row.setRow 14 (14, Rows'.any-gone τ8) t8)
 
 abbrev pub t10 : List.List Row.Entry
 t10 = Row.setRow 15 (15, Mut.msleft (Lent.row) τ0) (Row.setRow 13 (13, Mut.msleft (Referent.rtF (Referent.fInt Syntax.w16)) τ1) (Row.setRow 10 (10, Rows'.whole (Declared.row Filtered.the-type)) t9))
 
 abbrev pub t11 : List.List Row.Entry
-t11 = Row.setRow 13 (13, Rows'.any-gone τ9) (Row.setRow 7 (7, Mut.mslice (Referent.rtF (Referent.fInt Syntax.w16)) τ6 4) t10)
+t11 = Row.setRow 13 (13, Rows'.any-gone τ10) (Row.setRow 7 (7, Mut.mslice (Referent.rtF (Referent.fInt Syntax.w16)) τ7 5) t10)
 
 abbrev pub t12 : List.List Row.Entry
-t12 = Row.setRow 15 (15, Rows'.any-gone τ8) (Row.setRow 9 (9, Rows.arrF (Lent.row) 2048 0) t11)
+t12 = Row.setRow 15 (15, Rows'.any-gone τ9) (Row.setRow 9 (9, Rows.arrF (Lent.row) 2048 0) t11)
 
 abbrev pub t13 : List.List Row.Entry
 t13 = (16, Rows'.sc-here Row.sUnit) ∷ []
 
 abbrev pub t14 : List.List Row.Entry
-t14 = (0, Rows.arrF (Lent.row) 2048 0) ∷ (1, Rows'.sc-here (Row.sInt Syntax.w16)) ∷ (2, Rows'.sc-here (Row.sInt Syntax.w16)) ∷ (3, Rows'.sslice (Referent.rtF (Referent.fInt Syntax.w8)) τ2 0) ∷ (
-  4,
-  Rows'.sslice (Referent.rtF (Referent.fInt Syntax.w16)) τ3 1,
-) ∷ (5, Rows'.sslice (Referent.rtF (Referent.fInt Syntax.w16)) τ4 2) ∷ (6, Rows'.sslice (Referent.rtF (Referent.fInt Syntax.w16)) τ5 3)
-    ∷ (7, Mut.mslice (Referent.rtF (Referent.fInt Syntax.w16)) τ6 4) ∷ (8, Rows'.sc-here (Row.sInt Syntax.w64)) ∷ (9, Rows.arrF (Lent.row) 2048 0) ∷ (10, Rows'.any-gone τ11) ∷ (
-      11,
-      Rows'.any-gone
-          (Syntax.tyArray (Lent.by-value) 2048),
-    ) ∷ (12, Rows'.any-gone τ1) ∷ (13, Rows'.any-gone τ9) ∷ (14, Rows'.any-gone τ7) ∷ (15, Rows'.any-gone τ8) ∷ []
+t14 = (0, Rows.arrF (Lent.row) 2048 0) ∷ (1, Rows'.sc-here (Row.sInt Syntax.w16)) ∷ (2, Rows'.sslice (Referent.rtF (Referent.fInt Syntax.w16)) τ3 0) ∷ (
+  3,
+  Rows'.sslice (Referent.rtF (Referent.fInt
+      Syntax.w8)) τ2 1,
+) ∷ (4, Rows'.sslice (Referent.rtF (Referent.fInt Syntax.w16)) τ4 2) ∷ (5, Rows'.sslice (Referent.rtF (Referent.fInt Syntax.w16)) τ5 3) ∷ (
+  6,
+  Rows'.sslice (Referent.rtF
+      (Referent.fInt Syntax.w16)) τ6 4,
+) ∷ (7, Mut.mslice (Referent.rtF (Referent.fInt Syntax.w16)) τ7 5) ∷ (8, Rows'.sc-here (Row.sInt Syntax.w64)) ∷ (9, Rows.arrF (Lent.row) 2048 0) ∷ (
+  10,
+  Rows'.any-gone τ12,
+) ∷ (11, Rows'.any-gone (Syntax.tyArray (Lent.by-value) 2048)) ∷ (12, Rows'.any-gone τ1) ∷ (13, Rows'.any-gone τ10) ∷ (14, Rows'.any-gone τ8) ∷ (15, Rows'.any-gone τ9) ∷ []
 
 abbrev pub t15 : List.List Row.Entry
 t15 = Row.setRow 9 (9, Rows'.any-gone (Syntax.tyArray (Lent.by-value) 2048)) t14
 
 abbrev pub t16 : List.List Row.Entry
 t16 = Row.setRow 1 (1, Rows'.any-gone (Syntax.tyInt Syntax.w16)) t15
-
-abbrev pub t17 : List.List Row.Entry
-t17 = Row.setRow 2 (2, Rows'.any-gone (Syntax.tyInt Syntax.w16)) t16
 
 abbrev pub T0 : Row.Cx
 T0 = record { locals = List._++_ t0 t1; slots = [] }
@@ -348,58 +356,58 @@ abbrev pub T6 : Row.Cx
 T6 = record { locals = List._++_ t0 t1; slots = [] }
 
 abbrev pub T7 : Row.Cx
-T7 = record { locals = List._++_ t3 t1; slots = [] }
+T7 = record { locals = List._++_ t0 t1; slots = [] }
 
 abbrev pub T8 : Row.Cx
-T8 = record { locals = List._++_ t4 t1; slots = [] }
+T8 = record { locals = List._++_ t3 t1; slots = [] }
 
 abbrev pub T9 : Row.Cx
-T9 = record { locals = List._++_ t5 t1; slots = [] }
+T9 = record { locals = List._++_ t4 t1; slots = [] }
 
-abbrev pub T11 : Row.Cx
-T11 = record { locals = List._++_ t6 t1; slots = [] }
+abbrev pub T10 : Row.Cx
+T10 = record { locals = List._++_ t5 t1; slots = [] }
 
 abbrev pub T12 : Row.Cx
-T12 = record { locals = List._++_ t7 t1; slots = [] }
+T12 = record { locals = List._++_ t6 t1; slots = [] }
 
-abbrev pub T14 : Row.Cx
-T14 = record { locals = List._++_ t8 t1; slots = [] }
+abbrev pub T13 : Row.Cx
+T13 = record { locals = List._++_ t7 t1; slots = [] }
 
 abbrev pub T15 : Row.Cx
-T15 = record { locals = List._++_ t9 t1; slots = [] }
+T15 = record { locals = List._++_ t8 t1; slots = [] }
 
 abbrev pub T16 : Row.Cx
-T16 = record { locals = List._++_ t10 t1; slots = [] }
+T16 = record { locals = List._++_ t9 t1; slots = [] }
 
-abbrev pub T18 : Row.Cx
-T18 = record { locals = List._++_ t11 t1; slots = [] }
+abbrev pub T17 : Row.Cx
+T17 = record { locals = List._++_ t10 t1; slots = [] }
 
 abbrev pub T19 : Row.Cx
 T19 = record { locals = List._++_ t11 t1; slots = [] }
 
-abbrev pub T22 : Row.Cx
-T22 = record { locals = List._++_ t12 t1; slots = [] }
+abbrev pub T20 : Row.Cx
+T20 = record { locals = List._++_ t11 t1; slots = [] }
 
-abbrev pub T24 : Row.Cx
-T24 = record { locals = List._++_ t12 t13; slots = [] }
+abbrev pub T23 : Row.Cx
+T23 = record { locals = List._++_ t12 t1; slots = [] }
 
 abbrev pub T25 : Row.Cx
-T25 = record { locals = List._++_ t5 t13; slots = [] }
+T25 = record { locals = List._++_ t12 t13; slots = [] }
 
 abbrev pub T26 : Row.Cx
-T26 = record { locals = List._++_ t5 t1; slots = [] }
+T26 = record { locals = List._++_ t5 t13; slots = [] }
 
 abbrev pub T27 : Row.Cx
-T27 = record { locals = List._++_ t14 t1; slots = [] }
+T27 = record { locals = List._++_ t5 t1; slots = [] }
 
 abbrev pub T28 : Row.Cx
-T28 = record { locals = List._++_ t15 t1; slots = [] }
+T28 = record { locals = List._++_ t14 t1; slots = [] }
 
 abbrev pub T29 : Row.Cx
-T29 = record { locals = List._++_ t16 t1; slots = [] }
+T29 = record { locals = List._++_ t15 t1; slots = [] }
 
 abbrev pub T30 : Row.Cx
-T30 = record { locals = List._++_ t17 t1; slots = [] }
+T30 = record { locals = List._++_ t16 t1; slots = [] }
 
 abbrev pub T31 : Row.Cx
 T31 = record { locals = List._++_ t2 t1; slots = [] }
@@ -409,121 +417,128 @@ O0 = record { next = Option.none; exits = []; returns = Option.some T1 }
 
 module _ (claims· : Claims) where
   abbrev s0 : Typed.Gives T0 T2
-  s0 = Know.k-shs-known (Referent.fInt Syntax.w8) T0 3 0 τ2 Row.off 0 λ x. x
+  s0 = Know.k-shs-known (Referent.fInt Syntax.w16) T0 2 0 τ3 Row.off 0 λ x. x
 
   abbrev s1 : Typed.Gives T2 T3
-  s1 = Know.k-shs-known (Referent.fInt Syntax.w16) T2 4 1 τ3 Row.off 0 λ x. x
+  s1 = Know.k-shs-known (Referent.fInt Syntax.w8) T2 3 1 τ2 Row.off 0 λ x. x
 
   abbrev s2 : Typed.Gives T3 T4
-  s2 = Know.k-shs-known (Referent.fInt Syntax.w16) T3 5 2 τ4 Row.off 0 λ x. x
+  s2 = Know.k-shs-known (Referent.fInt Syntax.w16) T3 4 2 τ4 Row.off 0 λ x. x
 
   abbrev s3 : Typed.Gives T4 T5
-  s3 = Know.k-shs-known (Referent.fInt Syntax.w16) T4 6 3 τ5 Row.off 0 λ x. x
+  s3 = Know.k-shs-known (Referent.fInt Syntax.w16) T4 5 3 τ5 Row.off 0 λ x. x
 
   abbrev s4 : Typed.Gives T5 T6
-  s4 = Know.k-sl-known (Referent.fInt Syntax.w16) T5 7 4 τ6 Row.off 0 λ x. x
+  s4 = Know.k-shs-known (Referent.fInt Syntax.w16) T5 6 4 τ6 Row.off 0 λ x. x
 
-  abbrev s5 : Typed.Both T6 T7
-  s5 = Call.callB ps·0 r·0 (claims· .0) (claims· .1) T6 tt 11 [] (Syntax.tyArray (Lent.by-value) 2048)
+  abbrev s5 : Typed.Gives T6 T7
+  s5 = Know.k-sl-known (Referent.fInt Syntax.w16) T6 7 5 τ7 Row.off 0 λ x. x
 
-  abbrev s6 : Typed.Mo T7 → Typed.Mo T8
-  s6 = LocalCopy.n-val-copy T7 11 9 (Array'.Array (Lent.row) 2048) (Rows.arrF (Lent.row) 2048 0) (Rows.arrF (Lent.row) 2048 0) (λ x. x) (λ x. x) λ x. x
+  abbrev s6 : Typed.Both T7 T8
+  s6 = Call.callB ps·0 r·0 (claims· .0) (claims· .1) T7 tt 11 [] (Syntax.tyArray (Lent.by-value) 2048)
 
   abbrev s7 : Typed.Mo T8 → Typed.Mo T9
-  s7 = Scalar.n-room T8 11 (Syntax.tyArray (Lent.by-value) 2048)
+  s7 = LocalCopy.n-val-copy T8 11 9 (Array'.Array (Lent.row) 2048) (Rows.arrF (Lent.row) 2048 0) (Rows.arrF (Lent.row) 2048 0) (λ x. x) (λ x. x) λ x. x
 
-  abbrev s9 : Typed.Gives T9 T11
-  s9 = Relend.k-sl-relend (Referent.rtF (Referent.fInt Syntax.w16)) T9 7 12 4 5 τ6 τ1 Row.off λ x. x
+  abbrev s8 : Typed.Mo T9 → Typed.Mo T10
+  s8 = Scalar.n-room T9 11 (Syntax.tyArray (Lent.by-value) 2048)
 
-  abbrev s10 : Typed.Asks T11 T12
-  s10 = Relend.k-sl-aggregate (Referent.rtF (Referent.fInt Syntax.w16)) (Relend.asMut (Referent.rtF (Referent.fInt Syntax.w16))) T11 12 13 5 τ1 τ1 (λ x. x) (Scalar.oFld 7 ((Syntax.field 1) ∷ [])
+  abbrev s10 : Typed.Gives T10 T12
+  s10 = Relend.k-sl-relend (Referent.rtF (Referent.fInt Syntax.w16)) T10 7 12 5 6 τ7 τ1 Row.off λ x. x
+
+  abbrev s11 : Typed.Asks T12 T13
+  s11 = Relend.k-sl-aggregate (Referent.rtF (Referent.fInt Syntax.w16)) (Relend.asMut (Referent.rtF (Referent.fInt Syntax.w16))) T12 12 13 6 τ1 τ1 (λ x. x) (Scalar.oFld 7 ((Syntax.field 1) ∷ [])
       (Syntax.tyInt Syntax.w64) 8 λ v. Shared.lenV (v .0))
 
-  abbrev s12 : Typed.Both T12 T14
-  s12 = Share.k-arr-borrowᵖ (Lent.row) T12 9 14 2048 6 τ7 (λ x. x) λ u. u .1 .1 .1 .1 .1 .1 .1 .1 .0
+  abbrev s13 : Typed.Both T13 T15
+  s13 = Share.k-arr-borrowᵖ (Lent.row) T13 9 14 2048 7 τ8 (λ x. x) λ u. u .1 .1 .1 .1 .1 .1 .1 .1 .0
 
-  abbrev s13 : Typed.Asks T14 T15
-  s13 = Relend.k-sl-aggregate (Lent.row) (Relend.asMut (Lent.row)) T14 14 15 6 τ7 τ0 (λ x. x) (Scalar.oAt 8 (Syntax.tyInt Syntax.w64) (Row.valS (Row.sInt Syntax.w64)))
+  abbrev s14 : Typed.Asks T15 T16
+  s14 = Relend.k-sl-aggregate (Lent.row) (Relend.asMut (Lent.row)) T15 14 15 7 τ8 τ0 (λ x. x) (Scalar.oAt 8 (Syntax.tyInt Syntax.w64) (Row.valS (Row.sInt Syntax.w64)))
 
-  abbrev s14 : Typed.Both T15 T16
-  s14 = Call.callB ps·1 r·1 (claims· .2) (claims· .3) T15 (
+  abbrev s15 : Typed.Both T16 T17
+  s15 = Call.callB ps·1 r·1 (claims· .2) (claims· .3) T16 (
     Num.vAt 1 λ x. x,
     (
-      Num.vAt 2 λ x. x,
+      record { pos = 2; ty = Syntax.tyRef (Syntax.named 0) Syntax.imm (Syntax.tyInt Syntax.w16); ref = λ x. x },
       (
         record {
-          pos = 3;
-          ty = Syntax.tyRef (Syntax.named 0) Syntax.imm (Syntax.tyInt Syntax.w8);
-          ref = λ x.
-              x;
+          pos
+              = 3;
+          ty = Syntax.tyRef (Syntax.named 1) Syntax.imm (Syntax.tyInt Syntax.w8);
+          ref = λ x. x;
         },
         (
-          record { pos = 4; ty = Syntax.tyRef (Syntax.named 1) Syntax.imm (Syntax.tyInt Syntax.w16); ref = λ x. x },
+          record {
+            pos = 4;
+            ty = Syntax.tyRef (Syntax.named 2) Syntax.imm (Syntax.tyInt Syntax.w16);
+            ref = λ
+                x. x;
+          },
           (
-            record {
-              pos = 5;
-              ty = Syntax.tyRef (Syntax.named 2) Syntax.imm (Syntax.tyInt
-                  Syntax.w16);
-              ref = λ x. x;
-            },
+            record { pos = 5; ty = Syntax.tyRef (Syntax.named 3) Syntax.imm (Syntax.tyInt Syntax.w16); ref = λ x. x },
             (
-              record { pos = 6; ty = Syntax.tyRef (Syntax.named 3) Syntax.imm (Syntax.tyInt Syntax.w16); ref = λ x. x },
+              record {
+                pos = 6;
+                ty = Syntax.tyRef (Syntax.named 4) Syntax.imm
+                    (Syntax.tyInt Syntax.w16);
+                ref = λ x. x;
+              },
               (
-                record {
-                  pos = 13;
-                  ty = Syntax.tyRef Syntax.erased
-                      Syntax.mut (Syntax.tyInt Syntax.w16);
-                  ref = λ x. x;
-                },
-                (record { pos = 15; ty = Syntax.tyRef Syntax.erased Syntax.mut (Lent.pointed); ref = λ x. x }, tt),
+                record { pos = 13; ty = Syntax.tyRef Syntax.erased Syntax.mut (Syntax.tyInt Syntax.w16); ref = λ x. x },
+                (
+                  record {
+                    pos = 15;
+                    ty = Syntax.tyRef
+                        Syntax.erased Syntax.mut (Lent.pointed);
+                    ref = λ x. x;
+                  },
+                  tt,
+                ),
               ),
             ),
           ),
         ),
       ),
     ),
-  ) 10 (0 ∷ 1 ∷ 2 ∷ 3 ∷ 5 ∷ 6 ∷ [])
-      τ11
+  ) 10 (0 ∷ 1 ∷ 2 ∷ 3 ∷ 4 ∷ 6 ∷ 7 ∷ []) τ12
 
-  abbrev s16 : Typed.Both T16 T18
-  s16 = Relend.k-back-sl (Referent.rtF (Referent.fInt Syntax.w16)) T16 13 7 4 5 τ6 τ1 Row.off (λ x. x) λ x. x
+  abbrev s17 : Typed.Both T17 T19
+  s17 = Relend.k-back-sl (Referent.rtF (Referent.fInt Syntax.w16)) T17 13 7 5 6 τ7 τ1 Row.off (λ x. x) λ x. x
 
-  abbrev s17 : Typed.Gives T18 T19
-  s17 = Know.k-sl-known (Referent.fInt Syntax.w16) T18 7 4 τ6 Row.off 0 λ x. x
+  abbrev s18 : Typed.Gives T19 T20
+  s18 = Know.k-sl-known (Referent.fInt Syntax.w16) T19 7 5 τ7 Row.off 0 λ x. x
 
-  abbrev s20 : Typed.Both T19 T22
-  s20 = Share.k-back-arrᵖ (Lent.row) T19 15 9 6 2048 τ0 (λ x. x) λ x. x
+  abbrev s21 : Typed.Both T20 T23
+  s21 = Share.k-back-arrᵖ (Lent.row) T20 15 9 7 2048 τ0 (λ x. x) λ x. x
 
-  abbrev s22 : Typed.Both T22 T24
-  s22 = Call.callB ps·2 r·2 (claims· .4) (claims· .5) T22 (record { pos = 10; st = []; d = 0; at = λ x. x }, tt) 16 [] Syntax.tyUnit
-
-  abbrev s23 : Typed.Mo T24 → Typed.Mo T25
-  s23 = Scalar.n-room T24 10 τ11
+  abbrev s23 : Typed.Both T23 T25
+  s23 = Call.callB ps·2 r·2 (claims· .4) (claims· .5) T23 (record { pos = 10; st = []; d = 0; at = λ x. x }, tt) 16 [] Syntax.tyUnit
 
   abbrev s24 : Typed.Mo T25 → Typed.Mo T26
-  s24 = Scalar.n-room T25 16 Syntax.tyUnit
+  s24 = Scalar.n-room T25 10 τ12
 
   abbrev s25 : Typed.Mo T26 → Typed.Mo T27
-  s25 = LocalCopy.n-val-copy T26 9 0 (Array'.Array (Lent.row) 2048) (Rows.arrF (Lent.row) 2048 0) (Rows.arrF (Lent.row) 2048 0) (λ x. x) (λ x. x) λ x. x
+  s25 = Scalar.n-room T26 16 Syntax.tyUnit
 
   abbrev s26 : Typed.Mo T27 → Typed.Mo T28
-  s26 = Scalar.n-room T27 9 (Syntax.tyArray (Lent.by-value) 2048)
+  s26 = LocalCopy.n-val-copy T27 9 0 (Array'.Array (Lent.row) 2048) (Rows.arrF (Lent.row) 2048 0) (Rows.arrF (Lent.row) 2048 0) (λ x. x) (λ x. x) λ x. x
 
   abbrev s27 : Typed.Mo T28 → Typed.Mo T29
-  s27 = Scalar.n-room T28 1 (Syntax.tyInt Syntax.w16)
+  s27 = Scalar.n-room T28 9 (Syntax.tyArray (Lent.by-value) 2048)
 
   abbrev s28 : Typed.Mo T29 → Typed.Mo T30
-  s28 = Scalar.n-room T29 2 (Syntax.tyInt Syntax.w16)
+  s28 = Scalar.n-room T29 1 (Syntax.tyInt Syntax.w16)
 
   abbrev s29 : Typed.Mo T30 → Typed.Mo T31
   s29 = Scalar.n-room T30 8 (Syntax.tyInt Syntax.w64)
 
-  module _ (Pre· : (κs : Lifetimes.Lfts 5) → Kinds.Dens κs ps → Type 0) (Post· : (κs : Lifetimes.Lfts 5) → (a : Kinds.Dens κs ps) → Kinds.Plain 5 ps r κs) where
+  module _ (Pre· : (κs : Lifetimes.Lfts 6) → Kinds.Dens κs ps → Type 0) (Post· : (κs : Lifetimes.Lfts 6) → (a : Kinds.Dens κs ps) → Kinds.Plain 6 ps r κs) where
     module _ (M : Type 1) where
       abbrev pub Closed : Type 2
       Closed = (𝓤 : URA.URA M) (H : Wp.Heap 𝓤) (A : Atoms.Atoms 𝓤) (W : Kit.Given 𝓤 H A) (𝓣 : Wp.Tables 𝓤 H) (known0 : Plain.Known 𝓤 H A W 𝓣 0 ps·0 r·0 (claims· .0) (claims· .1) "worked::empty_log")
-          (known1 : Plain.Known 𝓤 H A W 𝓣 6 ps·1 r·1 (claims· .2) (claims· .3) "log::filter") (known2 : Plain.Known 𝓤 H A W 𝓣 0 ps·2 r·2 (claims· .4) (claims· .5) "worked::report_filtered") →
-          Statement.Triple 𝓤 (Wp.WpFn 𝓤 H (𝓣 .C) (𝓣 .Λ) (Function.fnOf 5 ps r xs m hs body)) (Function.plainOf 𝓤 H A 5 ps r Pre· Post·)
+          (known1 : Plain.Known 𝓤 H A W 𝓣 7 ps·1 r·1 (claims· .2) (claims· .3) "log::filter") (known2 : Plain.Known 𝓤 H A W 𝓣 0 ps·2 r·2 (claims· .4) (claims· .5) "worked::report_filtered") →
+          Statement.Triple 𝓤 (Wp.WpFn 𝓤 H (𝓣 .C) (𝓣 .Λ) (Function.fnOf 6 ps r xs m hs body)) (Function.plainOf 𝓤 H A 6 ps r Pre· Post·)
 
     module _ where
       abbrev at0 : Typed.TF T31 O0
@@ -547,62 +562,62 @@ module _ (claims· : Claims) where
       abbrev at6 : Typed.TF T25 O0
       at6 = λ Ψ. Typed.pass T25 T26 s24 (at5 Ψ)
 
-      abbrev at7 : Typed.TF T24 O0
-      at7 = λ Ψ. Typed.pass T24 T25 s23 (at6 Ψ)
+      abbrev at7 : Typed.TF T23 O0
+      at7 = λ Ψ. Typed.both s23 (at6 Ψ)
 
-      abbrev at8 : Typed.TF T22 O0
-      at8 = λ Ψ. Typed.both s22 (at7 Ψ)
+      abbrev at8 : Typed.TF T23 O0
+      at8 = λ Ψ. at7 Ψ
 
-      abbrev at9 : Typed.TF T22 O0
-      at9 = λ Ψ. at8 Ψ
+      abbrev at9 : Typed.TF T20 O0
+      at9 = λ Ψ. Typed.both s21 (at8 Ψ)
 
-      abbrev at10 : Typed.TF T19 O0
-      at10 = λ Ψ. Typed.both s20 (at9 Ψ)
+      abbrev at10 : Typed.TF T20 O0
+      at10 = λ Ψ. at9 Ψ
 
-      abbrev at11 : Typed.TF T19 O0
+      abbrev at11 : Typed.TF T20 O0
       at11 = λ Ψ. at10 Ψ
 
       abbrev at12 : Typed.TF T19 O0
-      at12 = λ Ψ. at11 Ψ
+      at12 = λ Ψ. Typed.give s18 (at11 Ψ)
 
-      abbrev at13 : Typed.TF T18 O0
-      at13 = λ Ψ. Typed.give s17 (at12 Ψ)
+      abbrev at13 : Typed.TF T17 O0
+      at13 = λ Ψ. Typed.both s17 (at12 Ψ)
 
-      abbrev at14 : Typed.TF T16 O0
-      at14 = λ Ψ. Typed.both s16 (at13 Ψ)
+      abbrev at14 : Typed.TF T17 O0
+      at14 = λ Ψ. at13 Ψ
 
       abbrev at15 : Typed.TF T16 O0
-      at15 = λ Ψ. at14 Ψ
+      at15 = λ Ψ. Typed.both s15 (at14 Ψ)
 
       abbrev at16 : Typed.TF T15 O0
-      at16 = λ Ψ. Typed.both s14 (at15 Ψ)
+      at16 = λ Ψ. Typed.ask s14 (at15 Ψ)
 
-      abbrev at17 : Typed.TF T14 O0
-      at17 = λ Ψ. Typed.ask s13 (at16 Ψ)
+      abbrev at17 : Typed.TF T13 O0
+      at17 = λ Ψ. Typed.both s13 (at16 Ψ)
 
-      abbrev at18 : Typed.TF T12 O0
-      at18 = λ Ψ. Typed.both s12 (at17 Ψ)
+      abbrev at18 : Typed.TF T13 O0
+      at18 = λ Ψ. at17 Ψ
 
       abbrev at19 : Typed.TF T12 O0
-      at19 = λ Ψ. at18 Ψ
+      at19 = λ Ψ. Typed.ask s11 (at18 Ψ)
 
-      abbrev at20 : Typed.TF T11 O0
-      at20 = λ Ψ. Typed.ask s10 (at19 Ψ)
+      abbrev at20 : Typed.TF T10 O0
+      at20 = λ Ψ. Typed.give s10 (at19 Ψ)
 
-      abbrev at21 : Typed.TF T9 O0
-      at21 = λ Ψ. Typed.give s9 (at20 Ψ)
+      abbrev at21 : Typed.TF T10 O0
+      at21 = λ Ψ. at20 Ψ
 
       abbrev at22 : Typed.TF T9 O0
-      at22 = λ Ψ. at21 Ψ
+      at22 = λ Ψ. Typed.pass T9 T10 s8 (at21 Ψ)
 
       abbrev at23 : Typed.TF T8 O0
       at23 = λ Ψ. Typed.pass T8 T9 s7 (at22 Ψ)
 
       abbrev at24 : Typed.TF T7 O0
-      at24 = λ Ψ. Typed.pass T7 T8 s6 (at23 Ψ)
+      at24 = λ Ψ. Typed.both s6 (at23 Ψ)
 
       abbrev at25 : Typed.TF T6 O0
-      at25 = λ Ψ. Typed.both s5 (at24 Ψ)
+      at25 = λ Ψ. Typed.give s5 (at24 Ψ)
 
       abbrev at26 : Typed.TF T5 O0
       at26 = λ Ψ. Typed.give s4 (at25 Ψ)
@@ -624,326 +639,326 @@ module _ (claims· : Claims) where
 
       module _ {M : Type 1} (𝓤 : URA.URA M) (H : Wp.Heap 𝓤) (A : Atoms.Atoms 𝓤) (W : Kit.Given 𝓤 H A) (𝓣 : Wp.Tables 𝓤 H) where
         abbrev Knowns : Type 1
-        Knowns = Plain.Known 𝓤 H A W 𝓣 0 ps·0 r·0 (claims· .0) (claims· .1) "worked::empty_log" × Plain.Known 𝓤 H A W 𝓣 6 ps·1 r·1 (claims· .2) (claims· .3) "log::filter" × Plain.Known 𝓤 H A W 𝓣 0
+        Knowns = Plain.Known 𝓤 H A W 𝓣 0 ps·0 r·0 (claims· .0) (claims· .1) "worked::empty_log" × Plain.Known 𝓤 H A W 𝓣 7 ps·1 r·1 (claims· .2) (claims· .3) "log::filter" × Plain.Known 𝓤 H A W 𝓣 0
             ps·2 r·2 (claims· .4) (claims· .5) "worked::report_filtered"
 
-      module _ (κs : Lifetimes.Lfts 5) (qs : Lifetimes.Shares 5) where
+      module _ (κs : Lifetimes.Lfts 6) (qs : Lifetimes.Shares 6) where
         abbrev g6 : List.List Row.Entry
-        g6 = (0, Rows'.any-gone (Syntax.tyArray (Lent.by-value) 2048)) ∷ (1, Rows'.sc-here (Row.sInt Syntax.w16)) ∷ (2, Rows'.sc-here (Row.sInt Syntax.w16)) ∷ (
+        g6 = (0, Rows'.any-gone (Syntax.tyArray (Lent.by-value) 2048)) ∷ (1, Rows'.sc-here (Row.sInt Syntax.w16)) ∷ (2, Rows'.sslice (Referent.rtF (Referent.fInt Syntax.w16)) τ3 0) ∷ (
           3,
-          Rows'.sslice (Referent.rtF
-              (Referent.fInt Syntax.w8)) τ2 0,
-        ) ∷ (4, Rows'.sslice (Referent.rtF (Referent.fInt Syntax.w16)) τ3 1) ∷ (5, Rows'.sslice (Referent.rtF (Referent.fInt Syntax.w16)) τ4 2) ∷ (
-          6,
           Rows'.sslice
-              (Referent.rtF (Referent.fInt Syntax.w16)) τ5 3,
-        ) ∷ (7, Relend.mslice-owed (Referent.rtF (Referent.fInt Syntax.w16)) τ6 4 5 (Row.lease (κs .1 .1 .1 .1 .0) (qs .1 .1 .1 .1 .0))) ∷ (
-          8,
-          Rows'.sc-here (Row.sInt Syntax.w64),
-        ) ∷ (9, Rows.arrF (Lent.row) 2048 0) ∷ (10, Rows'.any-gone τ11) ∷ (11, Rows'.any-gone (Syntax.tyArray (Lent.by-value) 2048)) ∷ (
+              (Referent.rtF (Referent.fInt Syntax.w8)) τ2 1,
+        ) ∷ (4, Rows'.sslice (Referent.rtF (Referent.fInt Syntax.w16)) τ4 2) ∷ (5, Rows'.sslice (Referent.rtF (Referent.fInt Syntax.w16)) τ5 3) ∷ (
+          6,
+          Rows'.sslice (Referent.rtF (Referent.fInt Syntax.w16)) τ6 4,
+        ) ∷ (
+          7,
+          Relend.mslice-owed (Referent.rtF (Referent.fInt Syntax.w16)) τ7 5 6 (Row.lease (κs .1 .1 .1 .1 .1 .0) (qs .1 .1 .1 .1 .1
+              .0)),
+        ) ∷ (8, Rows'.sc-here (Row.sInt Syntax.w64)) ∷ (9, Rows.arrF (Lent.row) 2048 0) ∷ (10, Rows'.any-gone τ12) ∷ (11, Rows'.any-gone (Syntax.tyArray (Lent.by-value) 2048)) ∷ (
           12,
-          Relend.msptr
-              (Referent.rtF (Referent.fInt Syntax.w16)) τ1 5,
-        ) ∷ (13, Rows'.any-gone τ9) ∷ (14, Rows'.any-gone τ7) ∷ (15, Rows'.any-gone τ8) ∷ []
+          Relend.msptr (Referent.rtF (Referent.fInt Syntax.w16)) τ1 6,
+        ) ∷ (13, Rows'.any-gone τ10) ∷ (14, Rows'.any-gone τ8) ∷ (15, Rows'.any-gone τ9) ∷ []
 
         abbrev g7 : List.List Row.Entry
-        g7 = (0, Rows'.any-gone (Syntax.tyArray (Lent.by-value) 2048)) ∷ (1, Rows'.sc-here (Row.sInt Syntax.w16)) ∷ (2, Rows'.sc-here (Row.sInt Syntax.w16)) ∷ (
+        g7 = (0, Rows'.any-gone (Syntax.tyArray (Lent.by-value) 2048)) ∷ (1, Rows'.sc-here (Row.sInt Syntax.w16)) ∷ (2, Rows'.sslice (Referent.rtF (Referent.fInt Syntax.w16)) τ3 0) ∷ (
           3,
-          Rows'.sslice (Referent.rtF
-              (Referent.fInt Syntax.w8)) τ2 0,
-        ) ∷ (4, Rows'.sslice (Referent.rtF (Referent.fInt Syntax.w16)) τ3 1) ∷ (5, Rows'.sslice (Referent.rtF (Referent.fInt Syntax.w16)) τ4 2) ∷ (
-          6,
           Rows'.sslice
-              (Referent.rtF (Referent.fInt Syntax.w16)) τ5 3,
-        ) ∷ (7, Relend.mslice-owed (Referent.rtF (Referent.fInt Syntax.w16)) τ6 4 5 (Row.lease (κs .1 .1 .1 .1 .0) (qs .1 .1 .1 .1 .0))) ∷ (
-          8,
-          Rows'.sc-here (Row.sInt Syntax.w64),
-        ) ∷ (9, Rows.arrF (Lent.row) 2048 0) ∷ (10, Rows'.any-gone τ11) ∷ (11, Rows'.any-gone (Syntax.tyArray (Lent.by-value) 2048)) ∷ (12, Rows'.any-gone τ1) ∷
-            (13, Mut.mslice (Referent.rtF (Referent.fInt Syntax.w16)) τ1 5) ∷ (14, Rows'.any-gone τ7) ∷ (15, Rows'.any-gone τ8) ∷ []
+              (Referent.rtF (Referent.fInt Syntax.w8)) τ2 1,
+        ) ∷ (4, Rows'.sslice (Referent.rtF (Referent.fInt Syntax.w16)) τ4 2) ∷ (5, Rows'.sslice (Referent.rtF (Referent.fInt Syntax.w16)) τ5 3) ∷ (
+          6,
+          Rows'.sslice (Referent.rtF (Referent.fInt Syntax.w16)) τ6 4,
+        ) ∷ (
+          7,
+          Relend.mslice-owed (Referent.rtF (Referent.fInt Syntax.w16)) τ7 5 6 (Row.lease (κs .1 .1 .1 .1 .1 .0) (qs .1 .1 .1 .1 .1
+              .0)),
+        ) ∷ (8, Rows'.sc-here (Row.sInt Syntax.w64)) ∷ (9, Rows.arrF (Lent.row) 2048 0) ∷ (10, Rows'.any-gone τ12) ∷ (11, Rows'.any-gone (Syntax.tyArray (Lent.by-value) 2048)) ∷ (
+          12,
+          Rows'.any-gone τ1,
+        ) ∷ (13, Mut.mslice (Referent.rtF (Referent.fInt Syntax.w16)) τ1 6) ∷ (14, Rows'.any-gone τ8) ∷ (15, Rows'.any-gone τ9) ∷ []
 
         abbrev g8 : List.List Row.Entry
-        g8 = (0, Rows'.any-gone (Syntax.tyArray (Lent.by-value) 2048)) ∷ (1, Rows'.sc-here (Row.sInt Syntax.w16)) ∷ (2, Rows'.sc-here (Row.sInt Syntax.w16)) ∷ (
+        g8 = (0, Rows'.any-gone (Syntax.tyArray (Lent.by-value) 2048)) ∷ (1, Rows'.sc-here (Row.sInt Syntax.w16)) ∷ (2, Rows'.sslice (Referent.rtF (Referent.fInt Syntax.w16)) τ3 0) ∷ (
           3,
-          Rows'.sslice (Referent.rtF
-              (Referent.fInt Syntax.w8)) τ2 0,
-        ) ∷ (4, Rows'.sslice (Referent.rtF (Referent.fInt Syntax.w16)) τ3 1) ∷ (5, Rows'.sslice (Referent.rtF (Referent.fInt Syntax.w16)) τ4 2) ∷ (
-          6,
           Rows'.sslice
-              (Referent.rtF (Referent.fInt Syntax.w16)) τ5 3,
-        ) ∷ (7, Relend.mslice-owed (Referent.rtF (Referent.fInt Syntax.w16)) τ6 4 5 (Row.lease (κs .1 .1 .1 .1 .0) (qs .1 .1 .1 .1 .0))) ∷ (
-          8,
-          Rows'.sc-here (Row.sInt Syntax.w64),
-        ) ∷ (9, Rows.arr-owedP (Lent.row) 2048 6) ∷ (10, Rows'.any-gone τ11) ∷ (11, Rows'.any-gone (Syntax.tyArray (Lent.by-value) 2048)) ∷ (
+              (Referent.rtF (Referent.fInt Syntax.w8)) τ2 1,
+        ) ∷ (4, Rows'.sslice (Referent.rtF (Referent.fInt Syntax.w16)) τ4 2) ∷ (5, Rows'.sslice (Referent.rtF (Referent.fInt Syntax.w16)) τ5 3) ∷ (
+          6,
+          Rows'.sslice (Referent.rtF (Referent.fInt Syntax.w16)) τ6 4,
+        ) ∷ (
+          7,
+          Relend.mslice-owed (Referent.rtF (Referent.fInt Syntax.w16)) τ7 5 6 (Row.lease (κs .1 .1 .1 .1 .1 .0) (qs .1 .1 .1 .1 .1
+              .0)),
+        ) ∷ (8, Rows'.sc-here (Row.sInt Syntax.w64)) ∷ (9, Rows.arr-owedP (Lent.row) 2048 7) ∷ (10, Rows'.any-gone τ12) ∷ (11, Rows'.any-gone (Syntax.tyArray (Lent.by-value) 2048)) ∷ (
           12,
-          Rows'.any-gone
-              τ1,
-        ) ∷ (13, Mut.mslice (Referent.rtF (Referent.fInt Syntax.w16)) τ1 5) ∷ (14, Relend.msptr (Lent.row) τ7 6) ∷ (15, Rows'.any-gone τ8) ∷ []
+          Rows'.any-gone τ1,
+        ) ∷ (13, Mut.mslice (Referent.rtF (Referent.fInt Syntax.w16)) τ1 6) ∷ (14, Relend.msptr (Lent.row) τ8 7) ∷ (15, Rows'.any-gone τ9) ∷ []
 
         abbrev g9 : List.List Row.Entry
-        g9 = (0, Rows'.any-gone (Syntax.tyArray (Lent.by-value) 2048)) ∷ (1, Rows'.sc-here (Row.sInt Syntax.w16)) ∷ (2, Rows'.sc-here (Row.sInt Syntax.w16)) ∷ (
+        g9 = (0, Rows'.any-gone (Syntax.tyArray (Lent.by-value) 2048)) ∷ (1, Rows'.sc-here (Row.sInt Syntax.w16)) ∷ (2, Rows'.sslice (Referent.rtF (Referent.fInt Syntax.w16)) τ3 0) ∷ (
           3,
-          Rows'.sslice (Referent.rtF
-              (Referent.fInt Syntax.w8)) τ2 0,
-        ) ∷ (4, Rows'.sslice (Referent.rtF (Referent.fInt Syntax.w16)) τ3 1) ∷ (5, Rows'.sslice (Referent.rtF (Referent.fInt Syntax.w16)) τ4 2) ∷ (
-          6,
           Rows'.sslice
-              (Referent.rtF (Referent.fInt Syntax.w16)) τ5 3,
-        ) ∷ (7, Relend.mslice-owed (Referent.rtF (Referent.fInt Syntax.w16)) τ6 4 5 (Row.lease (κs .1 .1 .1 .1 .0) (qs .1 .1 .1 .1 .0))) ∷ (
-          8,
-          Rows'.sc-here (Row.sInt Syntax.w64),
-        ) ∷ (9, Rows.arr-owedP (Lent.row) 2048 6) ∷ (10, Rows'.any-gone τ11) ∷ (11, Rows'.any-gone (Syntax.tyArray (Lent.by-value) 2048)) ∷ (
+              (Referent.rtF (Referent.fInt Syntax.w8)) τ2 1,
+        ) ∷ (4, Rows'.sslice (Referent.rtF (Referent.fInt Syntax.w16)) τ4 2) ∷ (5, Rows'.sslice (Referent.rtF (Referent.fInt Syntax.w16)) τ5 3) ∷ (
+          6,
+          Rows'.sslice (Referent.rtF (Referent.fInt Syntax.w16)) τ6 4,
+        ) ∷ (
+          7,
+          Relend.mslice-owed (Referent.rtF (Referent.fInt Syntax.w16)) τ7 5 6 (Row.lease (κs .1 .1 .1 .1 .1 .0) (qs .1 .1 .1 .1 .1
+              .0)),
+        ) ∷ (8, Rows'.sc-here (Row.sInt Syntax.w64)) ∷ (9, Rows.arr-owedP (Lent.row) 2048 7) ∷ (10, Rows'.any-gone τ12) ∷ (11, Rows'.any-gone (Syntax.tyArray (Lent.by-value) 2048)) ∷ (
           12,
-          Rows'.any-gone
-              τ1,
-        ) ∷ (13, Mut.mslice (Referent.rtF (Referent.fInt Syntax.w16)) τ1 5) ∷ (14, Rows'.any-gone τ7) ∷ (15, Mut.mslice (Lent.row) τ0 6) ∷ []
+          Rows'.any-gone τ1,
+        ) ∷ (13, Mut.mslice (Referent.rtF (Referent.fInt Syntax.w16)) τ1 6) ∷ (14, Rows'.any-gone τ8) ∷ (15, Mut.mslice (Lent.row) τ0 7) ∷ []
 
         abbrev g10 : List.List Row.Entry
-        g10 = (0, Rows'.any-gone (Syntax.tyArray (Lent.by-value) 2048)) ∷ (1, Rows'.sc-here (Row.sInt Syntax.w16)) ∷ (2, Rows'.sc-here (Row.sInt Syntax.w16)) ∷ (
+        g10 = (0, Rows'.any-gone (Syntax.tyArray (Lent.by-value) 2048)) ∷ (1, Rows'.sc-here (Row.sInt Syntax.w16)) ∷ (2, Rows'.sslice (Referent.rtF (Referent.fInt Syntax.w16)) τ3 0) ∷ (
           3,
-          Rows'.sslice (Referent.rtF
-              (Referent.fInt Syntax.w8)) τ2 0,
-        ) ∷ (4, Rows'.sslice (Referent.rtF (Referent.fInt Syntax.w16)) τ3 1) ∷ (5, Rows'.sslice (Referent.rtF (Referent.fInt Syntax.w16)) τ4 2) ∷ (
-          6,
-          Rows'.sslice
-              (Referent.rtF (Referent.fInt Syntax.w16)) τ5 3,
-        ) ∷ (7, Relend.mslice-owed (Referent.rtF (Referent.fInt Syntax.w16)) τ6 4 5 (Row.lease (κs .1 .1 .1 .1 .0) (qs .1 .1 .1 .1 .0))) ∷ (
-          8,
-          Rows'.sc-here (Row.sInt Syntax.w64),
-        ) ∷ (9, Rows.arr-owedP (Lent.row) 2048 6) ∷ (10, Rows'.whole (Declared.row Filtered.the-type)) ∷ (
+          Rows'.sslice (Referent.rtF (Referent.fInt Syntax.w8)) τ2 1,
+        ) ∷ (4, Rows'.sslice (Referent.rtF (Referent.fInt Syntax.w16)) τ4 2) ∷ (
+          5,
+          Rows'.sslice (Referent.rtF (Referent.fInt Syntax.w16))
+              τ5 3,
+        ) ∷ (6, Rows'.sslice (Referent.rtF (Referent.fInt Syntax.w16)) τ6 4) ∷ (
+          7,
+          Relend.mslice-owed (Referent.rtF (Referent.fInt Syntax.w16)) τ7 5 6 (Row.lease (κs .1 .1 .1 .1 .1 .0) (qs .1
+              .1 .1 .1 .1 .0)),
+        ) ∷ (8, Rows'.sc-here (Row.sInt Syntax.w64)) ∷ (9, Rows.arr-owedP (Lent.row) 2048 7) ∷ (10, Rows'.whole (Declared.row Filtered.the-type)) ∷ (
           11,
-          Rows'.any-gone (Syntax.tyArray (Lent.by-value)
-              2048),
-        ) ∷ (12, Rows'.any-gone τ1) ∷ (13, Mut.msleft (Referent.rtF (Referent.fInt Syntax.w16)) τ1) ∷ (14, Rows'.any-gone τ7) ∷ (15, Mut.msleft (Lent.row) τ0) ∷ []
+          Rows'.any-gone
+              (Syntax.tyArray (Lent.by-value) 2048),
+        ) ∷ (12, Rows'.any-gone τ1) ∷ (13, Mut.msleft (Referent.rtF (Referent.fInt Syntax.w16)) τ1) ∷ (14, Rows'.any-gone τ8) ∷ (15, Mut.msleft (Lent.row) τ0)
+            ∷ []
 
         abbrev G0 : Row.Cx
         G0 = record {
           locals = List._++_ t0 t1;
           slots = (Row.lease (κs .0) (qs .0)) ∷ (Row.lease (κs .1 .0) (qs .1 .0)) ∷ (Row.lease (κs .1 .1 .0) (qs .1 .1 .0)) ∷ (Row.lease (κs .1 .1 .1 .0) (qs .1
-              .1 .1 .0)) ∷ (Row.lease (κs .1 .1 .1 .1 .0) (qs .1 .1 .1 .1 .0)) ∷ Row.off ∷ Row.off ∷ [];
+              .1 .1 .0)) ∷ (Row.lease (κs .1 .1 .1 .1 .0) (qs .1 .1 .1 .1 .0)) ∷ (Row.lease (κs .1 .1 .1 .1 .1 .0) (qs .1 .1 .1 .1 .1 .0)) ∷ Row.off ∷ Row.off ∷ [];
         }
 
         abbrev G1 : Row.Cx
         G1 = record {
           locals = List._++_ t2 t1;
           slots = (Row.lease (κs .0) (qs .0)) ∷ (Row.lease (κs .1 .0) (qs .1 .0)) ∷ (Row.lease (κs .1 .1 .0) (qs .1 .1 .0)) ∷ (Row.lease (κs .1 .1 .1 .0) (qs .1
-              .1 .1 .0)) ∷ (Row.lease (κs .1 .1 .1 .1 .0) (qs .1 .1 .1 .1 .0)) ∷ Row.off ∷ Row.off ∷ [];
+              .1 .1 .0)) ∷ (Row.lease (κs .1 .1 .1 .1 .0) (qs .1 .1 .1 .1 .0)) ∷ (Row.lease (κs .1 .1 .1 .1 .1 .0) (qs .1 .1 .1 .1 .1 .0)) ∷ Row.off ∷ Row.off ∷ [];
         }
 
         abbrev G2 : Row.Cx
         G2 = record {
           locals = List._++_ t0 t1;
           slots = (Row.lease (κs .0) (qs .0)) ∷ (Row.lease (κs .1 .0) (qs .1 .0)) ∷ (Row.lease (κs .1 .1 .0) (qs .1 .1 .0)) ∷ (Row.lease (κs .1 .1 .1 .0) (qs .1
-              .1 .1 .0)) ∷ (Row.lease (κs .1 .1 .1 .1 .0) (qs .1 .1 .1 .1 .0)) ∷ Row.off ∷ Row.off ∷ [];
+              .1 .1 .0)) ∷ (Row.lease (κs .1 .1 .1 .1 .0) (qs .1 .1 .1 .1 .0)) ∷ (Row.lease (κs .1 .1 .1 .1 .1 .0) (qs .1 .1 .1 .1 .1 .0)) ∷ Row.off ∷ Row.off ∷ [];
         }
 
         abbrev G3 : Row.Cx
         G3 = record {
           locals = List._++_ t0 t1;
           slots = (Row.lease (κs .0) (qs .0)) ∷ (Row.lease (κs .1 .0) (qs .1 .0)) ∷ (Row.lease (κs .1 .1 .0) (qs .1 .1 .0)) ∷ (Row.lease (κs .1 .1 .1 .0) (qs .1
-              .1 .1 .0)) ∷ (Row.lease (κs .1 .1 .1 .1 .0) (qs .1 .1 .1 .1 .0)) ∷ Row.off ∷ Row.off ∷ [];
+              .1 .1 .0)) ∷ (Row.lease (κs .1 .1 .1 .1 .0) (qs .1 .1 .1 .1 .0)) ∷ (Row.lease (κs .1 .1 .1 .1 .1 .0) (qs .1 .1 .1 .1 .1 .0)) ∷ Row.off ∷ Row.off ∷ [];
         }
 
         abbrev G4 : Row.Cx
         G4 = record {
           locals = List._++_ t0 t1;
           slots = (Row.lease (κs .0) (qs .0)) ∷ (Row.lease (κs .1 .0) (qs .1 .0)) ∷ (Row.lease (κs .1 .1 .0) (qs .1 .1 .0)) ∷ (Row.lease (κs .1 .1 .1 .0) (qs .1
-              .1 .1 .0)) ∷ (Row.lease (κs .1 .1 .1 .1 .0) (qs .1 .1 .1 .1 .0)) ∷ Row.off ∷ Row.off ∷ [];
+              .1 .1 .0)) ∷ (Row.lease (κs .1 .1 .1 .1 .0) (qs .1 .1 .1 .1 .0)) ∷ (Row.lease (κs .1 .1 .1 .1 .1 .0) (qs .1 .1 .1 .1 .1 .0)) ∷ Row.off ∷ Row.off ∷ [];
         }
 
         abbrev G5 : Row.Cx
         G5 = record {
           locals = List._++_ t0 t1;
           slots = (Row.lease (κs .0) (qs .0)) ∷ (Row.lease (κs .1 .0) (qs .1 .0)) ∷ (Row.lease (κs .1 .1 .0) (qs .1 .1 .0)) ∷ (Row.lease (κs .1 .1 .1 .0) (qs .1
-              .1 .1 .0)) ∷ (Row.lease (κs .1 .1 .1 .1 .0) (qs .1 .1 .1 .1 .0)) ∷ Row.off ∷ Row.off ∷ [];
+              .1 .1 .0)) ∷ (Row.lease (κs .1 .1 .1 .1 .0) (qs .1 .1 .1 .1 .0)) ∷ (Row.lease (κs .1 .1 .1 .1 .1 .0) (qs .1 .1 .1 .1 .1 .0)) ∷ Row.off ∷ Row.off ∷ [];
         }
 
         abbrev G6 : Row.Cx
         G6 = record {
           locals = List._++_ t0 t1;
           slots = (Row.lease (κs .0) (qs .0)) ∷ (Row.lease (κs .1 .0) (qs .1 .0)) ∷ (Row.lease (κs .1 .1 .0) (qs .1 .1 .0)) ∷ (Row.lease (κs .1 .1 .1 .0) (qs .1
-              .1 .1 .0)) ∷ (Row.lease (κs .1 .1 .1 .1 .0) (qs .1 .1 .1 .1 .0)) ∷ Row.off ∷ Row.off ∷ [];
+              .1 .1 .0)) ∷ (Row.lease (κs .1 .1 .1 .1 .0) (qs .1 .1 .1 .1 .0)) ∷ (Row.lease (κs .1 .1 .1 .1 .1 .0) (qs .1 .1 .1 .1 .1 .0)) ∷ Row.off ∷ Row.off ∷ [];
         }
 
         abbrev G7 : Row.Cx
         G7 = record {
-          locals = List._++_ t3 t1;
+          locals = List._++_ t0 t1;
           slots = (Row.lease (κs .0) (qs .0)) ∷ (Row.lease (κs .1 .0) (qs .1 .0)) ∷ (Row.lease (κs .1 .1 .0) (qs .1 .1 .0)) ∷ (Row.lease (κs .1 .1 .1 .0) (qs .1
-              .1 .1 .0)) ∷ (Row.lease (κs .1 .1 .1 .1 .0) (qs .1 .1 .1 .1 .0)) ∷ Row.off ∷ Row.off ∷ [];
+              .1 .1 .0)) ∷ (Row.lease (κs .1 .1 .1 .1 .0) (qs .1 .1 .1 .1 .0)) ∷ (Row.lease (κs .1 .1 .1 .1 .1 .0) (qs .1 .1 .1 .1 .1 .0)) ∷ Row.off ∷ Row.off ∷ [];
         }
 
         abbrev G8 : Row.Cx
         G8 = record {
-          locals = List._++_ t4 t1;
+          locals = List._++_ t3 t1;
           slots = (Row.lease (κs .0) (qs .0)) ∷ (Row.lease (κs .1 .0) (qs .1 .0)) ∷ (Row.lease (κs .1 .1 .0) (qs .1 .1 .0)) ∷ (Row.lease (κs .1 .1 .1 .0) (qs .1
-              .1 .1 .0)) ∷ (Row.lease (κs .1 .1 .1 .1 .0) (qs .1 .1 .1 .1 .0)) ∷ Row.off ∷ Row.off ∷ [];
+              .1 .1 .0)) ∷ (Row.lease (κs .1 .1 .1 .1 .0) (qs .1 .1 .1 .1 .0)) ∷ (Row.lease (κs .1 .1 .1 .1 .1 .0) (qs .1 .1 .1 .1 .1 .0)) ∷ Row.off ∷ Row.off ∷ [];
         }
 
         abbrev G9 : Row.Cx
         G9 = record {
-          locals = List._++_ t5 t1;
+          locals = List._++_ t4 t1;
           slots = (Row.lease (κs .0) (qs .0)) ∷ (Row.lease (κs .1 .0) (qs .1 .0)) ∷ (Row.lease (κs .1 .1 .0) (qs .1 .1 .0)) ∷ (Row.lease (κs .1 .1 .1 .0) (qs .1
-              .1 .1 .0)) ∷ (Row.lease (κs .1 .1 .1 .1 .0) (qs .1 .1 .1 .1 .0)) ∷ Row.off ∷ Row.off ∷ [];
+              .1 .1 .0)) ∷ (Row.lease (κs .1 .1 .1 .1 .0) (qs .1 .1 .1 .1 .0)) ∷ (Row.lease (κs .1 .1 .1 .1 .1 .0) (qs .1 .1 .1 .1 .1 .0)) ∷ Row.off ∷ Row.off ∷ [];
         }
 
         abbrev G10 : Row.Cx
         G10 = record {
           locals = List._++_ t5 t1;
           slots = (Row.lease (κs .0) (qs .0)) ∷ (Row.lease (κs .1 .0) (qs .1 .0)) ∷ (Row.lease (κs .1 .1 .0) (qs .1 .1 .0)) ∷ (Row.lease (κs .1 .1 .1 .0) (qs .1
-              .1 .1 .0)) ∷ (Row.lease (κs .1 .1 .1 .1 .0) (qs .1 .1 .1 .1 .0)) ∷ Row.alive ∷ Row.off ∷ [];
+              .1 .1 .0)) ∷ (Row.lease (κs .1 .1 .1 .1 .0) (qs .1 .1 .1 .1 .0)) ∷ (Row.lease (κs .1 .1 .1 .1 .1 .0) (qs .1 .1 .1 .1 .1 .0)) ∷ Row.off ∷ Row.off ∷ [];
         }
 
         abbrev G11 : Row.Cx
         G11 = record {
-          locals = List._++_ g6 t1;
+          locals = List._++_ t5 t1;
           slots = (Row.lease (κs .0) (qs .0)) ∷ (Row.lease (κs .1 .0) (qs .1 .0)) ∷ (Row.lease (κs .1 .1 .0) (qs .1 .1 .0)) ∷ (Row.lease (κs .1 .1 .1 .0) (qs .1
-              .1 .1 .0)) ∷ Row.off ∷ Row.alive ∷ Row.off ∷ [];
+              .1 .1 .0)) ∷ (Row.lease (κs .1 .1 .1 .1 .0) (qs .1 .1 .1 .1 .0)) ∷ (Row.lease (κs .1 .1 .1 .1 .1 .0) (qs .1 .1 .1 .1 .1 .0)) ∷ Row.alive ∷ Row.off ∷ [];
         }
 
         abbrev G12 : Row.Cx
         G12 = record {
-          locals = List._++_ g7 t1;
+          locals = List._++_ g6 t1;
           slots = (Row.lease (κs .0) (qs .0)) ∷ (Row.lease (κs .1 .0) (qs .1 .0)) ∷ (Row.lease (κs .1 .1 .0) (qs .1 .1 .0)) ∷ (Row.lease (κs .1 .1 .1 .0) (qs .1
-              .1 .1 .0)) ∷ Row.off ∷ Row.alive ∷ Row.off ∷ [];
+              .1 .1 .0)) ∷ (Row.lease (κs .1 .1 .1 .1 .0) (qs .1 .1 .1 .1 .0)) ∷ Row.off ∷ Row.alive ∷ Row.off ∷ [];
         }
 
         abbrev G13 : Row.Cx
         G13 = record {
           locals = List._++_ g7 t1;
           slots = (Row.lease (κs .0) (qs .0)) ∷ (Row.lease (κs .1 .0) (qs .1 .0)) ∷ (Row.lease (κs .1 .1 .0) (qs .1 .1 .0)) ∷ (Row.lease (κs .1 .1 .1 .0) (qs .1
-              .1 .1 .0)) ∷ Row.off ∷ Row.alive ∷ Row.alive ∷ [];
+              .1 .1 .0)) ∷ (Row.lease (κs .1 .1 .1 .1 .0) (qs .1 .1 .1 .1 .0)) ∷ Row.off ∷ Row.alive ∷ Row.off ∷ [];
         }
 
         abbrev G14 : Row.Cx
         G14 = record {
-          locals = List._++_ g8 t1;
+          locals = List._++_ g7 t1;
           slots = (Row.lease (κs .0) (qs .0)) ∷ (Row.lease (κs .1 .0) (qs .1 .0)) ∷ (Row.lease (κs .1 .1 .0) (qs .1 .1 .0)) ∷ (Row.lease (κs .1 .1 .1 .0) (qs .1
-              .1 .1 .0)) ∷ Row.off ∷ Row.alive ∷ Row.alive ∷ [];
+              .1 .1 .0)) ∷ (Row.lease (κs .1 .1 .1 .1 .0) (qs .1 .1 .1 .1 .0)) ∷ Row.off ∷ Row.alive ∷ Row.alive ∷ [];
         }
 
         abbrev G15 : Row.Cx
         G15 = record {
-          locals = List._++_ g9 t1;
+          locals = List._++_ g8 t1;
           slots = (Row.lease (κs .0) (qs .0)) ∷ (Row.lease (κs .1 .0) (qs .1 .0)) ∷ (Row.lease (κs .1 .1 .0) (qs .1 .1 .0)) ∷ (Row.lease (κs .1 .1 .1 .0) (qs .1
-              .1 .1 .0)) ∷ Row.off ∷ Row.alive ∷ Row.alive ∷ [];
+              .1 .1 .0)) ∷ (Row.lease (κs .1 .1 .1 .1 .0) (qs .1 .1 .1 .1 .0)) ∷ Row.off ∷ Row.alive ∷ Row.alive ∷ [];
         }
 
         abbrev G16 : Row.Cx
         G16 = record {
-          locals = List._++_ g10 t1;
-          slots = (Row.lease (κs .0) (qs .0)) ∷ (Row.lease (κs .1 .0) (qs .1 .0)) ∷ (Row.lease (κs .1 .1 .0) (qs .1 .1 .0)) ∷ (Row.lease (κs .1 .1 .1 .0) (qs
-              .1 .1 .1 .0)) ∷ Row.off ∷ Row.alive ∷ Row.alive ∷ [];
+          locals = List._++_ g9 t1;
+          slots = (Row.lease (κs .0) (qs .0)) ∷ (Row.lease (κs .1 .0) (qs .1 .0)) ∷ (Row.lease (κs .1 .1 .0) (qs .1 .1 .0)) ∷ (Row.lease (κs .1 .1 .1 .0) (qs .1
+              .1 .1 .0)) ∷ (Row.lease (κs .1 .1 .1 .1 .0) (qs .1 .1 .1 .1 .0)) ∷ Row.off ∷ Row.alive ∷ Row.alive ∷ [];
         }
 
         abbrev G17 : Row.Cx
         G17 = record {
           locals = List._++_ g10 t1;
           slots = (Row.lease (κs .0) (qs .0)) ∷ (Row.lease (κs .1 .0) (qs .1 .0)) ∷ (Row.lease (κs .1 .1 .0) (qs .1 .1 .0)) ∷ (Row.lease (κs .1 .1 .1 .0) (qs
-              .1 .1 .1 .0)) ∷ Row.off ∷ Row.dead ∷ Row.alive ∷ [];
+              .1 .1 .1 .0)) ∷ (Row.lease (κs .1 .1 .1 .1 .0) (qs .1 .1 .1 .1 .0)) ∷ Row.off ∷ Row.alive ∷ Row.alive ∷ [];
         }
 
         abbrev G18 : Row.Cx
         G18 = record {
-          locals = List._++_ t11 t1;
+          locals = List._++_ g10 t1;
           slots = (Row.lease (κs .0) (qs .0)) ∷ (Row.lease (κs .1 .0) (qs .1 .0)) ∷ (Row.lease (κs .1 .1 .0) (qs .1 .1 .0)) ∷ (Row.lease (κs .1 .1 .1 .0) (qs
-              .1 .1 .1 .0)) ∷ (Row.lease (κs .1 .1 .1 .1 .0) (qs .1 .1 .1 .1 .0)) ∷ Row.dead ∷ Row.alive ∷ [];
+              .1 .1 .1 .0)) ∷ (Row.lease (κs .1 .1 .1 .1 .0) (qs .1 .1 .1 .1 .0)) ∷ Row.off ∷ Row.dead ∷ Row.alive ∷ [];
         }
 
         abbrev G19 : Row.Cx
         G19 = record {
           locals = List._++_ t11 t1;
           slots = (Row.lease (κs .0) (qs .0)) ∷ (Row.lease (κs .1 .0) (qs .1 .0)) ∷ (Row.lease (κs .1 .1 .0) (qs .1 .1 .0)) ∷ (Row.lease (κs .1 .1 .1 .0) (qs
-              .1 .1 .1 .0)) ∷ (Row.lease (κs .1 .1 .1 .1 .0) (qs .1 .1 .1 .1 .0)) ∷ Row.dead ∷ Row.alive ∷ [];
+              .1 .1 .1 .0)) ∷ (Row.lease (κs .1 .1 .1 .1 .0) (qs .1 .1 .1 .1 .0)) ∷ (Row.lease (κs .1 .1 .1 .1 .1 .0) (qs .1 .1 .1 .1 .1 .0)) ∷ Row.dead ∷ Row.alive ∷ [];
         }
 
         abbrev G20 : Row.Cx
         G20 = record {
           locals = List._++_ t11 t1;
           slots = (Row.lease (κs .0) (qs .0)) ∷ (Row.lease (κs .1 .0) (qs .1 .0)) ∷ (Row.lease (κs .1 .1 .0) (qs .1 .1 .0)) ∷ (Row.lease (κs .1 .1 .1 .0) (qs
-              .1 .1 .1 .0)) ∷ (Row.lease (κs .1 .1 .1 .1 .0) (qs .1 .1 .1 .1 .0)) ∷ Row.off ∷ Row.alive ∷ [];
+              .1 .1 .1 .0)) ∷ (Row.lease (κs .1 .1 .1 .1 .0) (qs .1 .1 .1 .1 .0)) ∷ (Row.lease (κs .1 .1 .1 .1 .1 .0) (qs .1 .1 .1 .1 .1 .0)) ∷ Row.dead ∷ Row.alive ∷ [];
         }
 
         abbrev G21 : Row.Cx
         G21 = record {
           locals = List._++_ t11 t1;
           slots = (Row.lease (κs .0) (qs .0)) ∷ (Row.lease (κs .1 .0) (qs .1 .0)) ∷ (Row.lease (κs .1 .1 .0) (qs .1 .1 .0)) ∷ (Row.lease (κs .1 .1 .1 .0) (qs
-              .1 .1 .1 .0)) ∷ (Row.lease (κs .1 .1 .1 .1 .0) (qs .1 .1 .1 .1 .0)) ∷ Row.off ∷ Row.dead ∷ [];
+              .1 .1 .1 .0)) ∷ (Row.lease (κs .1 .1 .1 .1 .0) (qs .1 .1 .1 .1 .0)) ∷ (Row.lease (κs .1 .1 .1 .1 .1 .0) (qs .1 .1 .1 .1 .1 .0)) ∷ Row.off ∷ Row.alive ∷ [];
         }
 
         abbrev G22 : Row.Cx
         G22 = record {
-          locals = List._++_ t12 t1;
+          locals = List._++_ t11 t1;
           slots = (Row.lease (κs .0) (qs .0)) ∷ (Row.lease (κs .1 .0) (qs .1 .0)) ∷ (Row.lease (κs .1 .1 .0) (qs .1 .1 .0)) ∷ (Row.lease (κs .1 .1 .1 .0) (qs
-              .1 .1 .1 .0)) ∷ (Row.lease (κs .1 .1 .1 .1 .0) (qs .1 .1 .1 .1 .0)) ∷ Row.off ∷ Row.dead ∷ [];
+              .1 .1 .1 .0)) ∷ (Row.lease (κs .1 .1 .1 .1 .0) (qs .1 .1 .1 .1 .0)) ∷ (Row.lease (κs .1 .1 .1 .1 .1 .0) (qs .1 .1 .1 .1 .1 .0)) ∷ Row.off ∷ Row.dead ∷ [];
         }
 
         abbrev G23 : Row.Cx
         G23 = record {
           locals = List._++_ t12 t1;
           slots = (Row.lease (κs .0) (qs .0)) ∷ (Row.lease (κs .1 .0) (qs .1 .0)) ∷ (Row.lease (κs .1 .1 .0) (qs .1 .1 .0)) ∷ (Row.lease (κs .1 .1 .1 .0) (qs
-              .1 .1 .1 .0)) ∷ (Row.lease (κs .1 .1 .1 .1 .0) (qs .1 .1 .1 .1 .0)) ∷ Row.off ∷ Row.off ∷ [];
+              .1 .1 .1 .0)) ∷ (Row.lease (κs .1 .1 .1 .1 .0) (qs .1 .1 .1 .1 .0)) ∷ (Row.lease (κs .1 .1 .1 .1 .1 .0) (qs .1 .1 .1 .1 .1 .0)) ∷ Row.off ∷ Row.dead ∷ [];
         }
 
         abbrev G24 : Row.Cx
         G24 = record {
-          locals = List._++_ t12 t13;
+          locals = List._++_ t12 t1;
           slots = (Row.lease (κs .0) (qs .0)) ∷ (Row.lease (κs .1 .0) (qs .1 .0)) ∷ (Row.lease (κs .1 .1 .0) (qs .1 .1 .0)) ∷ (Row.lease (κs .1 .1 .1 .0) (qs
-              .1 .1 .1 .0)) ∷ (Row.lease (κs .1 .1 .1 .1 .0) (qs .1 .1 .1 .1 .0)) ∷ Row.off ∷ Row.off ∷ [];
+              .1 .1 .1 .0)) ∷ (Row.lease (κs .1 .1 .1 .1 .0) (qs .1 .1 .1 .1 .0)) ∷ (Row.lease (κs .1 .1 .1 .1 .1 .0) (qs .1 .1 .1 .1 .1 .0)) ∷ Row.off ∷ Row.off ∷ [];
         }
 
         abbrev G25 : Row.Cx
         G25 = record {
-          locals = List._++_ t5 t13;
+          locals = List._++_ t12 t13;
           slots = (Row.lease (κs .0) (qs .0)) ∷ (Row.lease (κs .1 .0) (qs .1 .0)) ∷ (Row.lease (κs .1 .1 .0) (qs .1 .1 .0)) ∷ (Row.lease (κs .1 .1 .1 .0) (qs
-              .1 .1 .1 .0)) ∷ (Row.lease (κs .1 .1 .1 .1 .0) (qs .1 .1 .1 .1 .0)) ∷ Row.off ∷ Row.off ∷ [];
+              .1 .1 .1 .0)) ∷ (Row.lease (κs .1 .1 .1 .1 .0) (qs .1 .1 .1 .1 .0)) ∷ (Row.lease (κs .1 .1 .1 .1 .1 .0) (qs .1 .1 .1 .1 .1 .0)) ∷ Row.off ∷ Row.off ∷ [];
         }
 
         abbrev G26 : Row.Cx
         G26 = record {
-          locals = List._++_ t5 t1;
-          slots = (Row.lease (κs .0) (qs .0)) ∷ (Row.lease (κs .1 .0) (qs .1 .0)) ∷ (Row.lease (κs .1 .1 .0) (qs .1 .1 .0)) ∷ (Row.lease (κs .1 .1 .1 .0) (qs .1
-              .1 .1 .0)) ∷ (Row.lease (κs .1 .1 .1 .1 .0) (qs .1 .1 .1 .1 .0)) ∷ Row.off ∷ Row.off ∷ [];
+          locals = List._++_ t5 t13;
+          slots = (Row.lease (κs .0) (qs .0)) ∷ (Row.lease (κs .1 .0) (qs .1 .0)) ∷ (Row.lease (κs .1 .1 .0) (qs .1 .1 .0)) ∷ (Row.lease (κs .1 .1 .1 .0) (qs
+              .1 .1 .1 .0)) ∷ (Row.lease (κs .1 .1 .1 .1 .0) (qs .1 .1 .1 .1 .0)) ∷ (Row.lease (κs .1 .1 .1 .1 .1 .0) (qs .1 .1 .1 .1 .1 .0)) ∷ Row.off ∷ Row.off ∷ [];
         }
 
         abbrev G27 : Row.Cx
         G27 = record {
-          locals = List._++_ t14 t1;
-          slots = (Row.lease (κs .0) (qs .0)) ∷ (Row.lease (κs .1 .0) (qs .1 .0)) ∷ (Row.lease (κs .1 .1 .0) (qs .1 .1 .0)) ∷ (Row.lease (κs .1 .1 .1 .0) (qs
-              .1 .1 .1 .0)) ∷ (Row.lease (κs .1 .1 .1 .1 .0) (qs .1 .1 .1 .1 .0)) ∷ Row.off ∷ Row.off ∷ [];
+          locals = List._++_ t5 t1;
+          slots = (Row.lease (κs .0) (qs .0)) ∷ (Row.lease (κs .1 .0) (qs .1 .0)) ∷ (Row.lease (κs .1 .1 .0) (qs .1 .1 .0)) ∷ (Row.lease (κs .1 .1 .1 .0) (qs .1
+              .1 .1 .0)) ∷ (Row.lease (κs .1 .1 .1 .1 .0) (qs .1 .1 .1 .1 .0)) ∷ (Row.lease (κs .1 .1 .1 .1 .1 .0) (qs .1 .1 .1 .1 .1 .0)) ∷ Row.off ∷ Row.off ∷ [];
         }
 
         abbrev G28 : Row.Cx
         G28 = record {
-          locals = List._++_ t15 t1;
+          locals = List._++_ t14 t1;
           slots = (Row.lease (κs .0) (qs .0)) ∷ (Row.lease (κs .1 .0) (qs .1 .0)) ∷ (Row.lease (κs .1 .1 .0) (qs .1 .1 .0)) ∷ (Row.lease (κs .1 .1 .1 .0) (qs
-              .1 .1 .1 .0)) ∷ (Row.lease (κs .1 .1 .1 .1 .0) (qs .1 .1 .1 .1 .0)) ∷ Row.off ∷ Row.off ∷ [];
+              .1 .1 .1 .0)) ∷ (Row.lease (κs .1 .1 .1 .1 .0) (qs .1 .1 .1 .1 .0)) ∷ (Row.lease (κs .1 .1 .1 .1 .1 .0) (qs .1 .1 .1 .1 .1 .0)) ∷ Row.off ∷ Row.off ∷ [];
         }
 
         abbrev G29 : Row.Cx
         G29 = record {
-          locals = List._++_ t16 t1;
+          locals = List._++_ t15 t1;
           slots = (Row.lease (κs .0) (qs .0)) ∷ (Row.lease (κs .1 .0) (qs .1 .0)) ∷ (Row.lease (κs .1 .1 .0) (qs .1 .1 .0)) ∷ (Row.lease (κs .1 .1 .1 .0) (qs
-              .1 .1 .1 .0)) ∷ (Row.lease (κs .1 .1 .1 .1 .0) (qs .1 .1 .1 .1 .0)) ∷ Row.off ∷ Row.off ∷ [];
+              .1 .1 .1 .0)) ∷ (Row.lease (κs .1 .1 .1 .1 .0) (qs .1 .1 .1 .1 .0)) ∷ (Row.lease (κs .1 .1 .1 .1 .1 .0) (qs .1 .1 .1 .1 .1 .0)) ∷ Row.off ∷ Row.off ∷ [];
         }
 
         abbrev G30 : Row.Cx
         G30 = record {
-          locals = List._++_ t17 t1;
+          locals = List._++_ t16 t1;
           slots = (Row.lease (κs .0) (qs .0)) ∷ (Row.lease (κs .1 .0) (qs .1 .0)) ∷ (Row.lease (κs .1 .1 .0) (qs .1 .1 .0)) ∷ (Row.lease (κs .1 .1 .1 .0) (qs
-              .1 .1 .1 .0)) ∷ (Row.lease (κs .1 .1 .1 .1 .0) (qs .1 .1 .1 .1 .0)) ∷ Row.off ∷ Row.off ∷ [];
+              .1 .1 .1 .0)) ∷ (Row.lease (κs .1 .1 .1 .1 .0) (qs .1 .1 .1 .1 .0)) ∷ (Row.lease (κs .1 .1 .1 .1 .1 .0) (qs .1 .1 .1 .1 .1 .0)) ∷ Row.off ∷ Row.off ∷ [];
         }
 
         abbrev G31 : Row.Cx
         G31 = record {
           locals = List._++_ t2 t1;
           slots = (Row.lease (κs .0) (qs .0)) ∷ (Row.lease (κs .1 .0) (qs .1 .0)) ∷ (Row.lease (κs .1 .1 .0) (qs .1 .1 .0)) ∷ (Row.lease (κs .1 .1 .1 .0) (qs .1
-              .1 .1 .0)) ∷ (Row.lease (κs .1 .1 .1 .1 .0) (qs .1 .1 .1 .1 .0)) ∷ Row.off ∷ Row.off ∷ [];
+              .1 .1 .0)) ∷ (Row.lease (κs .1 .1 .1 .1 .0) (qs .1 .1 .1 .1 .0)) ∷ (Row.lease (κs .1 .1 .1 .1 .1 .0) (qs .1 .1 .1 .1 .1 .0)) ∷ Row.off ∷ Row.off ∷ [];
         }
 
         abbrev Δ0 : Typed.Outs
         Δ0 = record { next = Option.none; exits = []; returns = Option.some G1 }
 
         module _ {M : Type 1} (𝓤 : URA.URA M) (H : Wp.Heap 𝓤) (A : Atoms.Atoms 𝓤) (W : Kit.Given 𝓤 H A) (𝓣 : Wp.Tables 𝓤 H) (known : Knowns 𝓤 H A W 𝓣) (bs : List.List Nat.ℕ) (bd :
-            Lifetimes.AllOutlive 5 (Kinds.osR r) κs) where
+            Lifetimes.AllOutlive 6 (Kinds.osR r) κs) where
           abbrev E : Wp.Env 𝓤 H
           E = Frame.EnvOf 𝓤 H ((Kinds.tyR r) ∷ (Enter.tysP ps xs)) bs
 
@@ -954,32 +969,29 @@ module _ (claims· : Claims) where
           d1 = Typed.g-pre 𝓤 H A W 𝓣 E G30 G31 b9 Δ0 (Typed.pass T30 T31 s29) at0 (Scalar.g-room 𝓤 H A W E G30 8 (Syntax.tyInt Syntax.w64) (Scalar.room-sc 𝓤 H A W (Row.sInt Syntax.w64))) d0
 
           d2 : Typed.Typed 𝓤 H A 𝓣 E G29 b9 Δ0 at2
-          d2 = Typed.g-pre 𝓤 H A W 𝓣 E G29 G30 b9 Δ0 (Typed.pass T29 T30 s28) at1 (Scalar.g-room 𝓤 H A W E G29 2 (Syntax.tyInt Syntax.w16) (Scalar.room-sc 𝓤 H A W (Row.sInt Syntax.w16))) d1
+          d2 = Typed.g-pre 𝓤 H A W 𝓣 E G29 G30 b9 Δ0 (Typed.pass T29 T30 s28) at1 (Scalar.g-room 𝓤 H A W E G29 1 (Syntax.tyInt Syntax.w16) (Scalar.room-sc 𝓤 H A W (Row.sInt Syntax.w16))) d1
 
           d3 : Typed.Typed 𝓤 H A 𝓣 E G28 b9 Δ0 at3
-          d3 = Typed.g-pre 𝓤 H A W 𝓣 E G28 G29 b9 Δ0 (Typed.pass T28 T29 s27) at2 (Scalar.g-room 𝓤 H A W E G28 1 (Syntax.tyInt Syntax.w16) (Scalar.room-sc 𝓤 H A W (Row.sInt Syntax.w16))) d2
+          d3 = Typed.g-pre 𝓤 H A W 𝓣 E G28 G29 b9 Δ0 (Typed.pass T28 T29 s27) at2 (Scalar.g-room 𝓤 H A W E G28 9 (Syntax.tyArray (Lent.by-value) 2048) (Init.room-arr 𝓤 H A W (Lent.row) 2048 0 2048
+              Path'.refl)) d2
 
-          d4 : Typed.Typed 𝓤 H A 𝓣 E G27 b9 Δ0 at4
-          d4 = Typed.g-pre 𝓤 H A W 𝓣 E G27 G28 b9 Δ0 (Typed.pass T27 T28 s26) at3 (Scalar.g-room 𝓤 H A W E G27 9 (Syntax.tyArray (Lent.by-value) 2048) (Init.room-arr 𝓤 H A W (Lent.row) 2048 0 2048
-              Path'.refl)) d3
-
-          d5 : Typed.Typed 𝓤 H A 𝓣 E G26 b10 Δ0 at5
-          d5 = Typed.s-seq 𝓤 H A W 𝓣 E G26 G27 b8 b9 Δ0 (Typed.pass T26 T27 s25) at4 (LocalCopy.t-val-copy 𝓤 H A W E 𝓣 (λ ρ. Unit) G26 9 0 (Array'.Array (Lent.row) 2048) (Syntax.tyArray
-              (Lent.by-value) 2048) (Syntax.tyArray (Lent.by-value) 2048) (Rows.arrF (Lent.row) 2048 0) (Rows.arrF (Lent.row) 2048 0) (λ x. x) (λ x. x) (λ x. x) Path'.refl (Own.told-none 𝓤 H A (G26
+          d4 : Typed.Typed 𝓤 H A 𝓣 E G27 b10 Δ0 at4
+          d4 = Typed.s-seq 𝓤 H A W 𝓣 E G27 G28 b8 b9 Δ0 (Typed.pass T27 T28 s26) at3 (LocalCopy.t-val-copy 𝓤 H A W E 𝓣 (λ ρ. Unit) G27 9 0 (Array'.Array (Lent.row) 2048) (Syntax.tyArray
+              (Lent.by-value) 2048) (Syntax.tyArray (Lent.by-value) 2048) (Rows.arrF (Lent.row) 2048 0) (Rows.arrF (Lent.row) 2048 0) (λ x. x) (λ x. x) (λ x. x) Path'.refl (Own.told-none 𝓤 H A (G27
               .slots)) (Yields.yields-copy 𝓤 H A W (λ ρ. Unit) (Array'.Array (Lent.row) 2048) Path'.refl (Copies.cArr (Lent.row) (Lent.copies) 2048 .copy 𝓤 H A W) (Rows.arrF (Lent.row) 2048 0) (λ x.
               x) (λ x. x) (λ ρ told. Whole.mem-arr 𝓤 H A W (Lent.row) 2048 ρ) λ ρ told. Whole.arr-mem 𝓤 H A W (Lent.row) 2048 tt ρ) (Reads.room-gone 𝓤 H A (Syntax.tyArray (Lent.by-value) 2048))
               (Yields.makes-mem 𝓤 H A W (λ ρ. Unit) (Array'.Array (Lent.row) 2048) Path'.refl (Rows.arrF (Lent.row) 2048 0) (λ x. x) λ ρ told. Whole.arr-mem 𝓤 H A W (Lent.row) 2048 tt ρ) Path'.refl
-              Path'.refl) d4
+              Path'.refl) d3
+
+          d5 : Typed.Typed 𝓤 H A 𝓣 E G26 b10 Δ0 at5
+          d5 = Typed.g-pre 𝓤 H A W 𝓣 E G26 G27 b10 Δ0 (Typed.pass T26 T27 s25) at4 (Scalar.g-room 𝓤 H A W E G26 16 Syntax.tyUnit (Scalar.room-sc 𝓤 H A W Row.sUnit)) d4
 
           d6 : Typed.Typed 𝓤 H A 𝓣 E G25 b10 Δ0 at6
-          d6 = Typed.g-pre 𝓤 H A W 𝓣 E G25 G26 b10 Δ0 (Typed.pass T25 T26 s24) at5 (Scalar.g-room 𝓤 H A W E G25 16 Syntax.tyUnit (Scalar.room-sc 𝓤 H A W Row.sUnit)) d5
+          d6 = Typed.g-pre 𝓤 H A W 𝓣 E G25 G26 b10 Δ0 (Typed.pass T25 T26 s24) at5 (Scalar.g-room 𝓤 H A W E G25 10 τ12 (Local.room-whole 𝓤 H A W (Declared.row Filtered.the-type) τ12 Path'.refl)) d5
 
-          d7 : Typed.Typed 𝓤 H A 𝓣 E G24 b10 Δ0 at7
-          d7 = Typed.g-pre 𝓤 H A W 𝓣 E G24 G25 b10 Δ0 (Typed.pass T24 T25 s23) at6 (Scalar.g-room 𝓤 H A W E G24 10 τ11 (Local.room-whole 𝓤 H A W (Declared.row Filtered.the-type) τ11 Path'.refl)) d6
-
-          d8 : Typed.Typed 𝓤 H A 𝓣 E G23 b11 Δ0 at8
-          d8 = Typed.s-seq 𝓤 H A W 𝓣 E G23 G24 b7 b10 Δ0 (Typed.both s22) at7 (Plain.t-call-plain 𝓤 H A W 𝓣 0 ps·2 r·2 (claims· .4) (claims· .5) "worked::report_filtered" (known .2) E (λ pos β. β)
-              G23 (record { pos = 10; st = []; d = 0; at = λ x. x }, tt) 16 [] (Call.sub-id 𝓤 H A W (G23 .slots)) (
+          d7 : Typed.Typed 𝓤 H A 𝓣 E G24 b11 Δ0 at7
+          d7 = Typed.s-seq 𝓤 H A W 𝓣 E G24 G25 b7 b10 Δ0 (Typed.both s23) at6 (Plain.t-call-plain 𝓤 H A W 𝓣 0 ps·2 r·2 (claims· .4) (claims· .5) "worked::report_filtered" (known .2) E (λ pos β. β)
+              G24 (record { pos = 10; st = []; d = 0; at = λ x. x }, tt) 16 [] (Call.sub-id 𝓤 H A W (G24 .slots)) (
                 (
                   Yields.yields-copy 𝓤 H A W (λ ρ. Unit) (Declared.row Filtered.the-type) Path'.refl
                       (Copies.cEnum Filtered.the-type Laws.the-laws Laws.the-copy .copy 𝓤 H A W) (Rows'.whole (Declared.row Filtered.the-type)) (λ x. x) (λ x. x) (λ ρ told. Local.mem-whole 𝓤 H A W
@@ -987,122 +999,134 @@ module _ (claims· : Claims) where
                   Path'.refl,
                 ),
                 tt,
-              ) (Reads.room-gone 𝓤 H A Syntax.tyUnit) tt Path'.refl) d7
+              ) (Reads.room-gone 𝓤 H A Syntax.tyUnit) tt Path'.refl) d6
+
+          d8 : Typed.Typed 𝓤 H A 𝓣 E G23 b11 Δ0 at8
+          d8 = Typed.g-pre 𝓤 H A W 𝓣 E G23 G24 b11 Δ0 (λ Ψ. Ψ) at7 (Lifetime.g-forget 𝓤 H A W E G23 7 Row.dead Path'.refl) d7
 
           d9 : Typed.Typed 𝓤 H A 𝓣 E G22 b11 Δ0 at9
-          d9 = Typed.g-pre 𝓤 H A W 𝓣 E G22 G23 b11 Δ0 (λ Ψ. Ψ) at8 (Lifetime.g-forget 𝓤 H A W E G22 6 Row.dead Path'.refl) d8
+          d9 = Typed.g-pre 𝓤 H A W 𝓣 E G22 G23 b11 Δ0 (Typed.both s21) at8 (Share.g-back-arrᵖ 𝓤 H A W E (Lent.row) G22 15 9 7 2048 τ0 (λ x. x) (λ x. x) (Reads.as-is 𝓤 H A (Mut.msleft (Lent.row) τ0))
+              (Reads.as-is 𝓤 H A (Rows.arr-owedP (Lent.row) 2048 7)) Path'.refl) d8
 
           d10 : Typed.Typed 𝓤 H A 𝓣 E G21 b11 Δ0 at10
-          d10 = Typed.g-pre 𝓤 H A W 𝓣 E G21 G22 b11 Δ0 (Typed.both s20) at9 (Share.g-back-arrᵖ 𝓤 H A W E (Lent.row) G21 15 9 6 2048 τ0 (λ x. x) (λ x. x) (Reads.as-is 𝓤 H A (Mut.msleft (Lent.row) τ0))
-              (Reads.as-is 𝓤 H A (Rows.arr-owedP (Lent.row) 2048 6)) Path'.refl) d9
+          d10 = Typed.g-pre 𝓤 H A W 𝓣 E G21 G22 b11 Δ0 (λ Ψ. Ψ) at9 (Lifetime.g-end 𝓤 H A W E G21 7 Path'.refl) d9
 
           d11 : Typed.Typed 𝓤 H A 𝓣 E G20 b11 Δ0 at11
-          d11 = Typed.g-pre 𝓤 H A W 𝓣 E G20 G21 b11 Δ0 (λ Ψ. Ψ) at10 (Lifetime.g-end 𝓤 H A W E G20 6 Path'.refl) d10
+          d11 = Typed.g-pre 𝓤 H A W 𝓣 E G20 G21 b11 Δ0 (λ Ψ. Ψ) at10 (Lifetime.g-forget 𝓤 H A W E G20 6 Row.dead Path'.refl) d10
 
           d12 : Typed.Typed 𝓤 H A 𝓣 E G19 b11 Δ0 at12
-          d12 = Typed.g-pre 𝓤 H A W 𝓣 E G19 G20 b11 Δ0 (λ Ψ. Ψ) at11 (Lifetime.g-forget 𝓤 H A W E G19 5 Row.dead Path'.refl) d11
+          d12 = Typed.g-pre 𝓤 H A W 𝓣 E G19 G20 b11 Δ0 (Typed.give s18) at11 (Know.g-sl-known 𝓤 H A W (Referent.fInt Syntax.w16) E G19 7 5 τ7 (Row.lease (κs .1 .1 .1 .1 .1 .0) (qs .1 .1 .1 .1 .1 .0))
+              0 (λ x. x) record { fits = Dec'.lit< tt } (Reads.as-is 𝓤 H A (Mut.mslice (Referent.rtF (Referent.fInt Syntax.w16)) τ7 5)) Path'.refl tt) d11
 
           d13 : Typed.Typed 𝓤 H A 𝓣 E G18 b11 Δ0 at13
-          d13 = Typed.g-pre 𝓤 H A W 𝓣 E G18 G19 b11 Δ0 (Typed.give s17) at12 (Know.g-sl-known 𝓤 H A W (Referent.fInt Syntax.w16) E G18 7 4 τ6 (Row.lease (κs .1 .1 .1 .1 .0) (qs .1 .1 .1 .1 .0)) 0 (λ
-              x. x) record { fits = Dec'.lit< tt } (Reads.as-is 𝓤 H A (Mut.mslice (Referent.rtF (Referent.fInt Syntax.w16)) τ6 4)) Path'.refl tt) d12
+          d13 = Typed.g-pre 𝓤 H A W 𝓣 E G18 G19 b11 Δ0 (Typed.both s17) at12 (Relend.g-back-sl 𝓤 H A W E (Referent.rtF (Referent.fInt Syntax.w16)) G18 13 7 5 6 τ7 τ1 (Row.lease (κs .1 .1 .1 .1 .1 .0)
+              (qs .1 .1 .1 .1 .1 .0)) (λ x. x) (λ x. x) (Reads.as-is 𝓤 H A (Mut.msleft (Referent.rtF (Referent.fInt Syntax.w16)) τ1)) (Reads.as-is 𝓤 H A (Relend.mslice-owed (Referent.rtF
+              (Referent.fInt Syntax.w16)) τ7 5 6 (Row.lease (κs .1 .1 .1 .1 .1 .0) (qs .1 .1 .1 .1 .1 .0)))) Path'.refl Path'.refl) d12
 
           d14 : Typed.Typed 𝓤 H A 𝓣 E G17 b11 Δ0 at14
-          d14 = Typed.g-pre 𝓤 H A W 𝓣 E G17 G18 b11 Δ0 (Typed.both s16) at13 (Relend.g-back-sl 𝓤 H A W E (Referent.rtF (Referent.fInt Syntax.w16)) G17 13 7 4 5 τ6 τ1 (Row.lease (κs .1 .1 .1 .1 .0)
-              (qs .1 .1 .1 .1 .0)) (λ x. x) (λ x. x) (Reads.as-is 𝓤 H A (Mut.msleft (Referent.rtF (Referent.fInt Syntax.w16)) τ1)) (Reads.as-is 𝓤 H A (Relend.mslice-owed (Referent.rtF (Referent.fInt
-              Syntax.w16)) τ6 4 5 (Row.lease (κs .1 .1 .1 .1 .0) (qs .1 .1 .1 .1 .0)))) Path'.refl Path'.refl) d13
+          d14 = Typed.g-pre 𝓤 H A W 𝓣 E G17 G18 b11 Δ0 (λ Ψ. Ψ) at13 (Lifetime.g-end 𝓤 H A W E G17 6 Path'.refl) d13
 
-          d15 : Typed.Typed 𝓤 H A 𝓣 E G16 b11 Δ0 at15
-          d15 = Typed.g-pre 𝓤 H A W 𝓣 E G16 G17 b11 Δ0 (λ Ψ. Ψ) at14 (Lifetime.g-end 𝓤 H A W E G16 5 Path'.refl) d14
-
-          d16 : Typed.Typed 𝓤 H A 𝓣 E G15 b12 Δ0 at16
-          d16 = Typed.s-seq 𝓤 H A W 𝓣 E G15 G16 b6 b11 Δ0 (Typed.both s14) at15 (Plain.t-call-plain 𝓤 H A W 𝓣 6 ps·1 r·1 (claims· .2) (claims· .3) "log::filter" (known .1) E (λ pos β. β) G15 (
+          d15 : Typed.Typed 𝓤 H A 𝓣 E G16 b12 Δ0 at15
+          d15 = Typed.s-seq 𝓤 H A W 𝓣 E G16 G17 b6 b11 Δ0 (Typed.both s15) at14 (Plain.t-call-plain 𝓤 H A W 𝓣 7 ps·1 r·1 (claims· .2) (claims· .3) "log::filter" (known .1) E (λ pos β. β) G16 (
             Num.vAt
                 1 λ x. x,
             (
-              Num.vAt 2 λ x. x,
+              record { pos = 2; ty = Syntax.tyRef (Syntax.named 0) Syntax.imm (Syntax.tyInt Syntax.w16); ref = λ x. x },
               (
-                record { pos = 3; ty = Syntax.tyRef (Syntax.named 0) Syntax.imm (Syntax.tyInt Syntax.w8); ref = λ x. x },
+                record {
+                  pos = 3;
+                  ty = Syntax.tyRef (Syntax.named 1) Syntax.imm
+                      (Syntax.tyInt Syntax.w8);
+                  ref = λ x. x;
+                },
                 (
-                  record {
-                    pos = 4;
-                    ty = Syntax.tyRef
-                        (Syntax.named 1) Syntax.imm (Syntax.tyInt Syntax.w16);
-                    ref = λ x. x;
-                  },
+                  record { pos = 4; ty = Syntax.tyRef (Syntax.named 2) Syntax.imm (Syntax.tyInt Syntax.w16); ref = λ x. x },
                   (
-                    record { pos = 5; ty = Syntax.tyRef (Syntax.named 2) Syntax.imm (Syntax.tyInt Syntax.w16); ref = λ x. x },
+                    record {
+                      pos = 5;
+                      ty =
+                          Syntax.tyRef (Syntax.named 3) Syntax.imm (Syntax.tyInt Syntax.w16);
+                      ref = λ x. x;
+                    },
                     (
-                      record { pos = 6; ty = Syntax.tyRef (Syntax.named 3) Syntax.imm (Syntax.tyInt Syntax.w16); ref = λ x. x },
+                      record {
+                        pos = 6;
+                        ty = Syntax.tyRef (Syntax.named 4) Syntax.imm (Syntax.tyInt Syntax.w16);
+                        ref = λ
+                            x. x;
+                      },
                       (
-                        record {
-                          pos = 13;
-                          ty = Syntax.tyRef Syntax.erased Syntax.mut (Syntax.tyInt
-                              Syntax.w16);
-                          ref = λ x. x;
-                        },
-                        (record { pos = 15; ty = Syntax.tyRef Syntax.erased Syntax.mut (Lent.pointed); ref = λ x. x }, tt),
+                        record { pos = 13; ty = Syntax.tyRef Syntax.erased Syntax.mut (Syntax.tyInt Syntax.w16); ref = λ x. x },
+                        (
+                          record {
+                            pos = 15;
+                            ty = Syntax.tyRef Syntax.erased Syntax.mut
+                                (Lent.pointed);
+                            ref = λ x. x;
+                          },
+                          tt,
+                        ),
                       ),
                     ),
                   ),
                 ),
               ),
             ),
-          ) 10 (0 ∷ 1 ∷ 2 ∷ 3 ∷ 5 ∷ 6 ∷ []) (Call.sub-id 𝓤 H
-              A W (G15 .slots)) (
-                (Scalar.reads-sc 𝓤 H A W (Row.sInt Syntax.w16), Path'.refl),
+          ) 10 (0 ∷ 1 ∷ 2 ∷ 3 ∷ 4 ∷ 6 ∷ 7 ∷ []) (Call.sub-id 𝓤 H A W (G16 .slots)) (
+            (Scalar.reads-sc 𝓤 H A W (Row.sInt Syntax.w16), Path'.refl),
+            (
+              ShrSlice.spares-sslice 𝓤 H A W (Referent.rtF (Referent.fInt Syntax.w16)) τ3 0,
+              Shared.reads-sslice 𝓤 H A W (Referent.rtF (Referent.fInt Syntax.w16)) τ3 0,
+              Path'.refl,
+              (
+                ShrSlice.spares-sslice 𝓤 H A W (Referent.rtF (Referent.fInt Syntax.w8)) τ2 1,
+                Shared.reads-sslice 𝓤 H A W (Referent.rtF (Referent.fInt Syntax.w8)) τ2 1,
+                Path'.refl,
                 (
-                  (Scalar.reads-sc 𝓤 H A W (Row.sInt Syntax.w16), Path'.refl),
+                  ShrSlice.spares-sslice 𝓤 H A W (Referent.rtF (Referent.fInt Syntax.w16)) τ4 2,
+                  Shared.reads-sslice 𝓤 H A W (Referent.rtF (Referent.fInt Syntax.w16)) τ4 2,
+                  Path'.refl,
                   (
-                    ShrSlice.spares-sslice 𝓤 H A W
-                        (Referent.rtF (Referent.fInt Syntax.w8)) τ2 0,
-                    Shared.reads-sslice 𝓤 H A W (Referent.rtF (Referent.fInt Syntax.w8)) τ2 0,
+                    ShrSlice.spares-sslice 𝓤 H A W (Referent.rtF (Referent.fInt Syntax.w16)) τ5 3,
+                    Shared.reads-sslice 𝓤 H A W (Referent.rtF (Referent.fInt Syntax.w16)) τ5 3,
                     Path'.refl,
                     (
-                      ShrSlice.spares-sslice 𝓤 H A W (Referent.rtF
-                          (Referent.fInt Syntax.w16)) τ3 1,
-                      Shared.reads-sslice 𝓤 H A W (Referent.rtF (Referent.fInt Syntax.w16)) τ3 1,
+                      ShrSlice.spares-sslice 𝓤 H A W (Referent.rtF (Referent.fInt Syntax.w16)) τ6 4,
+                      Shared.reads-sslice 𝓤 H A W (Referent.rtF (Referent.fInt Syntax.w16)) τ6 4,
                       Path'.refl,
                       (
-                        ShrSlice.spares-sslice 𝓤 H A W (Referent.rtF (Referent.fInt
-                            Syntax.w16)) τ4 2,
-                        Shared.reads-sslice 𝓤 H A W (Referent.rtF (Referent.fInt Syntax.w16)) τ4 2,
+                        Reads.as-is 𝓤 H
+                            A (Mut.mslice (Referent.rtF (Referent.fInt Syntax.w16)) τ1 6),
+                        Mut.reads-mslice 𝓤 H A W (Referent.rtF (Referent.fInt Syntax.w16)) τ1 6,
                         Path'.refl,
                         (
-                          ShrSlice.spares-sslice 𝓤 H A W (Referent.rtF (Referent.fInt Syntax.w16)) τ5
-                              3,
-                          Shared.reads-sslice 𝓤 H A W (Referent.rtF (Referent.fInt Syntax.w16)) τ5 3,
+                          Reads.as-is 𝓤 H A (Mut.mslice
+                              (Lent.row) τ0 7),
+                          Mut.reads-mslice 𝓤 H A W (Lent.row) τ0 7,
                           Path'.refl,
-                          (
-                            Reads.as-is 𝓤 H A (Mut.mslice (Referent.rtF (Referent.fInt Syntax.w16)) τ1 5),
-                            Mut.reads-mslice 𝓤 H A W (Referent.rtF (Referent.fInt Syntax.w16)) τ1 5,
-                            Path'.refl,
-                            (
-                              Reads.as-is 𝓤 H A (Mut.mslice (Lent.row) τ0 6),
-                              Mut.reads-mslice 𝓤 H A W (Lent.row) τ0 6,
-                              Path'.refl,
-                              tt,
-                            ),
-                          ),
+                          tt,
                         ),
                       ),
                     ),
                   ),
                 ),
-              ) (Reads.room-gone 𝓤 H A τ11) (tt, (tt, (tt, (tt, (tt, (tt, tt)))))) Path'.refl) d15
+              ),
+            ),
+          ) (Reads.room-gone 𝓤 H A τ12) (tt, (tt, (tt, (tt, (tt, (tt, (tt, tt))))))) Path'.refl) d14
 
-          d17 : Typed.Typed 𝓤 H A 𝓣 E G14 b13 Δ0 at17
-          d17 = Typed.s-seq 𝓤 H A W 𝓣 E G14 G15 b5 b12 Δ0 (Typed.ask s13) at16 (Relend.t-sl-aggregate 𝓤 H A W E (Lent.row) 𝓣 (Relend.asMut (Lent.row)) G14 14 15 6 τ7 τ0 (λ x. x) (Scalar.oAt 8
-              (Syntax.tyInt Syntax.w64) (Row.valS (Row.sInt Syntax.w64))) (Reads.as-is 𝓤 H A (Relend.msptr (Lent.row) τ7 6)) (Reads.room-gone 𝓤 H A τ8) (
+          d16 : Typed.Typed 𝓤 H A 𝓣 E G15 b13 Δ0 at16
+          d16 = Typed.s-seq 𝓤 H A W 𝓣 E G15 G16 b5 b12 Δ0 (Typed.ask s14) at15 (Relend.t-sl-aggregate 𝓤 H A W E (Lent.row) 𝓣 (Relend.asMut (Lent.row)) G15 14 15 7 τ8 τ0 (λ x. x) (Scalar.oAt 8
+              (Syntax.tyInt Syntax.w64) (Row.valS (Row.sInt Syntax.w64))) (Reads.as-is 𝓤 H A (Relend.msptr (Lent.row) τ8 7)) (Reads.room-gone 𝓤 H A τ9) (
                 Scalar.reads-sc 𝓤 H A W (Row.sInt Syntax.w64),
                 Path'.refl,
-              ) Path'.refl Path'.refl λ b o k. tt) d16
+              ) Path'.refl Path'.refl λ b o k. tt) d15
+
+          d17 : Typed.Typed 𝓤 H A 𝓣 E G14 b14 Δ0 at17
+          d17 = Typed.s-seq 𝓤 H A W 𝓣 E G14 G15 b4 b13 Δ0 (Typed.both s13) at16 (Share.t-arr-borrowᵖ 𝓤 H A W E 𝓣 (Lent.row) G14 9 14 2048 7 τ8 (λ x. x) (λ u. u .1 .1 .1 .1 .1 .1 .1 .1 .0)
+              (Reads.as-is 𝓤 H A (Rows.arrF (Lent.row) 2048 0)) (Reads.room-gone 𝓤 H A τ8) Path'.refl (λ b o. tt) (Dec'.lit< tt, Dec'.lit< tt)) d16
 
           d18 : Typed.Typed 𝓤 H A 𝓣 E G13 b14 Δ0 at18
-          d18 = Typed.s-seq 𝓤 H A W 𝓣 E G13 G14 b4 b13 Δ0 (Typed.both s12) at17 (Share.t-arr-borrowᵖ 𝓤 H A W E 𝓣 (Lent.row) G13 9 14 2048 6 τ7 (λ x. x) (λ u. u .1 .1 .1 .1 .1 .1 .1 .1 .0)
-              (Reads.as-is 𝓤 H A (Rows.arrF (Lent.row) 2048 0)) (Reads.room-gone 𝓤 H A τ7) Path'.refl (λ b o. tt) (Dec'.lit< tt, Dec'.lit< tt)) d17
-
-          d19 : Typed.Typed 𝓤 H A 𝓣 E G12 b14 Δ0 at19
-          d19 = Typed.g-pre 𝓤 H A W 𝓣 E G12 G13 b14 Δ0 (λ Ψ. Ψ) at18 (Lifetime.g-begin 𝓤 H A W E G12 6 (
+          d18 = Typed.g-pre 𝓤 H A W 𝓣 E G13 G14 b14 Δ0 (λ Ψ. Ψ) at17 (Lifetime.g-begin 𝓤 H A W E G13 7 (
             tt,
             (
               tt,
@@ -1153,24 +1177,24 @@ module _ (claims· : Claims) where
                 ),
               ),
             ),
-          )) d18
+          )) d17
 
-          d20 : Typed.Typed 𝓤 H A 𝓣 E G11 b15 Δ0 at20
-          d20 = Typed.s-seq 𝓤 H A W 𝓣 E G11 G12 b3 b14 Δ0 (Typed.ask s10) at19 (Relend.t-sl-aggregate 𝓤 H A W E (Referent.rtF (Referent.fInt Syntax.w16)) 𝓣 (Relend.asMut (Referent.rtF (Referent.fInt
-              Syntax.w16))) G11 12 13 5 τ1 τ1 (λ x. x) (Scalar.oFld 7 ((Syntax.field 1) ∷ []) (Syntax.tyInt Syntax.w64) 8 λ v. Shared.lenV (v .0)) (Reads.as-is 𝓤 H A (Relend.msptr (Referent.rtF
-              (Referent.fInt Syntax.w16)) τ1 5)) (Reads.room-gone 𝓤 H A τ9) (
-                Relend.reads-owed-len 𝓤 H A W (Referent.rtF (Referent.fInt Syntax.w16)) τ6 4 5 (Row.lease (κs .1 .1 .1 .1 .0) (qs .1 .1 .1
-                    .1 .0)) 8 Path'.refl,
+          d19 : Typed.Typed 𝓤 H A 𝓣 E G12 b15 Δ0 at19
+          d19 = Typed.s-seq 𝓤 H A W 𝓣 E G12 G13 b3 b14 Δ0 (Typed.ask s11) at18 (Relend.t-sl-aggregate 𝓤 H A W E (Referent.rtF (Referent.fInt Syntax.w16)) 𝓣 (Relend.asMut (Referent.rtF (Referent.fInt
+              Syntax.w16))) G12 12 13 6 τ1 τ1 (λ x. x) (Scalar.oFld 7 ((Syntax.field 1) ∷ []) (Syntax.tyInt Syntax.w64) 8 λ v. Shared.lenV (v .0)) (Reads.as-is 𝓤 H A (Relend.msptr (Referent.rtF
+              (Referent.fInt Syntax.w16)) τ1 6)) (Reads.room-gone 𝓤 H A τ10) (
+                Relend.reads-owed-len 𝓤 H A W (Referent.rtF (Referent.fInt Syntax.w16)) τ7 5 6 (Row.lease (κs .1 .1 .1 .1 .1 .0) (qs .1
+                    .1 .1 .1 .1 .0)) 8 Path'.refl,
                 Path'.refl,
-              ) Path'.refl Path'.refl λ b o k. tt) d19
+              ) Path'.refl Path'.refl λ b o k. tt) d18
+
+          d20 : Typed.Typed 𝓤 H A 𝓣 E G11 b16 Δ0 at20
+          d20 = Typed.s-seq 𝓤 H A W 𝓣 E G11 G12 b2 b15 Δ0 (Typed.give s10) at19 (Relend.t-sl-relend 𝓤 H A W E (Referent.rtF (Referent.fInt Syntax.w16)) 𝓣 G11 7 12 5 6 τ7 τ1 (Row.lease (κs .1 .1 .1 .1
+              .1 .0) (qs .1 .1 .1 .1 .1 .0)) 0 (λ x. x) (Reads.as-is 𝓤 H A (Mut.mslice (Referent.rtF (Referent.fInt Syntax.w16)) τ7 5)) (Reads.room-gone 𝓤 H A τ1) Path'.refl tt Path'.refl Path'.refl
+              Path'.refl λ b o. tt) d19
 
           d21 : Typed.Typed 𝓤 H A 𝓣 E G10 b16 Δ0 at21
-          d21 = Typed.s-seq 𝓤 H A W 𝓣 E G10 G11 b2 b15 Δ0 (Typed.give s9) at20 (Relend.t-sl-relend 𝓤 H A W E (Referent.rtF (Referent.fInt Syntax.w16)) 𝓣 G10 7 12 4 5 τ6 τ1 (Row.lease (κs .1 .1 .1 .1
-              .0) (qs .1 .1 .1 .1 .0)) 0 (λ x. x) (Reads.as-is 𝓤 H A (Mut.mslice (Referent.rtF (Referent.fInt Syntax.w16)) τ6 4)) (Reads.room-gone 𝓤 H A τ1) Path'.refl tt Path'.refl Path'.refl
-              Path'.refl λ b o. tt) d20
-
-          d22 : Typed.Typed 𝓤 H A 𝓣 E G9 b16 Δ0 at22
-          d22 = Typed.g-pre 𝓤 H A W 𝓣 E G9 G10 b16 Δ0 (λ Ψ. Ψ) at21 (Lifetime.g-begin 𝓤 H A W E G9 5 (
+          d21 = Typed.g-pre 𝓤 H A W 𝓣 E G10 G11 b16 Δ0 (λ Ψ. Ψ) at20 (Lifetime.g-begin 𝓤 H A W E G10 6 (
             tt,
             (
               tt,
@@ -1221,84 +1245,87 @@ module _ (claims· : Claims) where
                 ),
               ),
             ),
-          )) d21
+          )) d20
 
-          d23 : Typed.Typed 𝓤 H A 𝓣 E G8 b16 Δ0 at23
-          d23 = Typed.g-pre 𝓤 H A W 𝓣 E G8 G9 b16 Δ0 (Typed.pass T8 T9 s7) at22 (Scalar.g-room 𝓤 H A W E G8 11 (Syntax.tyArray (Lent.by-value) 2048) (Init.room-arr 𝓤 H A W (Lent.row) 2048 0 2048
-              Path'.refl)) d22
+          d22 : Typed.Typed 𝓤 H A 𝓣 E G9 b16 Δ0 at22
+          d22 = Typed.g-pre 𝓤 H A W 𝓣 E G9 G10 b16 Δ0 (Typed.pass T9 T10 s8) at21 (Scalar.g-room 𝓤 H A W E G9 11 (Syntax.tyArray (Lent.by-value) 2048) (Init.room-arr 𝓤 H A W (Lent.row) 2048 0 2048
+              Path'.refl)) d21
 
-          d24 : Typed.Typed 𝓤 H A 𝓣 E G7 b17 Δ0 at24
-          d24 = Typed.s-seq 𝓤 H A W 𝓣 E G7 G8 b1 b16 Δ0 (Typed.pass T7 T8 s6) at23 (LocalCopy.t-val-copy 𝓤 H A W E 𝓣 (λ ρ. Unit) G7 11 9 (Array'.Array (Lent.row) 2048) (Syntax.tyArray (Lent.by-value)
-              2048) (Syntax.tyArray (Lent.by-value) 2048) (Rows.arrF (Lent.row) 2048 0) (Rows.arrF (Lent.row) 2048 0) (λ x. x) (λ x. x) (λ x. x) Path'.refl (Own.told-none 𝓤 H A (G7 .slots))
+          d23 : Typed.Typed 𝓤 H A 𝓣 E G8 b17 Δ0 at23
+          d23 = Typed.s-seq 𝓤 H A W 𝓣 E G8 G9 b1 b16 Δ0 (Typed.pass T8 T9 s7) at22 (LocalCopy.t-val-copy 𝓤 H A W E 𝓣 (λ ρ. Unit) G8 11 9 (Array'.Array (Lent.row) 2048) (Syntax.tyArray (Lent.by-value)
+              2048) (Syntax.tyArray (Lent.by-value) 2048) (Rows.arrF (Lent.row) 2048 0) (Rows.arrF (Lent.row) 2048 0) (λ x. x) (λ x. x) (λ x. x) Path'.refl (Own.told-none 𝓤 H A (G8 .slots))
               (Yields.yields-copy 𝓤 H A W (λ ρ. Unit) (Array'.Array (Lent.row) 2048) Path'.refl (Copies.cArr (Lent.row) (Lent.copies) 2048 .copy 𝓤 H A W) (Rows.arrF (Lent.row) 2048 0) (λ x. x) (λ x.
               x) (λ ρ told. Whole.mem-arr 𝓤 H A W (Lent.row) 2048 ρ) λ ρ told. Whole.arr-mem 𝓤 H A W (Lent.row) 2048 tt ρ) (Reads.room-gone 𝓤 H A (Syntax.tyArray (Lent.by-value) 2048))
               (Yields.makes-mem 𝓤 H A W (λ ρ. Unit) (Array'.Array (Lent.row) 2048) Path'.refl (Rows.arrF (Lent.row) 2048 0) (λ x. x) λ ρ told. Whole.arr-mem 𝓤 H A W (Lent.row) 2048 tt ρ) Path'.refl
-              Path'.refl) d23
+              Path'.refl) d22
+
+          d24 : Typed.Typed 𝓤 H A 𝓣 E G7 b18 Δ0 at24
+          d24 = Typed.s-seq 𝓤 H A W 𝓣 E G7 G8 b0 b17 Δ0 (Typed.both s6) at23 (Plain.t-call-plain 𝓤 H A W 𝓣 0 ps·0 r·0 (claims· .0) (claims· .1) "worked::empty_log" (known .0) E (λ pos β. β) G7 tt 11
+              [] (Call.sub-id 𝓤 H A W (G7 .slots)) tt (Reads.room-gone 𝓤 H A (Syntax.tyArray (Lent.by-value) 2048)) tt Path'.refl) d23
 
           d25 : Typed.Typed 𝓤 H A 𝓣 E G6 b18 Δ0 at25
-          d25 = Typed.s-seq 𝓤 H A W 𝓣 E G6 G7 b0 b17 Δ0 (Typed.both s5) at24 (Plain.t-call-plain 𝓤 H A W 𝓣 0 ps·0 r·0 (claims· .0) (claims· .1) "worked::empty_log" (known .0) E (λ pos β. β) G6 tt 11
-              [] (Call.sub-id 𝓤 H A W (G6 .slots)) tt (Reads.room-gone 𝓤 H A (Syntax.tyArray (Lent.by-value) 2048)) tt Path'.refl) d24
+          d25 = Typed.g-pre 𝓤 H A W 𝓣 E G6 G7 b18 Δ0 (Typed.give s5) at24 (Know.g-sl-known 𝓤 H A W (Referent.fInt Syntax.w16) E G6 7 5 τ7 (Row.lease (κs .1 .1 .1 .1 .1 .0) (qs .1 .1 .1 .1 .1 .0)) 0
+              (λ x. x) record { fits = Dec'.lit< tt } (Reads.as-is 𝓤 H A (Mut.mslice (Referent.rtF (Referent.fInt Syntax.w16)) τ7 5)) Path'.refl tt) d24
 
           d26 : Typed.Typed 𝓤 H A 𝓣 E G5 b18 Δ0 at26
-          d26 = Typed.g-pre 𝓤 H A W 𝓣 E G5 G6 b18 Δ0 (Typed.give s4) at25 (Know.g-sl-known 𝓤 H A W (Referent.fInt Syntax.w16) E G5 7 4 τ6 (Row.lease (κs .1 .1 .1 .1 .0) (qs .1 .1 .1 .1 .0)) 0 (λ x.
-              x) record { fits = Dec'.lit< tt } (Reads.as-is 𝓤 H A (Mut.mslice (Referent.rtF (Referent.fInt Syntax.w16)) τ6 4)) Path'.refl tt) d25
+          d26 = Typed.g-pre 𝓤 H A W 𝓣 E G5 G6 b18 Δ0 (Typed.give s4) at25 (Know.g-shs-known 𝓤 H A W (Referent.fInt Syntax.w16) E G5 6 4 τ6 (Row.lease (κs .1 .1 .1 .1 .0) (qs .1 .1 .1 .1 .0)) 0 (λ x.
+              x) record { fits = Dec'.lit< tt } (Reads.as-is 𝓤 H A (Rows'.sslice (Referent.rtF (Referent.fInt Syntax.w16)) τ6 4)) Path'.refl tt) d25
 
           d27 : Typed.Typed 𝓤 H A 𝓣 E G4 b18 Δ0 at27
-          d27 = Typed.g-pre 𝓤 H A W 𝓣 E G4 G5 b18 Δ0 (Typed.give s3) at26 (Know.g-shs-known 𝓤 H A W (Referent.fInt Syntax.w16) E G4 6 3 τ5 (Row.lease (κs .1 .1 .1 .0) (qs .1 .1 .1 .0)) 0 (λ x. x)
+          d27 = Typed.g-pre 𝓤 H A W 𝓣 E G4 G5 b18 Δ0 (Typed.give s3) at26 (Know.g-shs-known 𝓤 H A W (Referent.fInt Syntax.w16) E G4 5 3 τ5 (Row.lease (κs .1 .1 .1 .0) (qs .1 .1 .1 .0)) 0 (λ x. x)
               record { fits = Dec'.lit< tt } (Reads.as-is 𝓤 H A (Rows'.sslice (Referent.rtF (Referent.fInt Syntax.w16)) τ5 3)) Path'.refl tt) d26
 
           d28 : Typed.Typed 𝓤 H A 𝓣 E G3 b18 Δ0 at28
-          d28 = Typed.g-pre 𝓤 H A W 𝓣 E G3 G4 b18 Δ0 (Typed.give s2) at27 (Know.g-shs-known 𝓤 H A W (Referent.fInt Syntax.w16) E G3 5 2 τ4 (Row.lease (κs .1 .1 .0) (qs .1 .1 .0)) 0 (λ x. x) record
+          d28 = Typed.g-pre 𝓤 H A W 𝓣 E G3 G4 b18 Δ0 (Typed.give s2) at27 (Know.g-shs-known 𝓤 H A W (Referent.fInt Syntax.w16) E G3 4 2 τ4 (Row.lease (κs .1 .1 .0) (qs .1 .1 .0)) 0 (λ x. x) record
               { fits = Dec'.lit< tt } (Reads.as-is 𝓤 H A (Rows'.sslice (Referent.rtF (Referent.fInt Syntax.w16)) τ4 2)) Path'.refl tt) d27
 
           d29 : Typed.Typed 𝓤 H A 𝓣 E G2 b18 Δ0 at29
-          d29 = Typed.g-pre 𝓤 H A W 𝓣 E G2 G3 b18 Δ0 (Typed.give s1) at28 (Know.g-shs-known 𝓤 H A W (Referent.fInt Syntax.w16) E G2 4 1 τ3 (Row.lease (κs .1 .0) (qs .1 .0)) 0 (λ x. x) record {
+          d29 = Typed.g-pre 𝓤 H A W 𝓣 E G2 G3 b18 Δ0 (Typed.give s1) at28 (Know.g-shs-known 𝓤 H A W (Referent.fInt Syntax.w8) E G2 3 1 τ2 (Row.lease (κs .1 .0) (qs .1 .0)) 0 (λ x. x) record {
             fits =
                 Dec'.lit< tt;
-          } (Reads.as-is 𝓤 H A (Rows'.sslice (Referent.rtF (Referent.fInt Syntax.w16)) τ3 1)) Path'.refl tt) d28
+          } (Reads.as-is 𝓤 H A (Rows'.sslice (Referent.rtF (Referent.fInt Syntax.w8)) τ2 1)) Path'.refl tt) d28
 
           d30 : Typed.Typed 𝓤 H A 𝓣 E G0 b18 Δ0 at30
-          d30 = Typed.g-pre 𝓤 H A W 𝓣 E G0 G2 b18 Δ0 (Typed.give s0) at29 (Know.g-shs-known 𝓤 H A W (Referent.fInt Syntax.w8) E G0 3 0 τ2 (Row.lease (κs .0) (qs .0)) 0 (λ x. x) record {
+          d30 = Typed.g-pre 𝓤 H A W 𝓣 E G0 G2 b18 Δ0 (Typed.give s0) at29 (Know.g-shs-known 𝓤 H A W (Referent.fInt Syntax.w16) E G0 2 0 τ3 (Row.lease (κs .0) (qs .0)) 0 (λ x. x) record {
             fits =
                 Dec'.lit< tt;
-          } (Reads.as-is 𝓤 H A (Rows'.sslice (Referent.rtF (Referent.fInt Syntax.w8)) τ2 0)) Path'.refl tt) d29
+          } (Reads.as-is 𝓤 H A (Rows'.sslice (Referent.rtF (Referent.fInt Syntax.w16)) τ3 0)) Path'.refl tt) d29
 
-          pub typed : Typed.Typed 𝓤 H A 𝓣 E (Function.Γin 5 ps r xs m κs qs) b18 (Function.Δret 5 ps r xs m κs qs) Φ
+          pub typed : Typed.Typed 𝓤 H A 𝓣 E (Function.Γin 6 ps r xs m κs qs) b18 (Function.Δret 6 ps r xs m κs qs) Φ
           typed = d30
 
-      module _ (κs : Lifetimes.Lfts 5) where
+      module _ (κs : Lifetimes.Lfts 6) where
         pub record Args : Type 0 where
-          pub hours : Kinds.Den {n = 5} κs (Num.pNum Syntax.w16)
-          pub capacity : Kinds.Den {n = 5} κs (Num.pNum Syntax.w16)
-          pub calendars : Kinds.Den {n = 5} κs (ShrSlice.pShrS (Referent.rtF (Referent.fInt Syntax.w8)) 0 tt)
-          pub task-calendars : Kinds.Den {n = 5} κs (ShrSlice.pShrS (Referent.rtF (Referent.fInt Syntax.w16)) 1 tt)
-          pub work-times : Kinds.Den {n = 5} κs (ShrSlice.pShrS (Referent.rtF (Referent.fInt Syntax.w16)) 2 tt)
-          pub heights : Kinds.Den {n = 5} κs (ShrSlice.pShrS (Referent.rtF (Referent.fInt Syntax.w16)) 3 tt)
-          pub boxes : Kinds.Den {n = 5} κs (MutSlice.pMutS (Referent.rtF (Referent.fInt Syntax.w16)) 4 tt)
-          pub room : Kinds.Den {n = 5} κs (Num.pNum Syntax.w64)
+          pub hours : Kinds.Den {n = 6} κs (Num.pNum Syntax.w16)
+          pub capacities : Kinds.Den {n = 6} κs (ShrSlice.pShrS (Referent.rtF (Referent.fInt Syntax.w16)) 0 tt)
+          pub calendars : Kinds.Den {n = 6} κs (ShrSlice.pShrS (Referent.rtF (Referent.fInt Syntax.w8)) 1 tt)
+          pub task-calendars : Kinds.Den {n = 6} κs (ShrSlice.pShrS (Referent.rtF (Referent.fInt Syntax.w16)) 2 tt)
+          pub work-times : Kinds.Den {n = 6} κs (ShrSlice.pShrS (Referent.rtF (Referent.fInt Syntax.w16)) 3 tt)
+          pub heights : Kinds.Den {n = 6} κs (ShrSlice.pShrS (Referent.rtF (Referent.fInt Syntax.w16)) 4 tt)
+          pub boxes : Kinds.Den {n = 6} κs (MutSlice.pMutS (Referent.rtF (Referent.fInt Syntax.w16)) 5 tt)
+          pub room : Kinds.Den {n = 6} κs (Num.pNum Syntax.w64)
 
         abbrev pub dens : (a : Args) → Kinds.Dens κs ps
-        dens = λ a. (a .hours, (a .capacity, (a .calendars, (a .task-calendars, (a .work-times, (a .heights, (a .boxes, (a .room, tt))))))))
+        dens = λ a. (a .hours, (a .capacities, (a .calendars, (a .task-calendars, (a .work-times, (a .heights, (a .boxes, (a .room, tt))))))))
 
         module _ (args· : Args) where
           pub record Ranges : Type 0 where
             pub hours : Val.Fits Syntax.w16 (args· .hours)
-            pub capacity : Val.Fits Syntax.w16 (args· .capacity)
             pub room : Val.Fits Syntax.w64 (args· .room)
 
-      abbrev pub m0 : (κs : Lifetimes.Lfts 5) → (args : Args κs) → Typed.Mo T0
+      abbrev pub m0 : (κs : Lifetimes.Lfts 6) → (args : Args κs) → Typed.Mo T0
       m0 = λ κs args. (tt, Enter.partsP κs 1 ps xs (dens κs args))
 
-      abbrev W0 : (κs : Lifetimes.Lfts 5) → (args : Args κs) → Typed.Want O0
+      abbrev W0 : (κs : Lifetimes.Lfts 6) → (args : Args κs) → Typed.Want O0
       W0 = λ κs args. (
         λ u. ⊥,
         tt,
-        λ u. Enter.Fixs κs 1 ps xs (dens κs args) (u .1) × Post· κs (dens κs args) (Function.resV r κs (u .0)) (Clauses.atExit (Kinds.endedOf 5 ps r) κs (dens κs args)
+        λ u. Enter.Fixs κs 1 ps xs (dens κs args) (u .1) × Post· κs (dens κs args) (Function.resV r κs (u .0)) (Clauses.atExit (Kinds.endedOf 6 ps r) κs (dens κs args)
             (Enter.lastsP κs 1 ps xs (dens κs args) (u .1))),
       )
 
       pub record Start : Type 0 where
-        pub κs : Lifetimes.Lfts 5
+        pub κs : Lifetimes.Lfts 6
         pub args : Args κs
         pub good : Kinds.GoodsP κs ps (dens κs args)
         pub fits : Ranges κs args
@@ -1352,109 +1379,116 @@ module _ (claims· : Claims) where
       m5 = λ before given. s4 .next (m4 (before .before) (before .shared-slice-known4 .given)) given
 
       module _ (before· : After-shared-slice-known4) where
-        pub record After-slice-known·own : Type 0 where
+        pub record After-shared-slice-known5·own : Type 0 where
           pub given : s4 .gives (m4 (before· .before) (before· .shared-slice-known4 .given))
 
-      pub record After-slice-known : Type 0 where
+      pub record After-shared-slice-known5 : Type 0 where
         pub before : After-shared-slice-known4
+        pub shared-slice-known5 : After-shared-slice-known5·own before
+
+      abbrev pub m6 : (before : After-shared-slice-known5) → (given : s5 .gives (m5 (before .before) (before .shared-slice-known5 .given))) → Typed.Mo T7
+      m6 = λ before given. s5 .next (m5 (before .before) (before .shared-slice-known5 .given)) given
+
+      module _ (before· : After-shared-slice-known5) where
+        pub record After-slice-known·own : Type 0 where
+          pub given : s5 .gives (m5 (before· .before) (before· .shared-slice-known5 .given))
+
+      pub record After-slice-known : Type 0 where
+        pub before : After-shared-slice-known5
         pub slice-known : After-slice-known·own before
 
       abbrev pub Need-empty-log-requires : Type 0
-      Need-empty-log-requires = (c : After-slice-known) → s5 .asks (m5 (c .before) (c .slice-known .given))
+      Need-empty-log-requires = (c : After-slice-known) → s6 .asks (m6 (c .before) (c .slice-known .given))
 
-      abbrev pub m6 : (before : After-slice-known) → (given : s5 .gives (m5 (before .before) (before .slice-known .given))) → Typed.Mo T7
-      m6 = λ before given. s5 .next (m5 (before .before) (before .slice-known .given)) given
+      abbrev pub m7 : (before : After-slice-known) → (given : s6 .gives (m6 (before .before) (before .slice-known .given))) → Typed.Mo T8
+      m7 = λ before given. s6 .next (m6 (before .before) (before .slice-known .given)) given
 
       module _ (before· : After-slice-known) where
         abbrev pub After-empty-log·own : Type 0
-        After-empty-log·own = Called.Called ps·0 r·0 (claims· .1) T6 tt (m5 (before· .before) (before· .slice-known .given))
+        After-empty-log·own = Called.Called ps·0 r·0 (claims· .1) T7 tt (m6 (before· .before) (before· .slice-known .given))
 
       pub record After-empty-log : Type 0 where
         pub before : After-slice-known
         pub empty-log : After-empty-log·own before
 
-      abbrev pub After-empty-log·gave : (c : After-empty-log) → s5 .gives (m5 (c .before .before) (c .before .slice-known .given))
-      After-empty-log·gave = λ c. Called.given ps·0 r·0 (claims· .1) T6 tt (m5 (c .before .before) (c .before .slice-known .given)) (c .empty-log)
+      abbrev pub After-empty-log·gave : (c : After-empty-log) → s6 .gives (m6 (c .before .before) (c .before .slice-known .given))
+      After-empty-log·gave = λ c. Called.given ps·0 r·0 (claims· .1) T7 tt (m6 (c .before .before) (c .before .slice-known .given)) (c .empty-log)
 
-      abbrev pub m7 : (before : After-slice-known) → (given : s5 .gives (m5 (before .before) (before .slice-known .given))) → Typed.Mo T8
-      m7 = λ before given. s6 (m6 before given)
-
-      abbrev pub m8 : (before : After-slice-known) → (given : s5 .gives (m5 (before .before) (before .slice-known .given))) → Typed.Mo T9
+      abbrev pub m8 : (before : After-slice-known) → (given : s6 .gives (m6 (before .before) (before .slice-known .given))) → Typed.Mo T9
       m8 = λ before given. s7 (m7 before given)
 
-      abbrev pub m9 : (before : After-empty-log) → (given : s9 .gives (m8 (before .before) (After-empty-log·gave before))) → Typed.Mo T11
-      m9 = λ before given. s9 .next (m8 (before .before) (After-empty-log·gave before)) given
+      abbrev pub m9 : (before : After-slice-known) → (given : s6 .gives (m6 (before .before) (before .slice-known .given))) → Typed.Mo T10
+      m9 = λ before given. s8 (m8 before given)
 
-      abbrev pub m10 : (before : After-empty-log) → (given : s9 .gives (m8 (before .before) (After-empty-log·gave before))) → Typed.Mo T12
-      m10 = λ before given. s10 .next (m9 before given)
+      abbrev pub m10 : (before : After-empty-log) → (given : s10 .gives (m9 (before .before) (After-empty-log·gave before))) → Typed.Mo T12
+      m10 = λ before given. s10 .next (m9 (before .before) (After-empty-log·gave before)) given
+
+      abbrev pub m11 : (before : After-empty-log) → (given : s10 .gives (m9 (before .before) (After-empty-log·gave before))) → Typed.Mo T13
+      m11 = λ before given. s11 .next (m10 before given)
 
       module _ (before· : After-empty-log) where
         pub record After-filter-arg·own : Type 0 where
-          pub given : s9 .gives (m8 (before· .before) (After-empty-log·gave before·))
+          pub given : s10 .gives (m9 (before· .before) (After-empty-log·gave before·))
 
       pub record After-filter-arg : Type 0 where
         pub before : After-empty-log
         pub filter-arg : After-filter-arg·own before
 
       abbrev pub Need-array-borrow-prefix-log : Type 0
-      Need-array-borrow-prefix-log = (c : After-filter-arg) → s12 .asks (m10 (c .before) (c .filter-arg .given))
+      Need-array-borrow-prefix-log = (c : After-filter-arg) → s13 .asks (m11 (c .before) (c .filter-arg .given))
 
-      abbrev pub m11 : (before : After-filter-arg) → (given : s12 .gives (m10 (before .before) (before .filter-arg .given))) → Typed.Mo T14
-      m11 = λ before given. s12 .next (m10 (before .before) (before .filter-arg .given)) given
+      abbrev pub m12 : (before : After-filter-arg) → (given : s13 .gives (m11 (before .before) (before .filter-arg .given))) → Typed.Mo T15
+      m12 = λ before given. s13 .next (m11 (before .before) (before .filter-arg .given)) given
 
       module _ (before· : After-filter-arg) where
         pub record After-log·own : Type 0 where
-          pub given : s12 .gives (m10 (before· .before) (before· .filter-arg .given))
+          pub given : s13 .gives (m11 (before· .before) (before· .filter-arg .given))
 
       pub record After-log : Type 0 where
         pub before : After-filter-arg
         pub log : After-log·own before
 
       abbrev pub Need-slice-aggregate-filter : Type 0
-      Need-slice-aggregate-filter = (c : After-log) → Relend.CountIs T14 14 15 (λ x. x) (λ u. u .1 .1 .1 .1 .1 .1 .1 .1 .0) (m11 (c .before) (c .log .given))
+      Need-slice-aggregate-filter = (c : After-log) → Relend.CountIs T15 14 15 (λ x. x) (λ u. u .1 .1 .1 .1 .1 .1 .1 .1 .0) (m12 (c .before) (c .log .given))
 
-      abbrev pub m12 : (before : After-filter-arg) → (given : s12 .gives (m10 (before .before) (before .filter-arg .given))) → Typed.Mo T15
-      m12 = λ before given. s13 .next (m11 before given)
+      abbrev pub m13 : (before : After-filter-arg) → (given : s13 .gives (m11 (before .before) (before .filter-arg .given))) → Typed.Mo T16
+      m13 = λ before given. s14 .next (m12 before given)
 
       abbrev pub Need-filter-requires : Type 0
-      Need-filter-requires = (c : After-log) → s14 .asks (m12 (c .before) (c .log .given))
+      Need-filter-requires = (c : After-log) → s15 .asks (m13 (c .before) (c .log .given))
 
-      abbrev pub m13 : (before : After-log) → (given : s14 .gives (m12 (before .before) (before .log .given))) → Typed.Mo T16
-      m13 = λ before given. s14 .next (m12 (before .before) (before .log .given)) given
+      abbrev pub m14 : (before : After-log) → (given : s15 .gives (m13 (before .before) (before .log .given))) → Typed.Mo T17
+      m14 = λ before given. s15 .next (m13 (before .before) (before .log .given)) given
 
       module _ (before· : After-log) where
         abbrev pub After-filter·own : Type 0
-        After-filter·own = Called.Called ps·1 r·1 (claims· .3) T15 (
+        After-filter·own = Called.Called ps·1 r·1 (claims· .3) T16 (
           Num.vAt 1 λ x. x,
           (
-            Num.vAt 2 λ x. x,
+            record { pos = 2; ty = Syntax.tyRef (Syntax.named 0) Syntax.imm (Syntax.tyInt Syntax.w16); ref = λ x. x },
             (
-              record {
-                pos = 3;
-                ty = Syntax.tyRef (Syntax.named 0) Syntax.imm (Syntax.tyInt Syntax.w8);
-                ref
-                    = λ x. x;
-              },
+              record { pos = 3; ty = Syntax.tyRef (Syntax.named 1) Syntax.imm (Syntax.tyInt Syntax.w8); ref = λ x. x },
               (
-                record { pos = 4; ty = Syntax.tyRef (Syntax.named 1) Syntax.imm (Syntax.tyInt Syntax.w16); ref = λ x. x },
+                record {
+                  pos = 4;
+                  ty = Syntax.tyRef (Syntax.named 2) Syntax.imm (Syntax.tyInt
+                      Syntax.w16);
+                  ref = λ x. x;
+                },
                 (
-                  record {
-                    pos = 5;
-                    ty = Syntax.tyRef (Syntax.named 2) Syntax.imm
-                        (Syntax.tyInt Syntax.w16);
-                    ref = λ x. x;
-                  },
+                  record { pos = 5; ty = Syntax.tyRef (Syntax.named 3) Syntax.imm (Syntax.tyInt Syntax.w16); ref = λ x. x },
                   (
-                    record { pos = 6; ty = Syntax.tyRef (Syntax.named 3) Syntax.imm (Syntax.tyInt Syntax.w16); ref = λ x. x },
+                    record {
+                      pos = 6;
+                      ty = Syntax.tyRef
+                          (Syntax.named 4) Syntax.imm (Syntax.tyInt Syntax.w16);
+                      ref = λ x. x;
+                    },
                     (
-                      record {
-                        pos = 13;
-                        ty =
-                            Syntax.tyRef Syntax.erased Syntax.mut (Syntax.tyInt Syntax.w16);
-                        ref = λ x. x;
-                      },
+                      record { pos = 13; ty = Syntax.tyRef Syntax.erased Syntax.mut (Syntax.tyInt Syntax.w16); ref = λ x. x },
                       (
-                        record { pos = 15; ty = Syntax.tyRef Syntax.erased Syntax.mut (Lent.pointed); ref = λ x. x },
+                        record
+                            { pos = 15; ty = Syntax.tyRef Syntax.erased Syntax.mut (Lent.pointed); ref = λ x. x },
                         tt,
                       ),
                     ),
@@ -1463,147 +1497,147 @@ module _ (claims· : Claims) where
               ),
             ),
           ),
-        ) (m12 (before· .before) (before· .log .given))
+        ) (m13 (before· .before) (before· .log .given))
 
       pub record After-filter : Type 0 where
         pub before : After-log
         pub filter : After-filter·own before
 
-      abbrev pub After-filter·gave : (c : After-filter) → s14 .gives (m12 (c .before .before) (c .before .log .given))
-      After-filter·gave = λ c. Called.given ps·1 r·1 (claims· .3) T15 (
+      abbrev pub After-filter·gave : (c : After-filter) → s15 .gives (m13 (c .before .before) (c .before .log .given))
+      After-filter·gave = λ c. Called.given ps·1 r·1 (claims· .3) T16 (
         Num.vAt 1 λ x. x,
         (
-          Num.vAt 2 λ x. x,
+          record { pos = 2; ty = Syntax.tyRef (Syntax.named 0) Syntax.imm (Syntax.tyInt Syntax.w16); ref = λ x. x },
           (
-            record {
-              pos = 3;
-              ty = Syntax.tyRef (Syntax.named 0) Syntax.imm (Syntax.tyInt Syntax.w8);
-              ref = λ x. x;
-            },
+            record { pos = 3; ty = Syntax.tyRef (Syntax.named 1) Syntax.imm (Syntax.tyInt Syntax.w8); ref = λ x. x },
             (
-              record { pos = 4; ty = Syntax.tyRef (Syntax.named 1) Syntax.imm (Syntax.tyInt Syntax.w16); ref = λ x. x },
+              record {
+                pos = 4;
+                ty = Syntax.tyRef (Syntax.named 2) Syntax.imm (Syntax.tyInt
+                    Syntax.w16);
+                ref = λ x. x;
+              },
               (
-                record {
-                  pos = 5;
-                  ty = Syntax.tyRef (Syntax.named 2)
-                      Syntax.imm (Syntax.tyInt Syntax.w16);
-                  ref = λ x. x;
-                },
+                record { pos = 5; ty = Syntax.tyRef (Syntax.named 3) Syntax.imm (Syntax.tyInt Syntax.w16); ref = λ x. x },
                 (
-                  record { pos = 6; ty = Syntax.tyRef (Syntax.named 3) Syntax.imm (Syntax.tyInt Syntax.w16); ref = λ x. x },
+                  record {
+                    pos = 6;
+                    ty = Syntax.tyRef (Syntax.named
+                        4) Syntax.imm (Syntax.tyInt Syntax.w16);
+                    ref = λ x. x;
+                  },
                   (
-                    record {
-                      pos = 13;
-                      ty =
-                          Syntax.tyRef Syntax.erased Syntax.mut (Syntax.tyInt Syntax.w16);
-                      ref = λ x. x;
-                    },
-                    (record { pos = 15; ty = Syntax.tyRef Syntax.erased Syntax.mut (Lent.pointed); ref = λ x. x }, tt),
+                    record { pos = 13; ty = Syntax.tyRef Syntax.erased Syntax.mut (Syntax.tyInt Syntax.w16); ref = λ x. x },
+                    (
+                      record {
+                        pos = 15;
+                        ty =
+                            Syntax.tyRef Syntax.erased Syntax.mut (Lent.pointed);
+                        ref = λ x. x;
+                      },
+                      tt,
+                    ),
                   ),
                 ),
               ),
             ),
           ),
         ),
-      )
-          (m12 (c .before .before) (c .before .log .given)) (c .filter)
+      ) (m13 (c .before .before) (c .before .log .given)) (c .filter)
 
-      abbrev pub m14 : (before : After-filter) → (given : s16 .gives (m13 (before .before) (After-filter·gave before))) → Typed.Mo T18
-      m14 = λ before given. s16 .next (m13 (before .before) (After-filter·gave before)) given
+      abbrev pub m15 : (before : After-filter) → (given : s17 .gives (m14 (before .before) (After-filter·gave before))) → Typed.Mo T19
+      m15 = λ before given. s17 .next (m14 (before .before) (After-filter·gave before)) given
 
       module _ (before· : After-filter) where
         pub record After-boxes·own : Type 0 where
-          pub given : s16 .gives (m13 (before· .before) (After-filter·gave before·))
+          pub given : s17 .gives (m14 (before· .before) (After-filter·gave before·))
 
       pub record After-boxes : Type 0 where
         pub before : After-filter
         pub boxes : After-boxes·own before
 
-      abbrev pub m15 : (before : After-boxes) → (given : s17 .gives (m14 (before .before) (before .boxes .given))) → Typed.Mo T19
-      m15 = λ before given. s17 .next (m14 (before .before) (before .boxes .given)) given
+      abbrev pub m16 : (before : After-boxes) → (given : s18 .gives (m15 (before .before) (before .boxes .given))) → Typed.Mo T20
+      m16 = λ before given. s18 .next (m15 (before .before) (before .boxes .given)) given
 
       module _ (before· : After-boxes) where
         pub record After-slice-known2·own : Type 0 where
-          pub given : s17 .gives (m14 (before· .before) (before· .boxes .given))
+          pub given : s18 .gives (m15 (before· .before) (before· .boxes .given))
 
       pub record After-slice-known2 : Type 0 where
         pub before : After-boxes
         pub slice-known2 : After-slice-known2·own before
 
-      abbrev pub m16 : (before : After-slice-known2) → (given : s20 .gives (m15 (before .before) (before .slice-known2 .given))) → Typed.Mo T22
-      m16 = λ before given. s20 .next (m15 (before .before) (before .slice-known2 .given)) given
+      abbrev pub m17 : (before : After-slice-known2) → (given : s21 .gives (m16 (before .before) (before .slice-known2 .given))) → Typed.Mo T23
+      m17 = λ before given. s21 .next (m16 (before .before) (before .slice-known2 .given)) given
 
       module _ (before· : After-slice-known2) where
         pub record After-log2·own : Type 0 where
-          pub given : s20 .gives (m15 (before· .before) (before· .slice-known2 .given))
+          pub given : s21 .gives (m16 (before· .before) (before· .slice-known2 .given))
 
       pub record After-log2 : Type 0 where
         pub before : After-slice-known2
         pub log2 : After-log2·own before
 
       abbrev pub Need-report-filtered-requires : Type 0
-      Need-report-filtered-requires = (c : After-log2) → s22 .asks (m16 (c .before) (c .log2 .given))
+      Need-report-filtered-requires = (c : After-log2) → s23 .asks (m17 (c .before) (c .log2 .given))
 
-      abbrev pub m17 : (before : After-log2) → (given : s22 .gives (m16 (before .before) (before .log2 .given))) → Typed.Mo T24
-      m17 = λ before given. s22 .next (m16 (before .before) (before .log2 .given)) given
+      abbrev pub m18 : (before : After-log2) → (given : s23 .gives (m17 (before .before) (before .log2 .given))) → Typed.Mo T25
+      m18 = λ before given. s23 .next (m17 (before .before) (before .log2 .given)) given
 
       module _ (before· : After-log2) where
         abbrev pub After-report-filtered·own : Type 0
-        After-report-filtered·own = Called.Called ps·2 r·2 (claims· .5) T22 (record { pos = 10; st = []; d = 0; at = λ x. x }, tt) (m16 (before· .before) (before· .log2 .given))
+        After-report-filtered·own = Called.Called ps·2 r·2 (claims· .5) T23 (record { pos = 10; st = []; d = 0; at = λ x. x }, tt) (m17 (before· .before) (before· .log2 .given))
 
       pub record After-report-filtered : Type 0 where
         pub before : After-log2
         pub report-filtered : After-report-filtered·own before
 
-      abbrev pub After-report-filtered·gave : (c : After-report-filtered) → s22 .gives (m16 (c .before .before) (c .before .log2 .given))
-      After-report-filtered·gave = λ c. Called.given ps·2 r·2 (claims· .5) T22 (record { pos = 10; st = []; d = 0; at = λ x. x }, tt) (m16 (c .before .before) (c .before .log2 .given)) (c
+      abbrev pub After-report-filtered·gave : (c : After-report-filtered) → s23 .gives (m17 (c .before .before) (c .before .log2 .given))
+      After-report-filtered·gave = λ c. Called.given ps·2 r·2 (claims· .5) T23 (record { pos = 10; st = []; d = 0; at = λ x. x }, tt) (m17 (c .before .before) (c .before .log2 .given)) (c
           .report-filtered)
 
-      abbrev pub m18 : (before : After-log2) → (given : s22 .gives (m16 (before .before) (before .log2 .given))) → Typed.Mo T25
-      m18 = λ before given. s23 (m17 before given)
-
-      abbrev pub m19 : (before : After-log2) → (given : s22 .gives (m16 (before .before) (before .log2 .given))) → Typed.Mo T26
+      abbrev pub m19 : (before : After-log2) → (given : s23 .gives (m17 (before .before) (before .log2 .given))) → Typed.Mo T26
       m19 = λ before given. s24 (m18 before given)
 
-      abbrev pub m20 : (before : After-log2) → (given : s22 .gives (m16 (before .before) (before .log2 .given))) → Typed.Mo T27
+      abbrev pub m20 : (before : After-log2) → (given : s23 .gives (m17 (before .before) (before .log2 .given))) → Typed.Mo T27
       m20 = λ before given. s25 (m19 before given)
 
-      abbrev pub m21 : (before : After-log2) → (given : s22 .gives (m16 (before .before) (before .log2 .given))) → Typed.Mo T28
+      abbrev pub m21 : (before : After-log2) → (given : s23 .gives (m17 (before .before) (before .log2 .given))) → Typed.Mo T28
       m21 = λ before given. s26 (m20 before given)
 
-      abbrev pub m22 : (before : After-log2) → (given : s22 .gives (m16 (before .before) (before .log2 .given))) → Typed.Mo T29
+      abbrev pub m22 : (before : After-log2) → (given : s23 .gives (m17 (before .before) (before .log2 .given))) → Typed.Mo T29
       m22 = λ before given. s27 (m21 before given)
 
-      abbrev pub m23 : (before : After-log2) → (given : s22 .gives (m16 (before .before) (before .log2 .given))) → Typed.Mo T30
+      abbrev pub m23 : (before : After-log2) → (given : s23 .gives (m17 (before .before) (before .log2 .given))) → Typed.Mo T30
       m23 = λ before given. s28 (m22 before given)
 
-      abbrev pub m24 : (before : After-log2) → (given : s22 .gives (m16 (before .before) (before .log2 .given))) → Typed.Mo T31
+      abbrev pub m24 : (before : After-log2) → (given : s23 .gives (m17 (before .before) (before .log2 .given))) → Typed.Mo T31
       m24 = λ before given. s29 (m23 before given)
 
       abbrev pub Need-same-length : Type 0
       Need-same-length = (c : After-report-filtered) → MutSlice.SameLen (Row.get 7 (T31 .locals) (m24 (c .before) (After-report-filtered·gave c))) (dens (c .before .before .before .before .before
-          .before .before .before .before .before .before .before .before .κs) (c .before .before .before .before .before .before .before .before .before .before .before .before .before .args) .1 .1
-          .1 .1 .1 .1 .0)
+          .before .before .before .before .before .before .before .before .before .κs) (c .before .before .before .before .before .before .before .before .before .before .before .before .before
+          .before .args) .1 .1 .1 .1 .1 .1 .0)
 
       abbrev pub Need-returns : Type 0
-      Need-returns = (c : After-report-filtered) → Post· (c .before .before .before .before .before .before .before .before .before .before .before .before .before .κs) (dens (c .before .before
-          .before .before .before .before .before .before .before .before .before .before .before .κs) (c .before .before .before .before .before .before .before .before .before .before .before
-          .before .before .args)) (Function.resV r (c .before .before .before .before .before .before .before .before .before .before .before .before .before .κs) (m24 (c .before)
-          (After-report-filtered·gave c) .0)) (Clauses.atExit (Kinds.endedOf 5 ps r) (c .before .before .before .before .before .before .before .before .before .before .before .before .before .κs)
-          (dens (c .before .before .before .before .before .before .before .before .before .before .before .before .before .κs) (c .before .before .before .before .before .before .before .before
-          .before .before .before .before .before .args)) (Enter.lastsP (c .before .before .before .before .before .before .before .before .before .before .before .before .before .κs) 1 ps xs (dens
-          (c .before .before .before .before .before .before .before .before .before .before .before .before .before .κs) (c .before .before .before .before .before .before .before .before .before
-          .before .before .before .before .args)) (m24 (c .before) (After-report-filtered·gave c) .1)))
+      Need-returns = (c : After-report-filtered) → Post· (c .before .before .before .before .before .before .before .before .before .before .before .before .before .before .κs) (dens (c .before
+          .before .before .before .before .before .before .before .before .before .before .before .before .before .κs) (c .before .before .before .before .before .before .before .before .before
+          .before .before .before .before .before .args)) (Function.resV r (c .before .before .before .before .before .before .before .before .before .before .before .before .before .before .κs) (m24
+          (c .before) (After-report-filtered·gave c) .0)) (Clauses.atExit (Kinds.endedOf 6 ps r) (c .before .before .before .before .before .before .before .before .before .before .before .before
+          .before .before .κs) (dens (c .before .before .before .before .before .before .before .before .before .before .before .before .before .before .κs) (c .before .before .before .before .before
+          .before .before .before .before .before .before .before .before .before .args)) (Enter.lastsP (c .before .before .before .before .before .before .before .before .before .before .before
+          .before .before .before .κs) 1 ps xs (dens (c .before .before .before .before .before .before .before .before .before .before .before .before .before .before .κs) (c .before .before .before
+          .before .before .before .before .before .before .before .before .before .before .before .args)) (m24 (c .before) (After-report-filtered·gave c) .1)))
 
       module _ (empty-log-requires : Need-empty-log-requires) (array-borrow-prefix-log : Need-array-borrow-prefix-log) (slice-aggregate-filter : Need-slice-aggregate-filter) (filter-requires :
           Need-filter-requires) (report-filtered-requires : Need-report-filtered-requires) (same-length : Need-same-length) (returns : Need-returns) where
-        lay3 : (c : After-report-filtered) → at7 (W0 (c .before .before .before .before .before .before .before .before .before .before .before .before .before .κs) (c .before .before .before .before
-            .before .before .before .before .before .before .before .before .before .args)) (m17 (c .before) (After-report-filtered·gave c))
+        lay3 : (c : After-report-filtered) → at6 (W0 (c .before .before .before .before .before .before .before .before .before .before .before .before .before .before .κs) (c .before .before .before
+            .before .before .before .before .before .before .before .before .before .before .before .args)) (m18 (c .before) (After-report-filtered·gave c))
         lay3 = λ c. (
           (
             tt,
             (
-              tt,
+              Path'.refl,
               (
                 Path'.refl,
                 (
@@ -1613,10 +1647,10 @@ module _ (claims· : Claims) where
                     (
                       Path'.refl,
                       (
-                        MutSlice.fix-len (Row.get 7 (T31 .locals) (m24 (c .before) (After-report-filtered·gave c)) .ptr) (Row.get 7 (T31
-                            .locals) (m24 (c .before) (After-report-filtered·gave c)) .name) (Row.get 7 (T31 .locals) (m24 (c .before) (After-report-filtered·gave c)) .now) (dens (c .before .before .before .before
-                            .before .before .before .before .before .before .before .before .before .κs) (c .before .before .before .before .before .before .before .before .before .before .before .before .before
-                            .args) .1 .1 .1 .1 .1 .1 .0 .now) (same-length record { before = c .before; report-filtered = c .report-filtered }),
+                        MutSlice.fix-len (Row.get 7 (T31 .locals) (m24 (c .before) (After-report-filtered·gave c)) .ptr) (Row.get 7
+                            (T31 .locals) (m24 (c .before) (After-report-filtered·gave c)) .name) (Row.get 7 (T31 .locals) (m24 (c .before) (After-report-filtered·gave c)) .now) (dens (c .before .before .before
+                            .before .before .before .before .before .before .before .before .before .before .before .κs) (c .before .before .before .before .before .before .before .before .before .before .before
+                            .before .before .before .args) .1 .1 .1 .1 .1 .1 .0 .now) (same-length record { before = c .before; report-filtered = c .report-filtered }),
                         (tt, tt),
                       ),
                     ),
@@ -1626,14 +1660,14 @@ module _ (claims· : Claims) where
             ),
           ),
           returns record {
-            before = c .before;
-            report-filtered
-                = c .report-filtered;
+            before = c
+                .before;
+            report-filtered = c .report-filtered;
           },
         )
 
-        lay2 : (c : After-filter) → at15 (W0 (c .before .before .before .before .before .before .before .before .before .κs) (c .before .before .before .before .before .before .before .before .before
-            .args)) (m13 (c .before) (After-filter·gave c))
+        lay2 : (c : After-filter) → at14 (W0 (c .before .before .before .before .before .before .before .before .before .before .κs) (c .before .before .before .before .before .before .before .before
+            .before .before .args)) (m14 (c .before) (After-filter·gave c))
         lay2 = λ c. (
           Path'.refl,
           λ g. λ g'. (
@@ -1662,7 +1696,7 @@ module _ (claims· : Claims) where
                   log2 = record { given = g'' };
                 };
                 report-filtered = Called.called
-                    ps·2 r·2 (claims· .5) T22 (record { pos = 10; st = []; d = 0; at = λ x. x }, tt) (m16 record {
+                    ps·2 r·2 (claims· .5) T23 (record { pos = 10; st = []; d = 0; at = λ x. x }, tt) (m17 record {
                       before = record {
                         before = record { before = c .before; filter = c .filter };
                         boxes = record
@@ -1675,7 +1709,7 @@ module _ (claims· : Claims) where
           ),
         )
 
-        lay1 : (c : After-empty-log) → at24 (W0 (c .before .before .before .before .before .before .κs) (c .before .before .before .before .before .before .args)) (m6 (c .before)
+        lay1 : (c : After-empty-log) → at23 (W0 (c .before .before .before .before .before .before .before .κs) (c .before .before .before .before .before .before .before .args)) (m7 (c .before)
             (After-empty-log·gave c))
         lay1 = λ c. λ g. (
           Path'.refl,
@@ -1683,7 +1717,7 @@ module _ (claims· : Claims) where
             array-borrow-prefix-log record { before = record { before = c .before; empty-log = c .empty-log }; filter-arg = record { given = g } },
             λ g'. (
               Relend.count-is
-                  T14 14 15 (λ x. x) (λ u. u .1 .1 .1 .1 .1 .1 .1 .1 .0) (m11 record { before = record { before = c .before; empty-log = c .empty-log }; filter-arg = record { given = g } } g')
+                  T15 14 15 (λ x. x) (λ u. u .1 .1 .1 .1 .1 .1 .1 .1 .0) (m12 record { before = record { before = c .before; empty-log = c .empty-log }; filter-arg = record { given = g } } g')
                   (slice-aggregate-filter record { before = record { before = record { before = c .before; empty-log = c .empty-log }; filter-arg = record { given = g } }; log = record { given = g' } }),
               (
                 filter-requires record { before = record { before = record { before = c .before; empty-log = c .empty-log }; filter-arg = record { given = g } }; log = record { given = g' } },
@@ -1691,39 +1725,54 @@ module _ (claims· : Claims) where
                     record {
                       before = record { before = record { before = record { before = c .before; empty-log = c .empty-log }; filter-arg = record { given = g } }; log = record { given = g' } };
                       filter =
-                          Called.called ps·1 r·1 (claims· .3) T15 (
+                          Called.called ps·1 r·1 (claims· .3) T16 (
                             Num.vAt 1 λ x. x,
                             (
-                              Num.vAt 2 λ x. x,
+                              record { pos = 2; ty = Syntax.tyRef (Syntax.named 0) Syntax.imm (Syntax.tyInt Syntax.w16); ref = λ x. x },
                               (
-                                record { pos = 3; ty = Syntax.tyRef (Syntax.named 0) Syntax.imm (Syntax.tyInt Syntax.w8); ref = λ x. x },
+                                record {
+                                  pos = 3;
+                                  ty = Syntax.tyRef (Syntax.named 1) Syntax.imm (Syntax.tyInt Syntax.w8);
+                                  ref = λ x. x;
+                                },
                                 (
-                                  record { pos = 4; ty = Syntax.tyRef (Syntax.named 1) Syntax.imm (Syntax.tyInt Syntax.w16); ref = λ x. x },
+                                  record {
+                                    pos = 4;
+                                    ty = Syntax.tyRef (Syntax.named 2) Syntax.imm (Syntax.tyInt Syntax.w16);
+                                    ref =
+                                        λ x. x;
+                                  },
                                   (
-                                    record {
-                                      pos = 5;
-                                      ty = Syntax.tyRef (Syntax.named 2) Syntax.imm (Syntax.tyInt
-                                          Syntax.w16);
-                                      ref = λ x. x;
-                                    },
+                                    record { pos = 5; ty = Syntax.tyRef (Syntax.named 3) Syntax.imm (Syntax.tyInt Syntax.w16); ref = λ x. x },
                                     (
-                                      record { pos = 6; ty = Syntax.tyRef (Syntax.named 3) Syntax.imm (Syntax.tyInt Syntax.w16); ref = λ x. x },
+                                      record {
+                                        pos = 6;
+                                        ty = Syntax.tyRef (Syntax.named 4) Syntax.imm
+                                            (Syntax.tyInt Syntax.w16);
+                                        ref = λ x. x;
+                                      },
                                       (
-                                        record {
-                                          pos = 13;
-                                          ty = Syntax.tyRef
-                                              Syntax.erased Syntax.mut (Syntax.tyInt Syntax.w16);
-                                          ref = λ x. x;
-                                        },
-                                        (record { pos = 15; ty = Syntax.tyRef Syntax.erased Syntax.mut (Lent.pointed); ref = λ x. x }, tt),
+                                        record { pos = 13; ty = Syntax.tyRef Syntax.erased Syntax.mut (Syntax.tyInt Syntax.w16); ref = λ x. x },
+                                        (
+                                          record {
+                                            pos = 15;
+                                            ty =
+                                                Syntax.tyRef Syntax.erased Syntax.mut (Lent.pointed);
+                                            ref = λ x. x;
+                                          },
+                                          tt,
+                                        ),
                                       ),
                                     ),
                                   ),
                                 ),
                               ),
                             ),
-                          ) (m12 record
-                          { before = record { before = c .before; empty-log = c .empty-log }; filter-arg = record { given = g } } g') g'';
+                          ) (m13 record {
+                            before = record { before = c .before; empty-log = c .empty-log };
+                            filter-arg = record
+                                { given = g };
+                          } g') g'';
                     },
               ),
             ),
@@ -1731,63 +1780,63 @@ module _ (claims· : Claims) where
         )
 
         pub laid : (c : Start) → at30 (W0 (c .κs) (c .args)) (m0 (c .κs) (c .args))
-        laid = λ c. λ g. λ g'. λ g''. λ g'3. λ g'4. (
+        laid = λ c. λ g. λ g'. λ g''. λ g'3. λ g'4. λ g'5. (
           empty-log-requires record {
             before = record {
               before = record {
                 before = record {
                   before = record {
-                    before = c;
-                    shared-slice-known = record {
-                      given
-                          = g;
+                    before = record {
+                      before = c;
+                      shared-slice-known = record { given = g };
                     };
-                  };
-                  shared-slice-known2 = record { given = g' };
-                };
-                shared-slice-known3 = record { given = g'' };
-              };
-              shared-slice-known4 = record { given = g'3 };
-            };
-            slice-known = record { given = g'4 };
-          },
-          λ g'5. lay1 record {
-            before = record {
-              before = record {
-                before = record {
-                  before = record {
-                    before = record { before = c; shared-slice-known = record { given = g } };
-                    shared-slice-known2 =
-                        record { given = g' };
+                    shared-slice-known2 = record { given = g' };
                   };
                   shared-slice-known3 = record { given = g'' };
                 };
                 shared-slice-known4 = record { given = g'3 };
               };
-              slice-known = record { given = g'4 };
+              shared-slice-known5 = record { given = g'4 };
             };
-            empty-log = Called.called ps·0
-                r·0 (claims· .1) T6 tt (m5 record {
+            slice-known = record { given = g'5 };
+          },
+          λ g'6. lay1 record {
+            before = record {
+              before = record {
+                before = record {
                   before = record {
-                    before = record {
-                      before = record { before = c; shared-slice-known = record { given = g } };
-                      shared-slice-known2 = record { given = g' };
-                    };
+                    before =
+                        record { before = record { before = c; shared-slice-known = record { given = g } }; shared-slice-known2 = record { given = g' } };
                     shared-slice-known3 = record { given = g'' };
                   };
                   shared-slice-known4 = record { given = g'3 };
-                } g'4) g'5;
+                };
+                shared-slice-known5 = record { given = g'4 };
+              };
+              slice-known = record { given = g'5 };
+            };
+            empty-log = Called.called ps·0 r·0 (claims· .1) T7 tt
+                (m6 record {
+                  before = record {
+                    before = record {
+                      before = record { before = record { before = c; shared-slice-known = record { given = g } }; shared-slice-known2 = record { given = g' } };
+                      shared-slice-known3 = record { given = g'' };
+                    };
+                    shared-slice-known4 = record { given = g'3 };
+                  };
+                  shared-slice-known5 = record { given = g'4 };
+                } g'5) g'6;
           },
         )
 
-        module _ (κs : Lifetimes.Lfts 5) (qs : Lifetimes.Shares 5) where
-          pub asked : (a : Kinds.Dens κs ps) → (good : Kinds.GoodsP κs ps a) → (pre : Pre· κs a) → (bs : List.List Nat.ℕ) → Φ (Any.wantQ 5 ps r xs m κs qs a (Post· κs a)) (Function.init 5 ps r xs m
+        module _ (κs : Lifetimes.Lfts 6) (qs : Lifetimes.Shares 6) where
+          pub asked : (a : Kinds.Dens κs ps) → (good : Kinds.GoodsP κs ps a) → (pre : Pre· κs a) → (bs : List.List Nat.ℕ) → Φ (Any.wantQ 6 ps r xs m κs qs a (Post· κs a)) (Function.init 6 ps r xs m
               κs qs a)
           asked = λ a good pre bs. laid record {
             κs = κs;
             args = record {
               hours = a .0;
-              capacity = a .1 .0;
+              capacities = a .1 .0;
               calendars = a .1 .1 .0;
               task-calendars = a .1 .1 .1 .0;
               work-times = a .1 .1 .1 .1 .0;
@@ -1798,15 +1847,16 @@ module _ (claims· : Claims) where
             good = good;
             fits = record {
               hours = record { fits = good .0 .1 };
-              capacity = record
-                  { fits = good .1 .0 .1 };
-              room = record { fits = good .1 .1 .1 .1 .1 .1 .1 .0 .1 };
+              room = record {
+                fits
+                    = good .1 .1 .1 .1 .1 .1 .1 .0 .1;
+              };
             };
             pre = pre;
           }
 
         module _ {M : Type 1} (𝓤 : URA.URA M) (H : Wp.Heap 𝓤) (A : Atoms.Atoms 𝓤) (W : Kit.Given 𝓤 H A) (𝓣 : Wp.Tables 𝓤 H) (known0 : Plain.Known 𝓤 H A W 𝓣 0 ps·0 r·0 (claims· .0) (claims· .1)
-            "worked::empty_log") (known1 : Plain.Known 𝓤 H A W 𝓣 6 ps·1 r·1 (claims· .2) (claims· .3) "log::filter") (known2 : Plain.Known 𝓤 H A W 𝓣 0 ps·2 r·2 (claims· .4) (claims· .5)
+            "worked::empty_log") (known1 : Plain.Known 𝓤 H A W 𝓣 7 ps·1 r·1 (claims· .2) (claims· .3) "log::filter") (known2 : Plain.Known 𝓤 H A W 𝓣 0 ps·2 r·2 (claims· .4) (claims· .5)
             "worked::report_filtered") where
-          pub spec : Statement.Triple 𝓤 (Wp.WpFn 𝓤 H (𝓣 .C) (𝓣 .Λ) (Function.fnOf 5 ps r xs m hs body)) (Function.plainOf 𝓤 H A 5 ps r Pre· Post·)
-          spec = Plain.t-fn-plain 𝓤 H A W 𝓣 5 ps r xs m hs body (λ κs qs bs. Φ) (λ κs qs bs bd. typed κs qs 𝓤 H A W 𝓣 (known0, known1, known2) bs bd) Pre· Post· asked
+          pub spec : Statement.Triple 𝓤 (Wp.WpFn 𝓤 H (𝓣 .C) (𝓣 .Λ) (Function.fnOf 6 ps r xs m hs body)) (Function.plainOf 𝓤 H A 6 ps r Pre· Post·)
+          spec = Plain.t-fn-plain 𝓤 H A W 𝓣 6 ps r xs m hs body (λ κs qs bs. Φ) (λ κs qs bs bd. typed κs qs 𝓤 H A W 𝓣 (known0, known1, known2) bs bd) Pre· Post· asked

@@ -1,0 +1,5 @@
+pub mod Sections
+pub mod Numbering
+pub mod Storing
+pub mod Following
+pub mod Lining

@@ -1,0 +1,5 @@
+pub mod Judging
+pub mod Keeping
+pub mod Searching
+pub mod Loading
+pub mod Turning
