@@ -7,7 +7,7 @@ use Rattle.steps.specs.Log.{LogEnd}
 use Rattle.steps.specs.Entry.{Accepted, checkAnswer, FilterAnswer, FilterEnd, filterEnd}
 use Rattle.plan_format.specs.Reading.{PlanRead, ReadEnd, endWith}
 use Rattle.plan_format.specs.Writing.{WriteEnd, writeEnd}
-use Rattle.capi.specs.Numbers.{logNumbers, filterNumbers, readNumbers, writeNumbers}
+use Rattle.answers.specs.Numbers.{logNumbers, filterNumbers, readNumbers, writeNumbers}
 
 module _ {numbers boxes : List ℕ} where
   pub left-log : (e : LogEnd) {a : Answer Accepted} → numbers ≡ logNumbers a → (a ≡ checkAnswer e) × (boxes ≡ e .boxes)

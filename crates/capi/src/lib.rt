@@ -12,9 +12,7 @@ ghost use Rattle.steps.specs.Entry.{checkLog, checkAnswer, filterEnd, filterPla
 ghost use Rattle.plan_format.specs.Reading.{endWith, readPlan};
 ghost use Rattle.plan_format.specs.Writing.{writePlan};
 ghost use Rattle.text_listing.specs.Program.{textListing};
-ghost use Rattle.capi.specs.Numbers.{ruleNumbers, scheduleNumbers, logNumbers, filterNumbers, readNumbers, writeNumbers};
-
-mod numbers;
+ghost use Rattle.answers.specs.Numbers.{ruleNumbers, scheduleNumbers, logNumbers, filterNumbers, readNumbers, writeNumbers};
 
 // The calendar rule for one calendar, a work time and a box of six numbers.
 #[no_mangle]
@@ -28,7 +26,7 @@ pub extern "C" fn shimlantern_calendar_rule(
 {
     let b = plan::bounds_at(bounds, 0);
     let found = calendar::calendar_rule(calendar, Duration(work_time), b);
-    *answer = numbers::rule_numbers(found);
+    *answer = answers::rule_numbers(found);
 }
 
 // The schedule checker.
@@ -58,7 +56,7 @@ pub extern "C" fn shimlantern_check_schedule(
         boxes,
         schedule,
     );
-    *answer = numbers::schedule_numbers(checked);
+    *answer = answers::schedule_numbers(checked);
 }
 
 // The log checker.
@@ -93,7 +91,7 @@ pub extern "C" fn shimlantern_check_log(
         log_tasks,
         log_hours,
     );
-    *answer = numbers::log_numbers(checked);
+    *answer = answers::log_numbers(checked);
 }
 
 // The filter, with the log lent as its room.
@@ -129,7 +127,7 @@ pub extern "C" fn shimlantern_filter(
         log_tasks,
         log_hours,
     );
-    *answer = numbers::filter_numbers(filtered);
+    *answer = answers::filter_numbers(filtered);
 }
 
 // Reads a plan text into memory for the most that a plan can hold.
@@ -158,7 +156,7 @@ pub extern "C" fn shimlantern_read_plan(
         heights,
         boxes,
     );
-    *answer = numbers::read_numbers(reading);
+    *answer = answers::read_numbers(reading);
 }
 
 // Writes a plan as text.
@@ -189,7 +187,7 @@ pub extern "C" fn shimlantern_write_plan(
         boxes,
         out,
     );
-    *answer = numbers::write_numbers(writing);
+    *answer = answers::write_numbers(writing);
 }
 
 // What the program prints for a plan text, and its length; the bytes past it are untouched.

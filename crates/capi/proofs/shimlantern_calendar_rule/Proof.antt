@@ -1,7 +1,7 @@
 use mathlib.Core.Path.{ap, _∙_}
 use Rattle.units.specs.declared.Bounds.{Bounds}
 use Rattle.calendar.specs.Entry.{calendarRule}
-use Rattle.capi.specs.Numbers.{ruleNumbers}
+use Rattle.answers.specs.Numbers.{ruleNumbers}
 use borrow.Author.Needs.{needs}
 use Rattle.capi.proofs.shimlantern_calendar_rule.Statement.{statement}
 use Rattle.capi.proofs.shimlantern_calendar_rule.Tie as tie

@@ -1,5 +1,5 @@
 use mathlib.Core.Path.{ap, _∙_}
-use Rattle.capi.specs.Numbers.{scheduleNumbers}
+use Rattle.answers.specs.Numbers.{scheduleNumbers}
 use borrow.Author.Needs.{needs}
 use Rattle.capi.proofs.shimlantern_check_schedule.Statement.{statement}
 use Rattle.capi.proofs.shimlantern_check_schedule.Tie as tie

@@ -1,9 +1,9 @@
 use mathlib.Core.Path.{refl}
 use mathlib.Core.List.{[], _∷_}
-use Rattle.capi.specs.Numbers.{filterNumbers}
+use Rattle.answers.specs.Numbers.{filterNumbers}
 use borrow.Author.Needs.{needs}
-use Rattle.capi.proofs.numbers.filter_numbers.Statement.{statement}
-use Rattle.capi.proofs.numbers.filter_numbers.Tie as tie
+use Rattle.answers.proofs.filter_numbers.Statement.{statement}
+use Rattle.answers.proofs.filter_numbers.Tie as tie
 
 returns : tie.Need-returns
 unfolding filterNumbers

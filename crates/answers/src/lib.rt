@@ -12,7 +12,7 @@ ghost use Rattle.schedule.specs.Entry.{scheduleAnswer};
 ghost use Rattle.steps.specs.Entry.{logAnswer, filterAnswer};
 ghost use Rattle.plan_text.specs.Entry.{readingAnswer};
 ghost use Rattle.plan_writing.specs.Entry.{writingAnswer};
-ghost use Rattle.capi.specs.Numbers.{ruleNumbers, scheduleNumbers, logNumbers, filterNumbers, readNumbers, writeNumbers};
+ghost use Rattle.answers.specs.Numbers.{ruleNumbers, scheduleNumbers, logNumbers, filterNumbers, readNumbers, writeNumbers};
 
 pub fn rule_numbers(answer: RuleAnswer) -> [u64; 11]
     ensures { λ r. ⌜ r ≡ ruleNumbers (ruleAnswer answer) ⌝ }

@@ -1,9 +1,9 @@
 use mathlib.Core.Path.{refl}
 use mathlib.Core.List.{[], _∷_}
-use Rattle.capi.specs.Numbers.{ruleNumbers}
+use Rattle.answers.specs.Numbers.{ruleNumbers}
 use borrow.Author.Needs.{needs}
-use Rattle.capi.proofs.numbers.rule_numbers.Statement.{statement}
-use Rattle.capi.proofs.numbers.rule_numbers.Tie as tie
+use Rattle.answers.proofs.rule_numbers.Statement.{statement}
+use Rattle.answers.proofs.rule_numbers.Tie as tie
 
 returns : tie.Need-returns
 unfolding ruleNumbers
