@@ -156,11 +156,33 @@ pub fn is_kind(calendar: &[u8], t: usize, kind: u8) -> bool
     calendar[t] == kind
 }
 
+// Where a calendar begins, if that is within a limit: H added once for each calendar before it. The second way out is never taken. Without it the
+// compiler makes a product of the loop.
+fn first_within(limit: usize, number: u16, hours: u16) -> usize
+    requires { ⌜ firstSymbol hours number ≤ limit ⌝ }
+    ensures { λ r. ⌜ r ≡ firstSymbol hours number ⌝ }
+{
+    let step = hours as usize;
+    let mut first: usize = 0;
+    let mut k: u16 = 0;
+    while k < number {
+        if limit - first < step {
+            break;
+        }
+        first += step;
+        k += 1;
+    }
+    first
+}
+
+// The greatest index that any number and any H give, 65,535 times 65,535: of a greater limit the compiler sees that it is never passed.
+const MOST_FIRST: usize = 4294836225;
+
 // Where a calendar begins among the symbols of all calendars, joined.
 pub fn first_symbol(number: u16, hours: Duration) -> usize
     ensures { λ r. ⌜ r ≡ firstSymbol (hours .0) number ⌝ }
 {
-    (number as usize) * (hours.0 as usize)
+    first_within(MOST_FIRST, number, hours.0)
 }
 
 // The symbols of one calendar.
@@ -168,8 +190,9 @@ pub fn calendar_at(calendars: &[u8], hours: Duration, number: u16) -> &[u8]
     requires { ⌜ firstSymbol (hours .0) number + hours .0 ≤ length (now calendars) ⌝ }
     ensures { λ r. ⌜ now r ≡ take (hours .0) (drop (firstSymbol (hours .0) number) (old calendars)) ⌝ }
 {
-    let from = first_symbol(number, hours);
-    let to = from + hours.0 as usize;
+    let each = hours.0;
+    let from = first_within(calendars.len(), number, each);
+    let to = from + each as usize;
     &calendars[from..to]
 }
 

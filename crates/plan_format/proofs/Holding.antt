@@ -11,7 +11,7 @@ use Rattle.units.specs.Choice.{onOption}
 use Rattle.units.specs.Limits.{mostHours, mostCalendars, mostRooms, mostTasks, isPlanLength, isCalendarCount}
 use Rattle.units.proofs.Choices.{and-left, neither}
 use Rattle.units.proofs.Ranges.{to-most}
-use Rattle.plan.specs.Plan.{taskCount}
+use Rattle.plan.specs.Plan.{taskCount, firstSymbol}
 use Rattle.plan.specs.Refusals.{Fault, Answer, refused, answered, onAnswer}
 use Rattle.plan.specs.Faults.{planFault}
 use Rattle.plan.proofs.Refusals.{unless-none, refused≢answered}
@@ -24,12 +24,12 @@ pub record Holds (a : PlanRead) : Type 0 where
   pub rooms : a .rooms ≤ mostRooms
   pub calendars : a .calendars ≤ mostCalendars
   pub tasks : a .tasks ≤ mostTasks
-  pub symbols : a .calendars * a .hours ≤ mostSymbols
+  pub symbols : firstSymbol (a .hours) (a .calendars) ≤ mostSymbols
   pub heights : a .rooms * a .tasks ≤ mostHeights
 
 fault-free : (enough : Bool) (r : Read) → readFault enough r ≡ none
     → Holds (record { hours = r .hours; rooms = length (r .capacities); calendars = length (r .calendars); tasks = length (r .tasks) })
-unfolding readFault lineFault planFault planIn taskCount isPlanLength isCalendarCount
+unfolding readFault lineFault planFault planIn taskCount firstSymbol isPlanLength isCalendarCount
 fault-free enough r e =
     let after-31 = neither _ _ e in
     let after-3 = neither _ _ (after-31 .1) in

@@ -4,7 +4,7 @@ use mathlib.Core.List.{List}
 use Prim.Native.Nat.{ℕ, _*_}
 use lib.ListN.{length, take}
 use Rattle.units.specs.Cells.{written}
-use Rattle.plan.specs.Plan.{Plan, plan, taskCount}
+use Rattle.plan.specs.Plan.{Plan, plan, taskCount, firstSymbol}
 use Rattle.plan.specs.Refusals.{Fault, refused, answered, onAnswer}
 use Rattle.steps.specs.Entry.{FilterAnswer, FilterEnd, filterEnd, filterPlan}
 use Rattle.plan_format.specs.Reading.{PlanRead, ReadEnd, endWith}
@@ -34,9 +34,10 @@ module _ (text : List ℕ) where
     unfolding readEnd
     text-holds = read-holds _ _ _ _ _ _ text a (ap (λ (x : ReadEnd). x .answer) e)
 
-    pub text-read : planListing
-        (plan (a .hours) (take (a .rooms) rs) (take (a .calendars * a .hours) cs) (take (a .tasks) ts) (take (a .tasks) ws) (take (a .rooms * a .tasks) hs))
+    pub text-read : (all : ℕ) → all ≡ firstSymbol (a .hours) (a .calendars)
+        → planListing
+        (plan (a .hours) (take (a .rooms) rs) (take all cs) (take (a .tasks) ts) (take (a .tasks) ws) (take (a .rooms * a .tasks) hs))
         (take (6 * a .tasks) bs)
         ≡ textListing text
-    unfolding textListing readListing onAnswer
-    text-read = rw (← e)
+    unfolding textListing readListing onAnswer firstSymbol
+    text-read all is = rw (is, ← e)

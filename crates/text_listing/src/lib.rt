@@ -2,11 +2,13 @@
 use listing::ROOM;
 use listing::list_refusal;
 use listing::list_run;
+use plan::first_symbol;
 use plan_text::MOST_BOUNDS;
 use plan_text::MOST_HEIGHTS;
 use plan_text::MOST_SYMBOLS;
 use plan_text::PlanReading;
 use units::Bounds;
+use units::Duration;
 use units::RoomNumber;
 ghost use mathlib.Core.Path.{_≡_};
 ghost use Prim.Native.Nat.{_*_, _≤_};
@@ -79,7 +81,7 @@ pub fn list_text(text: &[u8], out: &mut [u8; ROOM]) -> usize
             calendars,
             tasks,
         } => {
-            let all = calendars * hours as usize;
+            let all = first_symbol(calendars as u16, Duration(hours));
             let each = rooms * tasks;
             let cells = Bounds::NUMBERS * tasks;
             list_plan(

@@ -3,6 +3,7 @@
 use libc::STDOUT_FILENO;
 use plan::Refusal;
 use plan::fault_of;
+use plan::first_symbol;
 use plan_text::MOST_BOUNDS;
 use plan_text::MOST_BYTES;
 use plan_text::MOST_HEIGHTS;
@@ -15,6 +16,7 @@ use steps::LogChecked;
 use steps::Step;
 use text::fields::end_of;
 use units::Bounds;
+use units::Duration;
 use units::RoomNumber;
 ghost use mathlib.Core.Path.{_≡_};
 ghost use Prim.Native.Nat.{_≤_};
@@ -450,7 +452,7 @@ fn rewrite(text: &[u8], out: &mut [u8]) -> PlanWriting {
             calendars,
             tasks,
         } => {
-            let all = calendars * hours as usize;
+            let all = first_symbol(calendars as u16, Duration(hours));
             let each = rooms * tasks;
             let cells = Bounds::NUMBERS * tasks;
             plan_writing::write_plan(

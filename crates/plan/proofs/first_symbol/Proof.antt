@@ -1,4 +1,3 @@
-use mathlib.Core.Path.{refl}
 use Prim.Native.Nat.{ℕ, _*_, _≤_}
 use native.Mathlib.Nat.{mul-le-mul}
 use native.Mathlib.Omega.{arith}
@@ -11,12 +10,9 @@ use Rattle.plan.proofs.first_symbol.Tie as tie
 small : (a b : ℕ) → a ≤ 65535 → b ≤ 65535 → a * b ≤ 65535 * 65535
 small a b p q = mul-le-mul p q
 
-mul-result : tie.Need-mul-result
-mul-result c = let a = c .before .args in omega (arith, small (a .number) (a .hours .0) (omega arith) (omega arith))
-
-returns : tie.Need-returns
+within : tie.Need-first-within-requires
 unfolding firstSymbol
-returns c = refl
+within c = let a = c .args in omega (arith, small (a .number) (a .hours .0) (omega arith) (omega arith))
 
 pub first-symbol-spec : {M : Type 1} → statement M
-first-symbol-spec = tie.close (tie.spec (λ c. search needs) mul-result returns)
+first-symbol-spec = tie.close (tie.spec within (λ c. search needs))

@@ -1,4 +1,5 @@
 use mathlib.Core.Path.{sym, ap, _∙_}
+use Prim.Native.Nat.{_≤_}
 use native.Mathlib.Omega.{arith}
 use Rattle.plan_text.specs.declared.PlanReading.{PlanReading}
 use Rattle.units.specs.Limits.{mostRooms, mostTasks}
@@ -13,8 +14,8 @@ use Rattle.text_listing.proofs.list_text.Statement.{statement}
 use Rattle.text_listing.proofs.list_text.Tie as tie
 
 -- The place that answers look back to: the text once read, from where it holds a plan.
-abbrev read : tie.After-reading2 → tie.After-read-plan
-read c = c .before .before .before .before .before .before .before .before
+abbrev read : tie.After-known-told2 → tie.After-read-plan
+read c = c .before .before .before .before .before .before .before .before .before
 
 -- what reading leaves with an answer
 abbrev leaves : tie.After-read-plan → PlanReading → ReadEnd
@@ -24,18 +25,21 @@ leaves c x =
     (c .read-plan .last .1 .1 .1 .1 .1 .0)
     (c .read-plan .last .1 .1 .1 .1 .1 .1 .0)
 
-limits : (c : tie.After-reading2)
+limits : (c : tie.After-known-told2)
     → Holds (record {
-      hours = c .reading2 .given .0 .0;
-      rooms = c .reading2 .given .0 .1 .0;
-      calendars = c .reading2 .given .0 .1 .1 .0;
-      tasks = c .reading2 .given .0 .1 .1 .1 .0;
+      hours = c .before .reading2 .given .0 .0;
+      rooms = c .before .reading2 .given .0 .1 .0;
+      calendars = c .before .reading2 .given .0 .1 .1 .0;
+      tasks = c .before .reading2 .given .0 .1 .1 .1 .0;
     })
 unfolding zeros readEnd
-limits c = text-holds _ _ _ _ _ _ _ _ (sym (ap (leaves (read c)) (c .reading2 .given .1)) ∙ read c .read-plan .ensures)
+limits c = text-holds _ _ _ _ _ _ _ _ (sym (ap (leaves (read c)) (c .before .reading2 .given .1)) ∙ read c .read-plan .ensures)
 
-mul-all : tie.Need-mul-all
-mul-all c = omega (arith, limits (c .before) .symbols)
+all-held : (c : tie.After-first-symbol) → c .first-symbol .result ≤ mostSymbols
+all-held c = omega (arith, c .first-symbol .ensures, limits (c .before) .symbols)
+
+cast-first-symbol : tie.Need-cast-first-symbol
+cast-first-symbol c = record { fits = omega (arith, limits c .calendars) }
 
 mul-each : tie.Need-mul-each
 mul-each c = omega (arith, limits (c .before) .heights)
@@ -52,12 +56,12 @@ slice-aggregate-list-plan c =
     part-length _ _ mostRooms (read k .read-plan .kept .1 .0) (limits k .rooms)
 
 array-share-prefix-symbols : tie.Need-array-share-prefix-symbols
-array-share-prefix-symbols c = let k = c .before .before in omega (arith, limits k .symbols, read k .read-plan .kept .1 .1 .0)
+array-share-prefix-symbols c = let k = c .before in omega (arith, all-held k, read (k .before) .read-plan .kept .1 .1 .0)
 
 slice-aggregate-list-plan-2 : tie.Need-slice-aggregate-list-plan-2
 slice-aggregate-list-plan-2 c =
-    let k = c .before .before .before in
-    part-length _ _ mostSymbols (read k .read-plan .kept .1 .1 .0) (limits k .symbols)
+    let k = c .before .before in
+    part-length _ _ mostSymbols (read (k .before) .read-plan .kept .1 .1 .0) (all-held k)
 
 array-share-prefix-task-calendars : tie.Need-array-share-prefix-task-calendars
 array-share-prefix-task-calendars c = let k = c .before .before .before in omega (arith, limits k .tasks, read k .read-plan .kept .1 .1 .1 .0)
@@ -111,10 +115,10 @@ returns-2 : tie.Need-returns-2
 unfolding zeros readEnd
 returns-2 c =
     let l = c .before in
-    let k = l .before .before .before .before .before .before .before .before .before in
-    let r = read k in
-    put-as _ (text-read _ _ _ _ _ _ _ _ (sym (ap (leaves r) (k .reading2 .given .1)) ∙ r .read-plan .ensures)) (l .list-plan .ensures .0)
-    (l .list-plan .ensures .1)
+    let k = l .before .before .before .before .before .before .before .before in
+    let r = read (k .before) in
+    let end = sym (ap (leaves r) (k .before .before .reading2 .given .1)) ∙ r .read-plan .ensures in
+    put-as _ (text-read _ _ _ _ _ _ _ _ end _ (k .first-symbol .ensures)) (l .list-plan .ensures .0) (l .list-plan .ensures .1)
 
 pub list-text-spec : {M : Type 1} → statement M
 list-text-spec =
@@ -130,8 +134,8 @@ list-text-spec =
     (λ c. search needs)
     (λ c κs. search needs)
     (λ c. search needs)
+    cast-first-symbol
     (λ c. search needs)
-    mul-all
     mul-each
     mul-cells
     array-share-prefix-capacities

@@ -1,4 +1,5 @@
 use mathlib.Core.Path.{sym, ap, _∙_}
+use Prim.Native.Nat.{_≤_}
 use native.Mathlib.Omega.{arith}
 use borrow.Author.Needs.{needs}
 use Rattle.units.specs.Limits.{mostRooms, mostTasks}
@@ -25,61 +26,66 @@ limits c =
     read-holds _ _ _ _ _ _ _ _
     (sym (ap readingAnswer (c .before .reading2 .given .1)) ∙ ap (λ (x : ReadEnd). x .answer) (read c .read-plan .ensures))
 
-mul-all : tie.Need-mul-all
-mul-all c = omega (arith, limits c .symbols)
+all-held : (c : tie.After-first-symbol) → c .first-symbol .result ≤ mostSymbols
+all-held c = omega (arith, c .first-symbol .ensures, limits (c .before) .symbols)
+
+cast-first-symbol : tie.Need-cast-first-symbol
+cast-first-symbol c = record { fits = omega (arith, limits c .calendars) }
 
 mul-each : tie.Need-mul-each
-mul-each c = omega (arith, limits c .heights)
+mul-each c = omega (arith, limits (c .before) .heights)
 
 mul-cells : tie.Need-mul-cells
-mul-cells c = omega (arith, limits c .tasks)
+mul-cells c = omega (arith, limits (c .before) .tasks)
 
 array-share-prefix-capacities : tie.Need-array-share-prefix-capacities
-array-share-prefix-capacities c = omega (arith, limits c .rooms, read c .read-plan .kept .1 .0)
+array-share-prefix-capacities c = let k = c .before in omega (arith, limits k .rooms, read k .read-plan .kept .1 .0)
 
 slice-aggregate-write-plan : tie.Need-slice-aggregate-write-plan
 slice-aggregate-write-plan c =
-    let k = c .before in
+    let k = c .before .before in
     part-length _ _ mostRooms (read k .read-plan .kept .1 .0) (limits k .rooms)
 
 array-share-prefix-symbols : tie.Need-array-share-prefix-symbols
-array-share-prefix-symbols c = let k = c .before in omega (arith, limits k .symbols, read k .read-plan .kept .1 .1 .0)
+array-share-prefix-symbols c = let k = c .before in omega (arith, all-held k, read (k .before) .read-plan .kept .1 .1 .0)
 
 slice-aggregate-write-plan-2 : tie.Need-slice-aggregate-write-plan-2
 slice-aggregate-write-plan-2 c =
     let k = c .before .before in
-    part-length _ _ mostSymbols (read k .read-plan .kept .1 .1 .0) (limits k .symbols)
+    part-length _ _ mostSymbols (read (k .before) .read-plan .kept .1 .1 .0) (all-held k)
 
 array-share-prefix-task-calendars : tie.Need-array-share-prefix-task-calendars
-array-share-prefix-task-calendars c = let k = c .before .before in omega (arith, limits k .tasks, read k .read-plan .kept .1 .1 .1 .0)
+array-share-prefix-task-calendars c = let k = c .before .before .before in omega (arith, limits k .tasks, read k .read-plan .kept .1 .1 .1 .0)
 
 slice-aggregate-write-plan-3 : tie.Need-slice-aggregate-write-plan-3
 slice-aggregate-write-plan-3 c =
-    let k = c .before .before .before in
+    let k = c .before .before .before .before in
     part-length _ _ mostTasks (read k .read-plan .kept .1 .1 .1 .0) (limits k .tasks)
 
 array-share-prefix-work-times : tie.Need-array-share-prefix-work-times
-array-share-prefix-work-times c = let k = c .before .before .before in omega (arith, limits k .tasks, read k .read-plan .kept .1 .1 .1 .1 .0)
+array-share-prefix-work-times c = let k = c .before .before .before .before in omega (arith, limits k .tasks, read k .read-plan .kept .1 .1 .1 .1 .0)
 
 slice-aggregate-write-plan-4 : tie.Need-slice-aggregate-write-plan-4
 slice-aggregate-write-plan-4 c =
-    let k = c .before .before .before .before in
+    let k = c .before .before .before .before .before in
     part-length _ _ mostTasks (read k .read-plan .kept .1 .1 .1 .1 .0) (limits k .tasks)
 
 array-share-prefix-heights : tie.Need-array-share-prefix-heights
-array-share-prefix-heights c = let k = c .before .before .before .before in omega (arith, limits k .heights, read k .read-plan .kept .1 .1 .1 .1 .1 .0)
+array-share-prefix-heights c = let k = c .before .before .before .before .before in omega (arith, limits k .heights, read k .read-plan .kept .1 .1 .1 .1 .1 .0)
 
 slice-aggregate-write-plan-5 : tie.Need-slice-aggregate-write-plan-5
 slice-aggregate-write-plan-5 c =
-    let k = c .before .before .before .before .before in
+    let k = c .before .before .before .before .before .before in
     part-length _ _ mostHeights (read k .read-plan .kept .1 .1 .1 .1 .1 .0) (limits k .heights)
 
 array-share-prefix-boxes : tie.Need-array-share-prefix-boxes
-array-share-prefix-boxes c = let k = c .before .before .before .before .before in omega (arith, limits k .tasks, read k .read-plan .kept .1 .1 .1 .1 .1 .1 .0)
+array-share-prefix-boxes c =
+    let k = c .before .before .before .before .before .before in
+    omega (arith, limits k .tasks, read k .read-plan .kept .1 .1 .1 .1 .1 .1 .0)
 
 slice-aggregate-write-plan-6 : tie.Need-slice-aggregate-write-plan-6
 slice-aggregate-write-plan-6 c =
-    let k = c .before .before .before .before .before .before in
+    let k = c .before .before .before .before .before .before .before in
     part-length _ _ mostBounds (read k .read-plan .kept .1 .1 .1 .1 .1 .1 .0) (omega (arith, limits k .tasks))
 
 pub rewrite-spec : {M : Type 1} → statement M
@@ -95,8 +101,8 @@ rewrite-spec =
     (λ c κs. search needs)
     (λ c. search needs)
     (λ c. search needs)
+    cast-first-symbol
     (λ c. search needs)
-    mul-all
     mul-each
     mul-cells
     array-share-prefix-capacities
