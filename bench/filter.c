@@ -30,7 +30,7 @@ struct memory {
 
 struct fit {
     int any;
-    uint16_t box[6], ect, lct;
+    uint16_t box[6], ect, lct, witnesses[6][3];
 };
 
 static void widen(uint16_t *least, uint16_t *greatest, unsigned n) {
@@ -38,8 +38,15 @@ static void widen(uint16_t *least, uint16_t *greatest, unsigned n) {
     if (n > *greatest) *greatest = n;
 }
 
+/* With a triple more, of which n is the number that bound k is of: k is a lower bound, and k + 1 the upper one. */
+static void take(struct fit *f, int k, unsigned n, const uint16_t *triple) {
+    if (!f->any || n < f->box[k]) memcpy(f->witnesses[k], triple, sizeof f->witnesses[k]);
+    if (!f->any || n > f->box[k + 1]) memcpy(f->witnesses[k + 1], triple, sizeof f->witnesses[k + 1]);
+    widen(&f->box[k], &f->box[k + 1], n);
+}
+
 static struct fit plain_rule(const uint8_t *calendar, unsigned hours, unsigned p, const uint16_t *box) {
-    struct fit f = {0, {UINT16_MAX, 0, UINT16_MAX, 0, UINT16_MAX, 0}, UINT16_MAX, 0};
+    struct fit f = {0, {UINT16_MAX, 0, UINT16_MAX, 0, UINT16_MAX, 0}, UINT16_MAX, 0, {{0}}};
     for (unsigned s = box[0]; s <= box[1]; s++) {
         unsigned regular = 0, overtime = 0;
         if (calendar[s] == 'c') continue;
@@ -52,11 +59,12 @@ static struct fit plain_rule(const uint8_t *calendar, unsigned hours, unsigned p
             unsigned ends = (calendar[s] == 'o') + (e > 1 && last == 'o');
             if (e < box[2] || o < box[4] || o > box[5]) continue;
             if (last == 'c' || o > overtime || ends > o) continue;
-            f.any = 1;
-            widen(&f.box[0], &f.box[1], s);
-            widen(&f.box[2], &f.box[3], e);
-            widen(&f.box[4], &f.box[5], o);
+            const uint16_t triple[3] = {s, e, o};
+            take(&f, 0, s, triple);
+            take(&f, 2, e, triple);
+            take(&f, 4, o, triple);
             widen(&f.ect, &f.lct, s + e);
+            f.any = 1;
         }
     }
     return f;
@@ -192,7 +200,7 @@ static double lesser(double a, double b) {
 }
 
 static void print_times(const char *name, double library, double plain) {
-    printf("%-54s library %9.3f ms   plain C %9.3f ms   ratio %6.2f\n", name, 1e3 * library, 1e3 * plain, library / plain);
+    printf("%-54s library %9.4f ms   plain C %9.4f ms   ratio %6.2f\n", name, 1e3 * library, 1e3 * plain, library / plain);
 }
 
 /* The two take turns, and the least time of each counts. */
@@ -220,20 +228,22 @@ static void time_filter(const char *name, void (*make)(struct plan *, uint16_t *
     print_times(told, library, plain);
 }
 
-static void time_rule(const char *name, int times) {
+/* The rule on a calendar of the hours of one pattern, over and over, and the full box. */
+static void time_rule(const char *name, const char *pattern, uint16_t work, int times) {
     static uint8_t calendar[HOURS];
-    const uint16_t work = 504, box[6] = {0, HOURS - 1, 1, HOURS, 0, work};
+    const uint16_t box[6] = {0, HOURS - 1, 1, HOURS, 0, work};
     double library = 1e9, plain = 1e9;
-    memset(calendar, 'o', sizeof calendar);
+    for (size_t t = 0; t < HOURS; t++) calendar[t] = pattern[t % strlen(pattern)];
     for (int k = 0; k < times; k++) {
-        uint64_t answer[11];
+        uint64_t answer[SHIMLANTERN_RULE_NUMBERS];
         double start = seconds();
         shimlantern_calendar_rule(calendar, HOURS, work, box, answer);
         double between = seconds();
         struct fit f = plain_rule(calendar, HOURS, work, box);
         library = lesser(library, between - start);
         plain = lesser(plain, seconds() - between);
-        uint64_t expected[11] = {0, 0, f.any, f.box[0], f.box[1], f.box[2], f.box[3], f.box[4], f.box[5], f.ect, f.lct};
+        uint64_t expected[SHIMLANTERN_RULE_NUMBERS] = {0, 0, f.any, f.box[0], f.box[1], f.box[2], f.box[3], f.box[4], f.box[5], f.ect, f.lct};
+        for (int n = 0; n < 18; n++) expected[SHIMLANTERN_RULE_EARLIEST_START + n] = f.witnesses[n / 3][n % 3];
         if (memcmp(answer, expected, sizeof answer)) {
             fprintf(stderr, "%s: the two differ\n", name);
             exit(1);
@@ -246,6 +256,9 @@ int main(void) {
     time_filter("filter, mostly regular hours", mostly_regular, 10);
     time_filter("filter, mostly regular hours, eight rooms", eight_rooms, 10);
     time_filter("filter, regular and overtime by turns", by_turns, 3);
-    time_rule("calendar rule, all overtime, p = 504", 200);
+    time_rule("calendar rule, all overtime, p = 504", "o", 504, 200);
+    time_rule("calendar rule, regular and overtime by turns, p = 100", "ro", 100, 200);
+    time_rule("calendar rule, shifts with overtime, p = 60", "ooooorrrrrrrccccccccoooo", 60, 200);
+    time_rule("calendar rule, mostly regular hours, p = 8", "rrrrrrrrrrrrrrrrrrrrrrrro", 8, 200);
     return 0;
 }

@@ -165,6 +165,14 @@ class State:
         return [room for room, (height, loads, capacity) in rooms if height + (loads[hour] - own * height) > capacity]
 
 
+def attaining(calendar, p, box):
+    """For the lower and the upper bound of S, of E and of O in turn the valid triples that attain it; none where there is no valid triple. A
+    bound's witness is the first of them by start, then by elapsed time: the least."""
+    found = valid_triples(calendar, p, box)
+    bounds = fit_of(calendar, p, box).box if found else ()
+    return [[t for t in found if t[k // 2] == bound] for k, bound in enumerate(bounds)]
+
+
 def calendar_rule(calendar, p, box):
     """A refusal and None, or None and the fit, which is None where there is no valid triple."""
     refusal = plan_fault(Plan(len(calendar), (0,), calendar, (0,), (p,), (0,)), [box])

@@ -84,8 +84,9 @@ enum { SHIMLANTERN_TRIPLE_START = 0, SHIMLANTERN_TRIPLE_ELAPSED = 1, SHIMLANTERN
 enum { SHIMLANTERN_NUMBER = 0, SHIMLANTERN_PLACE = 1 };
 
 /* The least and greatest start, elapsed time and overtime that fit one calendar, within a box of six numbers.
-   answer: number (0, 2, 4, 7 or 9), place, 1 if some triple fits, then start, elapsed time and overtime, the lower bound first, and the least
-   and the greatest end. */
+   answer: number (0, 2, 4, 7 or 9), place, 1 if some triple fits, then start, elapsed time and overtime, the lower bound first, the least and
+   the greatest end, then for each of the six bounds, in their order, start, elapsed time and overtime of a triple that attains it, of several the
+   one with the earliest start, then with the shortest elapsed time; 0 where there is none. */
 enum {
     SHIMLANTERN_RULE_FITS = 2,
     SHIMLANTERN_RULE_EARLIEST = 3,
@@ -96,9 +97,27 @@ enum {
     SHIMLANTERN_RULE_MOST = 8,
     SHIMLANTERN_RULE_LEAST_END = 9,
     SHIMLANTERN_RULE_GREATEST_END = 10,
-    SHIMLANTERN_RULE_NUMBERS = 11
+    SHIMLANTERN_RULE_EARLIEST_START = 11,
+    SHIMLANTERN_RULE_EARLIEST_ELAPSED = 12,
+    SHIMLANTERN_RULE_EARLIEST_OVERTIME = 13,
+    SHIMLANTERN_RULE_LATEST_START = 14,
+    SHIMLANTERN_RULE_LATEST_ELAPSED = 15,
+    SHIMLANTERN_RULE_LATEST_OVERTIME = 16,
+    SHIMLANTERN_RULE_SHORTEST_START = 17,
+    SHIMLANTERN_RULE_SHORTEST_ELAPSED = 18,
+    SHIMLANTERN_RULE_SHORTEST_OVERTIME = 19,
+    SHIMLANTERN_RULE_LONGEST_START = 20,
+    SHIMLANTERN_RULE_LONGEST_ELAPSED = 21,
+    SHIMLANTERN_RULE_LONGEST_OVERTIME = 22,
+    SHIMLANTERN_RULE_FEWEST_START = 23,
+    SHIMLANTERN_RULE_FEWEST_ELAPSED = 24,
+    SHIMLANTERN_RULE_FEWEST_OVERTIME = 25,
+    SHIMLANTERN_RULE_MOST_START = 26,
+    SHIMLANTERN_RULE_MOST_ELAPSED = 27,
+    SHIMLANTERN_RULE_MOST_OVERTIME = 28,
+    SHIMLANTERN_RULE_NUMBERS = 29
 };
-void shimlantern_calendar_rule(const uint8_t *calendar, size_t calendar_length, uint16_t work_time, const uint16_t box[6], uint64_t answer[11]);
+void shimlantern_calendar_rule(const uint8_t *calendar, size_t calendar_length, uint16_t work_time, const uint16_t box[6], uint64_t answer[29]);
 
 /* Whether a schedule is feasible.
    answer: number (0, 2 to 10, 14 to 17 or 31), place, makespan. */

@@ -17,7 +17,7 @@ use Rattle.plan.specs.Refusals.{Fault, fault, refused, answered, answerUnless}
 use Rattle.plan.specs.Faults.{oneForEachTask, calendarsFault, planFault, inputFault}
 use Rattle.plan.proofs.Refusals.{unless-true, unless-false}
 use Rattle.plan.proofs.Passed.{passed}
-use Rattle.calendar.specs.Rule.{ruleOf}
+use Rattle.calendar.specs.Rule.{witnessedRule}
 use Rattle.calendar.specs.inner.Stretches.{RuleReady}
 use Rattle.calendar.specs.Entry.{oneTask, calendarRule}
 
@@ -39,7 +39,7 @@ module _ (cal : List ℕ) (p : ℕ) (b : Bounds) where
   unfolding calendarRule answerUnless
   refused-by f e = rw e
 
-  pub answered-by : inputFault (oneTask cal p) (boxCells b) ≡ none → calendarRule cal p b ≡ answered (ruleOf cal p b)
+  pub answered-by : inputFault (oneTask cal p) (boxCells b) ≡ none → calendarRule cal p b ≡ answered (witnessedRule cal p b)
   unfolding calendarRule answerUnless
   answered-by e = rw e
 

@@ -1,7 +1,10 @@
 pub mod Counting
+pub mod Lasts
 pub mod Stretches
 pub mod Valid
 pub mod Windows
 pub mod Triples
+pub mod Ordering
+pub mod Witnessing
 pub mod Starts
 pub mod Entry

@@ -1,8 +1,9 @@
--- The valid triples from one start: they last from one length to another, and their window is known by those two. Assumes nothing.
+-- The valid triples from one start: they last from one length to another, and their window and its witnesses are known by those two. Assumes
+-- nothing.
 use mathlib.Core.Path.{_≡_, refl, sym, ap, _∙_}
 use mathlib.Core.Bool.{Bool, true, false, not}
 use mathlib.Core.List.{List, []}
-use Prim.Native.Nat.{ℕ, _+_, _-_, _≤_, _<_, min}
+use Prim.Native.Nat.{ℕ, _+_, _-_, _≤_, _<_, min, max}
 use native.Mathlib.Decide.{decLe}
 use native.Mathlib.Omega.{arith}
 use lib.Dec.{eqb}
@@ -16,21 +17,25 @@ use Rattle.plan.specs.HourKinds.{isKind, regular, closed, overtime}
 use Rattle.plan.proofs.HourKinds.{open-works}
 use Rattle.calendar.specs.declared.Stretch.{Stretch}
 use Rattle.calendar.specs.declared.Triple.{Triple}
-use Rattle.calendar.specs.declared.Fit.the-variants.{Within}
+use Rattle.calendar.specs.declared.Witnessed.the-variants.{Within}
 use Rattle.calendar.specs.Valid.{hoursOf, overtimeEnds}
 use Rattle.calendar.specs.Triples.{triple, elapsedOf, overtimeOf, starting}
-use Rattle.calendar.specs.Rule.{fitOf}
+use Rattle.calendar.specs.Rule.{witnessedOf}
+use Rattle.calendar.specs.Witnesses.{Earlier, starts-earlier, is-shorter}
 use Rattle.calendar.specs.inner.Stretches.{IsStretch, AllSymbols, RuleReady, Reaches, noHours}
-use Rattle.calendar.specs.inner.Stretches.{openLength, stretchOf, mayEnd, mayLast, stopsAt}
+use Rattle.calendar.specs.inner.Stretches.{openLength, regularLength, stretchOf, mayEnd, mayLast, stopsAt}
 use Rattle.calendar.specs.inner.Stretches.{lengthened}
-use Rattle.calendar.specs.inner.Windows.{WindowReady, windowFrom}
+use Rattle.calendar.specs.inner.Windows.{WindowReady, windowFrom, shortestFrom, longestFrom, fewestFrom, witnessesFrom}
 use Rattle.calendar.proofs.Counting.{hours-more, hours-none, hours-first, hours-mono, regulars}
 use Rattle.calendar.proofs.Valid.{Valid, valid-facts, facts-valid}
-use Rattle.calendar.proofs.Stretches.{open-le, open-regular, open-last, open-past, open-itself, last-is, counts-are, MayEnd, may-end, ends-may, MayLast}
+use Rattle.calendar.proofs.Lasts.{last-le, last-regulars, last-holds, regular-open, open-le, open-regular, open-last, open-past, open-itself}
+use Rattle.calendar.proofs.Stretches.{last-is, regular-is, counts-are, MayEnd, may-end, ends-may, MayLast}
 use Rattle.calendar.proofs.Stretches.{may-last, lasts-may, last-shorter, no-stretch, own-hours, own-stretch}
 use Rattle.calendar.proofs.Stretches.{long-inside, long-none, long-holds, end-next}
 use Rattle.calendar.proofs.Stretches.{last-next}
-use Rattle.calendar.proofs.Triples.{Held, fit-is, Starting, has-starting, only-starting, no-members}
+use Rattle.calendar.proofs.Triples.{Held, Starting, has-starting, only-starting, no-members}
+use Rattle.calendar.proofs.Ordering.{starting-ordered}
+use Rattle.calendar.proofs.Witnessing.{First, witnessed-is}
 
 -- ---- the hours at both ends
 
@@ -97,10 +102,17 @@ module _ (cal : List ℕ) (p : ℕ) (b : Bounds) (s : ℕ) (symbols : AllSymbols
         );
       }
 
+  -- a task may end only with an open hour
+  ends-open : (e : ℕ) → 1 ≤ e → MayEnd p b (stretchOf cal s e) → isKind closed cal (s + e - 1) ≡ false
+  ends-open e l m = closed-at (m .goes) (open-last cal s e (omega (arith, m .goes)))
+    where
+      closed-at : openLength cal s e ≡ e → isKind closed cal (s + openLength cal s e - 1) ≡ false → isKind closed cal (s + e - 1) ≡ false
+      closed-at q h = rw q at h
+
   tests-valid : (e : ℕ) → 1 ≤ e → s + e ≤ length cal → isKind closed cal s ≡ false → MayEnd p b (stretchOf cal s e) → MayLast cal p b s e
       → Valid cal p s e (p - hoursOf regular cal s e)
   tests-valid e l u first m n =
-      let last : isKind closed cal (s + e - 1) ≡ false = closed-at (m .goes) (open-last cal s e (omega (arith, m .goes))) in
+      let last = ends-open e l m in
       record {
         lasts = l;
         ends = u;
@@ -110,9 +122,6 @@ module _ (cal : List ℕ) (p : ℕ) (b : Bounds) (s : ℕ) (symbols : AllSymbols
         in-overtime = omega (arith, m .works);
         ends-worked = omega (arith, n .worked, worked-ends cal s symbols e l u first last);
       }
-    where
-      closed-at : openLength cal s e ≡ e → isKind closed cal (s + openLength cal s e - 1) ≡ false → isKind closed cal (s + e - 1) ≡ false
-      closed-at q h = rw q at h
 
 -- ---- from the shortest to the longest
 
@@ -176,47 +185,101 @@ module _ {cal : List ℕ} {p : ℕ} {b : Bounds} {s : ℕ} {shortest longest : S
     some-hours : 1 ≤ shortest .hours .0
     some-hours = omega (arith, shortest-ends .shortest, R .ready .shortest)
 
-    -- a kind's hours up to the shortest end are no more than those up to the longest
-    more-of : (kind : ℕ) → hoursOf kind cal s (shortest .hours .0) ≤ hoursOf kind cal s (longest .last .0)
-    more-of kind = hours-mono kind cal s (shortest .hours .0) (longest .last .0) between
-
-    longest-ends : MayEnd p b (stretchOf cal s (longest .last .0))
-    longest-ends =
+    -- a later open hour is an end too
+    later-ends : (e : ℕ) → shortest .hours .0 ≤ e → isKind closed cal (s + e - 1) ≡ false → MayEnd p b (stretchOf cal s e)
+    later-ends e l last-open =
         record {
           shortest = omega (arith, shortest-ends .shortest);
           works = omega (arith, shortest-ends .works, more-of regular, more-of overtime);
-          goes = open-itself cal s (longest .last .0) (omega (arith, some-hours)) last-open;
+          goes = open-itself cal s e (omega (arith, some-hours)) last-open;
           most = omega (arith, shortest-ends .most, more-of regular);
         }
       where
-        last-open : isKind closed cal (s + longest .last .0 - 1) ≡ false
-        last-open = rw is-last (open-last cal s (longest .hours .0) (omega (arith, is-last, some-hours)))
+        more-of : (kind : ℕ) → hoursOf kind cal s (shortest .hours .0) ≤ hoursOf kind cal s e
+        more-of kind = hours-mono kind cal s (shortest .hours .0) e l
 
-    lasting-start : (e : ℕ) → 1 ≤ e → e ≤ longest .hours .0 → MayEnd p b (stretchOf cal s e)
-        → Starting cal p b s (triple s e (p - hoursOf regular cal s e))
-    lasting-start e l u m =
-        let n = may-last cal p b s e (R .lasts e l u) in
+    longest-open : isKind closed cal (s + longest .last .0 - 1) ≡ false
+    longest-open = rw is-last (open-last cal s (longest .hours .0) (omega (arith, is-last, some-hours)))
+
+    -- the triple of such an end, with n regular hours
+    lasting-start : (e n : ℕ) → n ≡ hoursOf regular cal s e → 1 ≤ e → e ≤ longest .hours .0 → MayEnd p b (stretchOf cal s e)
+        → Starting cal p b s (triple s e (p - n))
+    lasting-start e n q l u m =
+        let may = may-last cal p b s e (R .lasts e l u) in
         record {
           start = refl;
           shortest = m .shortest;
-          longest = n .longest;
-          fewest = omega (arith, n .fewest);
-          most = omega (arith, m .most);
-          is-valid = facts-valid cal p s e _ (tests-valid cal p b s symbols e l (omega (arith, R .is-longest .hours .inside)) open-start m n);
+          longest = may .longest;
+          fewest = omega (arith, q, may .fewest);
+          most = omega (arith, q, m .most);
+          is-valid = rw q (facts-valid cal p s e _ (tests-valid cal p b s symbols e l (omega (arith, R .is-longest .hours .inside)) open-start m may));
         }
-
-    shortest-start : Starting cal p b s (triple s (shortest .hours .0) (p - hoursOf regular cal s (shortest .hours .0)))
-    shortest-start = lasting-start (shortest .hours .0) some-hours (omega (arith, longest-in)) shortest-ends
-
-    longest-start : Starting cal p b s (triple s (longest .last .0) (p - hoursOf regular cal s (longest .last .0)))
-    longest-start = lasting-start (longest .last .0) (omega (arith, some-hours)) longest-in longest-ends
 
     shortest-regular : shortest .counts .regular ≡ hoursOf regular cal s (shortest .hours .0)
     shortest-regular = regulars cal s _ _ (counts-are (R .is-shortest))
 
+    all-regular : longest .counts .regular ≡ hoursOf regular cal s (longest .hours .0)
+    all-regular = regulars cal s _ _ (counts-are (R .is-longest))
+
     longest-regular : longest .counts .regular ≡ hoursOf regular cal s (longest .last .0)
-    longest-regular =
-        regulars cal s _ _ (counts-are (R .is-longest)) ∙ sym (open-regular cal s (longest .hours .0)) ∙ ap (hoursOf regular cal s) (sym is-last)
+    longest-regular = all-regular ∙ sym (open-regular cal s (longest .hours .0)) ∙ ap (hoursOf regular cal s) (sym is-last)
+
+    shortest-start : Starting cal p b s (shortestFrom p s shortest)
+    shortest-start = lasting-start (shortest .hours .0) _ shortest-regular some-hours (omega (arith, longest-in)) shortest-ends
+
+    longest-start : Starting cal p b s (longestFrom p s longest)
+    longest-start =
+        lasting-start (longest .last .0) _ longest-regular (omega (arith, some-hours)) longest-in (later-ends (longest .last .0) between longest-open)
+
+    -- ---- the least overtime: from the last regular hour of the longest on
+
+    is-regular : longest .regular .0 ≡ regularLength cal s (longest .hours .0)
+    is-regular = regular-is (R .is-longest)
+
+    regular-counts : hoursOf regular cal s (longest .regular .0) ≡ longest .counts .regular
+    regular-counts = ap (hoursOf regular cal s) is-regular ∙ last-regulars _ s cal (λ t h. h) (longest .hours .0) ∙ sym all-regular
+
+    at-regular : 1 ≤ longest .regular .0 → isKind regular cal (s + longest .regular .0 - 1) ≡ true
+    at-regular l = rw is-regular (last-holds (λ t. isKind regular cal t) s (longest .hours .0) (omega (arith, is-regular)))
+
+    open-at : 1 ≤ longest .regular .0 → isKind closed cal (s + longest .regular .0 - 1) ≡ false
+    open-at l = regular-open cal _ (at-regular l)
+
+    regular-in : longest .regular .0 ≤ longest .last .0
+    regular-in = go (decLe 1 (longest .regular .0))
+      where
+        inside : longest .regular .0 ≤ longest .hours .0
+        inside = omega (arith, is-regular, last-le (λ t. isKind regular cal t) s (longest .hours .0))
+
+        go : Dec (1 ≤ longest .regular .0) → longest .regular .0 ≤ longest .last .0
+        go (yes l) = omega (arith, is-last, open-past cal s (longest .regular .0) (longest .hours .0) l inside (open-at l))
+        go (no l) = omega arith
+
+    abbrev enough : ℕ
+    enough = max (shortest .hours .0) (longest .regular .0)
+
+    enough-in : enough ≤ longest .last .0
+    enough-in = omega (arith, regular-in)
+
+    enough-open : isKind closed cal (s + enough - 1) ≡ false
+    enough-open = go (decLe (longest .regular .0) (shortest .hours .0))
+      where
+        go : Dec (longest .regular .0 ≤ shortest .hours .0) → isKind closed cal (s + enough - 1) ≡ false
+        go (yes l) = let q : enough ≡ shortest .hours .0 = omega arith in rw q (ends-open cal p b s symbols (shortest .hours .0) some-hours shortest-ends)
+        go (no l) = let q : enough ≡ longest .regular .0 = omega arith in rw q (open-at (omega arith))
+
+    enough-regular : longest .counts .regular ≡ hoursOf regular cal s enough
+    enough-regular = omega (
+      arith,
+      regular-counts,
+      longest-regular,
+      hours-mono regular cal s (longest .regular .0) enough (omega arith),
+      hours-mono regular cal s enough (longest .last .0) enough-in,
+    )
+
+    fewest-start : Starting cal p b s (fewestFrom p s shortest longest)
+    fewest-start =
+        lasting-start enough _ enough-regular (omega (arith, some-hours)) (omega (arith, enough-in, longest-in)) (later-ends enough (omega arith) enough-open)
 
     pub window-ready : WindowReady p s shortest longest
     window-ready =
@@ -249,21 +312,52 @@ module _ {cal : List ℕ} {p : ℕ} {b : Bounds} {s : ℕ} {shortest longest : S
           lct = omega (arith, h .start);
         }
 
-    pub window-is : fitOf (starting cal p b s) ≡ Within (windowFrom p s shortest longest)
+    -- a shorter one has more
+    enough-least : (t : Triple) → Starting cal p b s t → overtimeOf t ≡ p - longest .counts .regular → enough ≤ elapsedOf t
+    enough-least t h q = go (decLe enough (elapsedOf t))
+      where
+        go : Dec (enough ≤ elapsedOf t) → enough ≤ elapsedOf t
+        go (yes l) = l
+        go (no l) =
+            let r = longest .regular .0 in
+            let n : r - 1 + 1 ≡ r = omega (arith, from-shortest t h) in
+            let t₁ : s + r - 1 ≡ s + (r - 1) = omega (arith, from-shortest t h) in
+            let one = ap oneIf (rw t₁ at (at-regular (omega (arith, from-shortest t h)))) in
+            omega (
+              arith,
+              valid-start cal p b s t h .works,
+              from-shortest t h,
+              window-ready .fewest,
+              regular-counts,
+              ap (hoursOf regular cal s) n,
+              hours-more regular cal s (r - 1),
+              one,
+              hours-mono regular cal s (elapsedOf t) (r - 1) (omega (arith, from-shortest t h)),
+            )
+
+    -- a triple from s on is the first with its number if none with it is shorter
+    first-of : {key : Triple → ℕ} {t : Triple} → Starting cal p b s t
+        → ((u : Triple) → Starting cal p b s u → key u ≡ key t → elapsedOf t ≤ elapsedOf u) → First key (starting cal p b s) t
+    first-of {key} {t} h shortest =
+        record { member = has-starting cal p b s t h; none-earlier = λ u m q. go u (only-starting cal p b s u m) q }
+      where
+        go : (u : Triple) → Starting cal p b s u → key u ≡ key t → Earlier u t → ⊥
+        go u g q (starts-earlier a) = omega (arith, g .start, h .start)
+        go u g q (is-shorter e a) = omega (arith, shortest u g q)
+
+    pub window-is : witnessedOf (starting cal p b s) ≡ Within (windowFrom p s shortest longest) (witnessesFrom p s shortest longest)
     window-is =
-        let low = has-starting cal p b s _ shortest-start in
-        let high = has-starting cal p b s _ longest-start in
-        fit-is _ _ (λ t m. held t (only-starting cal p b s t m))
+        witnessed-is _ _ _ (starting-ordered cal p b s) (λ t m. held t (only-starting cal p b s t m))
         (record {
-          earliest = record { witness = _; member = low; value = refl };
-          latest = record { witness = _; member = low; value = refl };
-          shortest = record { witness = _; member = low; value = refl };
-          longest = record { witness = _; member = high; value = refl };
-          fewest = record { witness = _; member = high; value = ap (_-_ p) (sym longest-regular) };
-          most = record { witness = _; member = low; value = ap (_-_ p) (sym shortest-regular) };
-          ect = record { witness = _; member = low; value = refl };
-          lct = record { witness = _; member = high; value = refl };
+          earliest = (first-of shortest-start (λ u g q. from-shortest u g), refl);
+          latest = (first-of shortest-start (λ u g q. from-shortest u g), refl);
+          shortest = (first-of shortest-start (λ u g q. from-shortest u g), refl);
+          longest = (first-of longest-start (λ u g q. omega arith), refl);
+          fewest = (first-of fewest-start enough-least, refl);
+          most = (first-of shortest-start (λ u g q. from-shortest u g), refl);
         })
+        (record { witness = _; member = has-starting cal p b s _ shortest-start; value = refl })
+        (record { witness = _; member = has-starting cal p b s _ longest-start; value = refl })
 
 -- ---- from one start to the next
 

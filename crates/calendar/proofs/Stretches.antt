@@ -1,10 +1,9 @@
--- Laws of stretches of hours from one start on: their last open hour, their first hour, and the tests of their ends. Assumes nothing.
+-- Laws of stretches of hours from one start on: one hour more, one hour less, and the tests of their ends. Assumes nothing.
 use mathlib.Core.Path.{_≡_, refl, sym, ap, _∙_}
 use mathlib.Core.Bool.{Bool, true, false, not}
 use mathlib.Core.List.{List}
-use Prim.Native.Nat.{ℕ, zero, suc, _+_, _-_, _≤_, _<_, min}
+use Prim.Native.Nat.{ℕ, suc, _+_, _-_, _≤_, _<_, min}
 use native.Mathlib.Decide.{decLe}
-use native.Mathlib.Numerals.{add-one}
 use native.Mathlib.Omega.{arith}
 use lib.ListN.{length}
 use lib.Dec.{leb}
@@ -14,95 +13,24 @@ use Rattle.units.specs.Limits.{mostHours, duration}
 use Rattle.units.specs.Sums.{oneIf, countWhere, sumTo}
 use Rattle.units.specs.declared.Bounds.{Bounds}
 use Rattle.units.specs.declared.Duration.{Duration}
-use Rattle.units.proofs.Choices.{true≢false, untrue, same-leb, and-both, and-left, and-right, not-left, not-right, if-true, if-false, if-case, if-all}
+use Rattle.units.proofs.Choices.{untrue, same-leb, and-both, and-left, and-right, not-left, not-right, if-false, if-case}
 use Rattle.calendar.specs.declared.Counts.{Counts}
 use Rattle.calendar.specs.declared.Stretch.{Stretch}
 use Rattle.plan.specs.HourKinds.{isKind, regular, closed, overtime}
-use Rattle.plan.proofs.HourKinds.{closed-rests}
 use Rattle.calendar.specs.Valid.{hoursOf}
 use Rattle.units.specs.inner.First.{firstFrom}
 use Rattle.units.proofs.FirstFrom.{from-hit, from-least, from-most, from-none, from-holds}
 use Rattle.calendar.specs.inner.Stretches.{HasHour, IsStretch, HasRoom, noHours, countsOf, withHour}
-use Rattle.calendar.specs.inner.Stretches.{withoutHour, openLength, stretchOf, mayEnd, mayLast, stopsAt}
+use Rattle.calendar.specs.inner.Stretches.{withoutHour, upToLast, openLength, regularLength, stretchOf, mayEnd, mayLast, stopsAt}
 use Rattle.calendar.specs.inner.Stretches.{lengthened}
+use Rattle.calendar.proofs.Lasts.{last-rests, last-goes, last-first}
 use Rattle.calendar.proofs.Counting.{hours-more, hours-none, hours-le, hours-mono, hours-first}
 use Rattle.calendar.proofs.Counting.{regulars, overtimes, regulars-le, overtimes-le, counts-more}
-
--- ---- the last open hour
-
-module _ (cal : List ℕ) (s : ℕ) where
-  pub open-rests : (e : ℕ) → isKind closed cal (s + e) ≡ true → openLength cal s (e + 1) ≡ openLength cal s e
-  unfolding openLength
-  open-rests e h = rw add-one (if-true _ _ _ h)
-
-  pub open-goes : (e : ℕ) → isKind closed cal (s + e) ≡ false → openLength cal s (e + 1) ≡ e + 1
-  unfolding openLength
-  open-goes e h = rw add-one (if-false _ _ _ h)
-
-  pub open-none : openLength cal s 0 ≡ 0
-  unfolding openLength
-  open-none = refl
-
-  pub open-le : (e : ℕ) → openLength cal s e ≤ e
-  unfolding openLength
-  open-le zero = omega arith
-  open-le (suc e) = if-all (λ (k : ℕ). k ≤ suc e) (isKind closed cal (s + e)) _ _ (λ h. omega (arith, open-le e)) (λ h. omega arith)
-
-  -- the hours after it are closed, so none of them is regular
-  pub open-regular : (e : ℕ) → hoursOf regular cal s (openLength cal s e) ≡ hoursOf regular cal s e
-  unfolding openLength
-  open-regular zero = refl
-  open-regular (suc e) =
-      if-all (λ (k : ℕ). hoursOf regular cal s k ≡ hoursOf regular cal s (suc e)) (isKind closed cal (s + e)) _ _
-      (λ h. open-regular e ∙ sym (rest h)) (λ h. refl)
-    where
-      rest : isKind closed cal (s + e) ≡ true → hoursOf regular cal s (suc e) ≡ hoursOf regular cal s e
-      rest h =
-          let none = ap oneIf (closed-rests cal (s + e) h) in
-          let m : suc e ≡ e + 1 = omega arith in
-          rw m (omega (arith, hours-more regular cal s e, none))
-
-  pub open-last : (e : ℕ) → 1 ≤ openLength cal s e → isKind closed cal (s + openLength cal s e - 1) ≡ false
-  unfolding openLength
-  open-last zero = λ l. absurd (omega arith)
-  open-last (suc e) =
-      if-all (λ (k : ℕ). 1 ≤ k → isKind closed cal (s + k - 1) ≡ false) (isKind closed cal (s + e)) _ _
-      (λ h. open-last e) (λ h l. let q : s + suc e - 1 ≡ s + e = omega arith in rw q h)
-
-  -- no open hour is later
-  pub open-past : (k e : ℕ) → 1 ≤ k → k ≤ e → isKind closed cal (s + k - 1) ≡ false → k ≤ openLength cal s e
-  unfolding openLength
-  open-past k zero l u h = absurd (omega arith)
-  open-past k (suc e) l u h =
-      if-all (λ (m : ℕ). k ≤ m) (isKind closed cal (s + e)) _ _ (λ c. go c (λ v. open-past k e l v h) (decLe k e)) (λ c. u)
-    where
-      go : isKind closed cal (s + e) ≡ true → (k ≤ e → k ≤ openLength cal s e) → Dec (k ≤ e) → k ≤ openLength cal s e
-      go c below (yes v) = below v
-      go c below (no v) = let q : s + k - 1 ≡ s + e = omega arith in true≢false c (rw q at h)
-
-  pub open-itself : (e : ℕ) → 1 ≤ e → isKind closed cal (s + e - 1) ≡ false → openLength cal s e ≡ e
-  open-itself e l h = omega (arith, open-le e, open-past e e l (omega arith) h)
-
--- without the first hour
-pub open-first : (cal : List ℕ) (s e : ℕ) → openLength cal (s + 1) e ≡ openLength cal s (e + 1) - 1
-open-first cal s zero = omega (arith, open-le cal s 1, open-none cal (s + 1))
-open-first cal s (suc e) = rw m (go (open-first cal s e) (isKind closed cal (s + 1 + e)) refl)
-  where
-    m : suc e ≡ e + 1
-    m = omega arith
-
-    same : s + 1 + e ≡ s + (e + 1)
-    same = omega arith
-
-    go : openLength cal (s + 1) e ≡ openLength cal s (e + 1) - 1 → (b : Bool) → isKind closed cal (s + 1 + e) ≡ b
-        → openLength cal (s + 1) (e + 1) ≡ openLength cal s (e + 1 + 1) - 1
-    go below true h = omega (arith, open-rests cal (s + 1) e h, open-rests cal s (e + 1) (rw same at h), below)
-    go below false h = omega (arith, open-goes cal (s + 1) e h, open-goes cal s (e + 1) (rw same at h))
 
 -- ---- one hour more, one hour less
 
 pub no-stretch : (cal : List ℕ) (s : ℕ) → noHours ≡ stretchOf cal s 0
-unfolding openLength hoursOf countWhere sumTo
+unfolding upToLast hoursOf countWhere sumTo
 no-stretch cal s = refl
 
 -- a stretch of n hours, by its own hours
@@ -116,6 +44,9 @@ module _ (cal : List ℕ) (s n : ℕ) (a : Stretch) (e : a ≡ stretchOf cal s n
 module _ {cal : List ℕ} {s : ℕ} {a : Stretch} (st : IsStretch cal s a) where
   pub last-is : a .last .0 ≡ openLength cal s (a .hours .0)
   last-is = ap (λ (x : Stretch). x .last .0) (st .is)
+
+  pub regular-is : a .regular .0 ≡ regularLength cal s (a .hours .0)
+  regular-is = ap (λ (x : Stretch). x .regular .0) (st .is)
 
   pub counts-are : a .counts ≡ countsOf cal s (a .hours .0)
   counts-are = ap (λ (x : Stretch). x .counts) (st .is)
@@ -155,16 +86,17 @@ module _ {cal : List ℕ} {s : ℕ} {a : Stretch} (st : IsStretch cal s a) where
     rest-overtime : a .counts .overtime - oneIf (isKind overtime cal s) ≡ hoursOf overtime cal (s + 1) (a .hours .0 - 1)
     rest-overtime = omega (arith, first-overtime)
 
-    rest-last : a .last .0 - 1 ≡ openLength cal (s + 1) (a .hours .0 - 1)
-    rest-last = ap (λ (x : ℕ). x - 1) (last-is ∙ ap (openLength cal s) first) ∙ sym (open-first cal s (a .hours .0 - 1))
+    rest-last : {d : Duration} (test : ℕ → Bool) → d .0 ≡ upToLast test s (a .hours .0) → d .0 - 1 ≡ upToLast test (s + 1) (a .hours .0 - 1)
+    rest-last test is-d = ap (λ (x : ℕ). x - 1) (is-d ∙ ap (upToLast test s) first) ∙ sym (last-first test s (a .hours .0 - 1))
 
-    pub stretch-rest : {hours last : Duration} {r : Counts} → hours ≡ duration (a .hours .0 - 1) → last ≡ duration (a .last .0 - 1)
-        → r ≡ withoutHour (a .counts) cal s
-        → _≡_ {A = Stretch} (record { hours = hours; last = last; counts = r }) (stretchOf cal (s + 1) (a .hours .0 - 1))
-    stretch-rest is-hours is-last is-r =
+    pub stretch-rest : {hours last regular : Duration} {r : Counts} → hours ≡ duration (a .hours .0 - 1) → last ≡ duration (a .last .0 - 1)
+        → regular ≡ duration (a .regular .0 - 1) → r ≡ withoutHour (a .counts) cal s
+        → _≡_ {A = Stretch} (record { hours = hours; last = last; regular = regular; counts = r }) (stretchOf cal (s + 1) (a .hours .0 - 1))
+    stretch-rest is-hours is-last is-regular is-r =
         λ j. record {
           hours = is-hours j;
-          last = (is-last ∙ ap duration rest-last) j;
+          last = (is-last ∙ ap duration (rest-last _ last-is)) j;
+          regular = (is-regular ∙ ap duration (rest-last _ regular-is)) j;
           counts = (is-r ∙ (λ i. record { regular = rest-regular i; overtime = rest-overtime i })) j;
         }
 
@@ -176,19 +108,27 @@ module _ {cal : List ℕ} {s : ℕ} {a : Stretch} (h : HasRoom cal s a) where
   pub counts-below : (a .counts .regular < mostHours) × (a .counts .overtime < mostHours)
   counts-below = omega (arith, hours-small, regulars-le _ _ _ _ (counts-are (h .stretch)), overtimes-le _ _ _ _ (counts-are (h .stretch)))
 
-  next-last : {last : Duration} → last ≡ (if isKind closed cal (s + a .hours .0) then a .last else duration (a .hours .0 + 1))
-      → last ≡ duration (openLength cal s (a .hours .0 + 1))
-  next-last {last} q =
-      if-case (isKind closed cal (s + a .hours .0)) (a .last) (duration (a .hours .0 + 1)) last (sym q)
-      (λ c e. sym e ∙ ap duration (last-is (h .stretch) ∙ sym (open-rests cal s (a .hours .0) c)))
-      (λ c e. sym e ∙ ap duration (sym (open-goes cal s (a .hours .0) c)))
+  next-last : {d last : Duration} (test : ℕ → Bool) → d .0 ≡ upToLast test s (a .hours .0)
+      → last ≡ (if test (s + a .hours .0) then duration (a .hours .0 + 1) else d) → last ≡ duration (upToLast test s (a .hours .0 + 1))
+  next-last {d} {last} test is-d q =
+      if-case (test (s + a .hours .0)) (duration (a .hours .0 + 1)) d last (sym q)
+      (λ c e. sym e ∙ ap duration (sym (last-goes test s (a .hours .0) c)))
+      (λ c e. sym e ∙ ap duration (is-d ∙ sym (last-rests test s (a .hours .0) c)))
 
-  pub stretch-next : {last : Duration} {r : Counts}
-      → last ≡ (if isKind closed cal (s + a .hours .0) then a .last else duration (a .hours .0 + 1))
+  pub stretch-next : {rests works : Bool} {last regulars : Duration} {r : Counts}
+      → rests ≡ isKind closed cal (s + a .hours .0) → works ≡ isKind regular cal (s + a .hours .0)
+      → last ≡ (if not rests then duration (a .hours .0 + 1) else a .last)
+      → regulars ≡ (if works then duration (a .hours .0 + 1) else a .regular)
       → r ≡ withHour (a .counts) cal (s + a .hours .0)
-      → _≡_ {A = Stretch} (record { hours = duration (a .hours .0 + 1); last = last; counts = r }) (stretchOf cal s (a .hours .0 + 1))
-  stretch-next is-last is-r =
-      λ j. record { hours = duration (a .hours .0 + 1); last = next-last is-last j; counts = (is-r ∙ counts-more _ _ _ _ (counts-are (h .stretch))) j }
+      → _≡_ {A = Stretch} (record { hours = duration (a .hours .0 + 1); last = last; regular = regulars; counts = r })
+      (stretchOf cal s (a .hours .0 + 1))
+  stretch-next is-closed is-worked is-last is-regular is-r =
+      λ j. record {
+        hours = duration (a .hours .0 + 1);
+        last = next-last (λ t. not (isKind closed cal t)) (last-is (h .stretch)) (rw is-closed at is-last) j;
+        regular = next-last (λ t. isKind regular cal t) (regular-is (h .stretch)) (rw is-worked at is-regular) j;
+        counts = (is-r ∙ counts-more _ _ _ _ (counts-are (h .stretch))) j;
+      }
 
 -- ---- the first length at which a test holds
 
@@ -344,7 +284,7 @@ module _ (cal : List ℕ) (p : ℕ) (b : Bounds) (s e : ℕ) where
           record {
             shortest = omega (arith, m .shortest);
             works = omega (arith, m .works, hours-first regular cal s e, hours-first overtime cal s e);
-            goes = omega (arith, m .shortest, m .goes, open-first cal s e);
+            goes = omega (arith, m .shortest, m .goes, last-first (λ t. not (isKind closed cal t)) s e);
             most = omega (arith, m .most, hours-first regular cal s e);
           }
 

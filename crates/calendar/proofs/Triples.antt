@@ -72,7 +72,7 @@ module _ (t : Triple) (f : ℕ → List Triple) where
   unfolding over
   into-over lower upper k l u h = into-each lower (upper + 1 - lower) k l (omega arith) h
 
-  from-each : (a n : ℕ) → List·Memᴰ t (each a n f) → (k : ℕ) × (a ≤ k) × (k < a + n) × List·Memᴰ t (f k)
+  pub from-each : (a n : ℕ) → List·Memᴰ t (each a n f) → (k : ℕ) × (a ≤ k) × (k < a + n) × List·Memᴰ t (f k)
   unfolding each
   from-each a zero h = absurd (List·Memᴰ·not-nil h)
   from-each a (suc n) h = go (from-each (a + 1) n) (List·Memᴰ·append-cases (f a) h)
@@ -87,7 +87,7 @@ module _ (t : Triple) (f : ℕ → List Triple) where
   unfolding over
   from-over lower upper h = let (k, l, u, m) = from-each lower (upper + 1 - lower) h in (k, l, omega arith, m)
 
-kept : (c : Bool) (t u : Triple) → List·Memᴰ t (keepIf c u) → (c ≡ true) × (t ≡ u)
+pub kept : (c : Bool) (t u : Triple) → List·Memᴰ t (keepIf c u) → (c ≡ true) × (t ≡ u)
 kept true t u h = (refl, List·Memᴰ·eq-of-singleton h)
 kept false t u h = absurd (List·Memᴰ·not-nil h)
 

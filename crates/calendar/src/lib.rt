@@ -21,7 +21,7 @@ ghost use Rattle.plan.specs.HourKinds.{isKind};
 ghost use Rattle.plan.specs.Lent.{old};
 ghost use Rattle.calendar.specs.Valid.{overtimeEnds};
 ghost use Rattle.calendar.specs.Triples.{validTriple, starting};
-ghost use Rattle.calendar.specs.Rule.{ruleOf};
+ghost use Rattle.calendar.specs.Rule.{witnessedRule, withoutWitnesses};
 ghost use Rattle.calendar.specs.Entry.{calendarRule, ruleAnswer};
 ghost use Rattle.calendar.specs.inner.Stretches.{Inside, HasCounts, RuleReady, Reaches, countsOf, withHour};
 ghost use Rattle.calendar.specs.inner.Windows.{withTriples};
@@ -45,16 +45,32 @@ pub struct Window {
     pub lct: Hour,
 }
 
-// What the calendar rule answers for input that is tested: no valid triple, or the bounds of the valid ones.
+// Whether a task has a valid triple, and the bounds of the valid ones.
 pub enum Fit {
     Never,
     Within(Window),
 }
 
+// For each bound a valid triple that attains it: of several the earliest start, then the shortest elapsed time.
+pub struct Witnesses {
+    pub earliest: Triple,
+    pub latest: Triple,
+    pub shortest: Triple,
+    pub longest: Triple,
+    pub fewest: Triple,
+    pub most: Triple,
+}
+
+// What the calendar rule answers for input that is tested: no valid triple, or the bounds of the valid ones and their witnesses.
+pub enum Witnessed {
+    Never,
+    Within(Window, Witnesses),
+}
+
 // What the calendar rule answers.
 pub enum RuleAnswer {
     Never,
-    Within(Window),
+    Within(Window, Witnesses),
     Refused(Refusal),
 }
 
@@ -64,10 +80,11 @@ struct Counts {
     overtime: u16,
 }
 
-// So many hours from one start on, how many up to the last open one, and the counts.
+// So many hours from one start on, how many up to the last open one and up to the last regular one, and the counts.
 struct Stretch {
     hours: Duration,
     last: Duration,
+    regular: Duration,
     counts: Counts,
 }
 
@@ -171,33 +188,35 @@ fn with_start(
     s: Hour,
     shortest: Stretch,
     longest: Stretch,
-    fit: Fit,
-) -> Fit
+    found: Witnessed,
+) -> Witnessed
     requires { ⌜ Reaches (now calendar) («work_time» .0) b (s .0) shortest longest ⌝ }
-    ensures { λ r. ⌜ r ≡ withTriples fit (starting (old calendar) («work_time» .0) b (s .0)) ⌝ }
+    ensures { λ r. ⌜ r ≡ withTriples found (starting (old calendar) («work_time» .0) b (s .0)) ⌝ }
 {
     if is_kind(calendar, s.0 as usize, CLOSED) {
-        return fit;
+        return found;
     }
     if longest.last.0 < shortest.hours.0 {
-        return fit;
+        return found;
     }
     if !reach::may_end(work_time, b, shortest) {
-        return fit;
+        return found;
     }
-    widen::with_window(fit, widen::window_from(work_time, s, shortest, longest))
+    let window = widen::window_from(work_time, s, shortest, longest);
+    let witnesses = widen::witnesses_from(work_time, s, shortest, longest);
+    widen::with_window(found, window, witnesses)
 }
 
 // The calendar rule for input that is tested. A later start ends no earlier, so both stretches only go forward.
-pub fn rule(calendar: &[u8], work_time: Duration, b: Bounds) -> Fit
+pub fn rule(calendar: &[u8], work_time: Duration, b: Bounds) -> Witnessed
     requires { ⌜ RuleReady (now calendar) b ⌝ }
-    ensures { λ r. ⌜ r ≡ ruleOf (old calendar) («work_time» .0) b ⌝ }
+    ensures { λ r. ⌜ r ≡ witnessedRule (old calendar) («work_time» .0) b ⌝ }
 {
     let last = b.latest.0;
     let mut s = b.earliest.0;
     let mut shortest = reach::no_hours();
     let mut longest = reach::no_hours();
-    let mut best = Fit::Never;
+    let mut best = Witnessed::Never;
     while s <= last {
         let start = Hour(s);
         shortest = reach::lengthen(calendar, work_time, b, start, shortest, true);
@@ -208,6 +227,16 @@ pub fn rule(calendar: &[u8], work_time: Duration, b: Bounds) -> Fit
         s += 1;
     }
     best
+}
+
+// The answer without its witnesses.
+pub fn without_witnesses(found: Witnessed) -> Fit
+    ensures { λ r. ⌜ r ≡ withoutWitnesses found ⌝ }
+{
+    let Witnessed::Within(w, by) = found else {
+        return Fit::Never;
+    };
+    Fit::Within(w)
 }
 
 // The calendar rule. Its input is tested as a plan of one calendar and one task, with H the calendar's length.
@@ -241,9 +270,9 @@ pub fn calendar_rule(calendar: &[u8], work_time: Duration, b: Bounds) -> RuleAns
     if let Tested::Refused(r) = tested {
         return RuleAnswer::Refused(r);
     }
-    let fit = rule(calendar, work_time, b);
-    let Fit::Within(w) = fit else {
+    let found = rule(calendar, work_time, b);
+    let Witnessed::Within(w, by) = found else {
         return RuleAnswer::Never;
     };
-    RuleAnswer::Within(w)
+    RuleAnswer::Within(w, by)
 }

@@ -12,10 +12,8 @@ use units::Duration;
 use units::Hour;
 ghost use mathlib.Core.Path.{_≡_};
 ghost use Prim.Native.Nat.{_+_, _-_, _≤_, _<_};
-ghost use lib.ListN.{length};
 ghost use Rattle.units.specs.Choice.{if_then_else_};
 ghost use Rattle.units.specs.Limits.{mostHours, duration};
-ghost use Rattle.plan.specs.HourKinds.{isKind, closed};
 ghost use Rattle.plan.specs.Lent.{old};
 ghost use Rattle.calendar.specs.inner.Stretches.{HasHour, IsStretch, HasRoom, withoutHour, noHours, stretchOf, mayEnd, mayLast, stopsAt, lengthened};
 
@@ -44,6 +42,7 @@ pub fn no_hours() -> Stretch
     Stretch {
         hours: Duration(0),
         last: Duration(0),
+        regular: Duration(0),
         counts: Counts {
             regular: 0,
             overtime: 0,
@@ -51,16 +50,12 @@ pub fn no_hours() -> Stretch
     }
 }
 
-// The hours up to the last open one, with one hour more.
-fn last_open(a: Stretch, calendar: &[u8], t: usize) -> Duration
-    requires { ⌜ (a .hours .0 < mostHours) × (t < length (now calendar)) ⌝ }
-    ensures { λ r. ⌜ r ≡ (if isKind closed (old calendar) t then a .last else duration (a .hours .0 + 1)) ⌝ }
+// The hours up to the last one at which a test holds, with one hour more after so many.
+fn up_to_last(last: Duration, hours: Duration, holds: bool) -> Duration
+    requires { ⌜ hours .0 < mostHours ⌝ }
+    ensures { λ r. ⌜ r ≡ (if holds then duration (hours .0 + 1) else last) ⌝ }
 {
-    if is_kind(calendar, t, CLOSED) {
-        a.last
-    } else {
-        Duration(a.hours.0 + 1)
-    }
+    if holds { Duration(hours.0 + 1) } else { last }
 }
 
 // The stretch with one hour more at its end.
@@ -69,9 +64,12 @@ fn longer(calendar: &[u8], s: Hour, a: Stretch) -> Stretch
     ensures { λ r. ⌜ r ≡ stretchOf (old calendar) (s .0) (a .hours .0 + 1) ⌝ }
 {
     let next = (s.0 as usize) + (a.hours.0 as usize);
+    let is_open = !is_kind(calendar, next, CLOSED);
+    let is_regular = is_kind(calendar, next, REGULAR);
     Stretch {
         hours: Duration(a.hours.0 + 1),
-        last: last_open(a, calendar, next),
+        last: up_to_last(a.last, a.hours, is_open),
+        regular: up_to_last(a.regular, a.hours, is_regular),
         counts: with_hour(a.counts, calendar, next),
     }
 }
@@ -87,6 +85,7 @@ pub fn without_first(calendar: &[u8], s: Hour, a: Stretch) -> Stretch
     Stretch {
         hours: one_less(a.hours),
         last: one_less(a.last),
+        regular: one_less(a.regular),
         counts: without_hour(a.counts, calendar, s.0 as usize),
     }
 }

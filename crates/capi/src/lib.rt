@@ -20,7 +20,7 @@ pub extern "C" fn shimlantern_calendar_rule(
     calendar: &[u8],
     work_time: u16,
     bounds: &[u16; 6],
-    answer: &mut [u64; 11],
+    answer: &mut [u64; 29],
 )
     ensures { λ _. ⌜ left answer ≡ ruleNumbers (calendarRule (old calendar) «work_time» (boundsAt (old bounds) 0)) ⌝ }
 {

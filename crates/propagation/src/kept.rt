@@ -11,7 +11,7 @@ ghost use Rattle.plan.specs.Lent.{old, left, shiftsOf, oldShifts};
 ghost use Rattle.steps.specs.Load.{fitAt};
 ghost use Rattle.propagation.specs.inner.Fitting.{Fitting};
 
-// What the calendar rule answers for task i.
+// What the calendar rule answers for task i. No step reads a witness, so none is kept.
 pub fn fit_of(
     hours: Duration,
     calendars: &[u8],
@@ -26,7 +26,7 @@ pub fn fit_of(
     let work_time = Duration(work_times[i]);
     let b = plan::bounds_at(boxes, i);
     let calendar = plan::calendar_at(calendars, hours, task_calendars[i]);
-    calendar::rule(calendar, work_time, b)
+    calendar::without_witnesses(calendar::rule(calendar, work_time, b))
 }
 
 // The answers for all tasks.

@@ -14,12 +14,12 @@ use Rattle.plan.specs.Faults.{capacityFault, countsFault, heightFault, oneTaskF
 use Rattle.plan.specs.Faults.{inputFault}
 use Rattle.calendar.specs.Valid.{hoursOf, overtimeEnds, valid}
 use Rattle.calendar.specs.Triples.{each, over, lasting, starting, validTriples}
-use Rattle.calendar.specs.Rule.{spread, fitOf, ruleOf}
+use Rattle.calendar.specs.Rule.{spread, fitOf, ruleOf, firsts, witnessedOf, witnessedRule}
 use Rattle.calendar.specs.Entry.{oneTask, calendarRule}
 use Rattle.steps.specs.Load.{fitAt, mustRun, load, othersLoad, roomExcess, excess}
 use Rattle.steps.specs.Steps.{kindOf, isStep, onJudgement, onFit, sameBounds, judgeC, judgeO, judgeL, judgeU, judgeKind, judge}
 use Rattle.steps.specs.Filter.{onAdmitted, ifAdmitted, firstOfKind, firstBy, filterOrder, nextBy, after, runBy}
-use Rattle.units.specs.Extremes.{least, greatest}
+use Rattle.units.specs.Extremes.{least, greatest, betterOf, firstBest}
 use Rattle.plan.specs.HourKinds.{isSymbol, isKind}
 use Rattle.steps.specs.Entry.{stepAt, stepsFrom, oneForEachStep, entryFault, endingAnswer, logged, filterPlan, leftBy, filterRecords}
 use Rattle.steps.specs.Weeks.{weeks, left, outcomeOf, hoursHeld}
@@ -30,7 +30,7 @@ unfolding _and_ if_then_else_ someIf onOption _orElse_ someOf firstOf sumTo sumW
     isCapacity isCalendarCount isCalendarNumber isRoomCount isRoomNumber isTaskCount isOvertime isRange isBox roomCount taskCount calendarCount
     firstSymbol calendarAt calendarOf workTimeOf capacityOf roomPart heightsOf heightOf heightsWhere boundsAt withBounds unless answerUnless
     oneForEachTask isCalendars isSymbol symbolFault calendarsFault capacityFault countsFault heightFault oneTaskFault taskFault tasksFault planFault
-    inputFault isKind hoursOf overtimeEnds valid each over lasting starting validTriples least greatest spread fitOf ruleOf oneTask calendarRule fitAt
+    inputFault isKind hoursOf overtimeEnds valid each over lasting starting validTriples least greatest betterOf firstBest spread fitOf ruleOf firsts witnessedOf witnessedRule oneTask calendarRule fitAt
     mustRun load othersLoad roomExcess excess kindOf isStep onJudgement onFit sameBounds withEarliest withLatest judgeC judgeO judgeL judgeU judgeKind
     judge onAdmitted ifAdmitted firstOfKind firstBy filterOrder nextBy after runBy written stepAt stepsFrom oneForEachStep entryFault endingAnswer
     logged filterPlan leftBy filterRecords weeks left outcomeOf hoursHeld

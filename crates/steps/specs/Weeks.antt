@@ -1,5 +1,5 @@
--- The starred weeks of 01's "Worked weeks": a list of weeks and their outcomes, of the calendar rule and the filter as they are called. That the
--- definitions give each outcome is proved.
+-- The starred weeks of 01's "Worked weeks", those of calendar A with their witnesses (02, W-204): a list of weeks and their outcomes, of the
+-- calendar rule and the filter as they are called. That the definitions give each outcome is proved.
 use mathlib.Core.Bool.{Bool, true, false}
 use mathlib.Core.List.{List, [], _∷_, _++_, map}
 use Prim.Native.Nat.{ℕ, zero, suc}
@@ -11,7 +11,10 @@ use Rattle.plan.specs.Plan.{Plan, plan}
 use Rattle.plan.specs.Refusals.{fault, Answer, answered}
 use Rattle.calendar.specs.declared.Triple.{Triple}
 use Rattle.calendar.specs.declared.Fit.{Fit}
-use Rattle.calendar.specs.declared.Fit.the-variants.{Never, Within}
+use Rattle.calendar.specs.declared.Window.{Window}
+use Rattle.calendar.specs.declared.Witnesses.{Witnesses}
+use Rattle.calendar.specs.declared.Witnessed.{Witnessed}
+use Rattle.calendar.specs.declared.Witnessed.the-variants.{Never, Within}
 use Rattle.calendar.specs.Triples.{triple, endOf, validTriple, validTriples}
 use Rattle.calendar.specs.Rule.{ruleOf}
 use Rattle.calendar.specs.Entry.{calendarRule}
@@ -32,8 +35,12 @@ bounds s₁ s₂ e₁ e₂ o₁ o₂ =
       most = duration o₂;
     }
 
-abbrev pub within : Bounds → ℕ → ℕ → Fit
-within b c₁ c₂ = Within (record { bounds = b; ect = hour c₁; lct = hour c₂ })
+-- the witnesses of the lower and the upper S, of the lower and the upper E, and of the lower and the upper O
+abbrev pub by : Triple → Triple → Triple → Triple → Triple → Triple → Witnesses
+by s₁ s₂ e₁ e₂ o₁ o₂ = record { earliest = s₁; latest = s₂; shortest = e₁; longest = e₂; fewest = o₁; most = o₂ }
+
+abbrev pub window : Bounds → ℕ → ℕ → Window
+window b c₁ c₂ = record { bounds = b; ect = hour c₁; lct = hour c₂ }
 
 -- What a week asks: the calendar rule's answer; the hours of the compulsory part; whether a triple is valid; the valid triples in a box, with
 -- their ends; the filter, lent a log with room for so many steps.
@@ -43,7 +50,7 @@ pub data Week : Type 0 where
   filter : Plan → List ℕ → ℕ → Week
 
 pub data Outcome : Type 0 where
-  fits : Answer Fit → Outcome
+  fits : Answer Witnessed → Outcome
   hours : List ℕ → Outcome
   triples : List Triple → List ℕ → Outcome
   holds : Bool → Outcome
@@ -90,15 +97,21 @@ tooHigh = plan 2 (1 ∷ []) (regular ∷ regular ∷ []) (0 ∷ []) (1 ∷ []) (
 unfoldable pub weeks : List Starred
 weeks =
     -- A, S 0..8, E 1..9, O 0..3: S 1..5, E 3..7, O 1..3, ect 4, lct 8, no compulsory part
-    starred (rule calendarA 3 (bounds 0 8 1 9 0 3)) (fits (answered (within (bounds 1 5 3 7 1 3) 4 8)))
+    starred (rule calendarA 3 (bounds 0 8 1 9 0 3))
+    (fits (answered (Within (window (bounds 1 5 3 7 1 3) 4 8)
+    (by (triple 1 3 3) (triple 5 3 1) (triple 1 3 3) (triple 1 7 1) (triple 1 7 1) (triple 1 3 3)))))
     ∷ starred (compulsoryPart calendarA 3 (bounds 0 8 1 9 0 3)) (hours [])
     -- the same with O 0..1: S 1..5, E 3..7, O 1..1, compulsory part [5, 8)
-    ∷ starred (rule calendarA 3 (bounds 0 8 1 9 0 1)) (fits (answered (within (bounds 1 5 3 7 1 1) 8 8)))
+    ∷ starred (rule calendarA 3 (bounds 0 8 1 9 0 1))
+    (fits (answered (Within (window (bounds 1 5 3 7 1 1) 8 8)
+    (by (triple 1 7 1) (triple 5 3 1) (triple 5 3 1) (triple 1 7 1) (triple 1 7 1) (triple 1 7 1)))))
     ∷ starred (compulsoryPart calendarA 3 (bounds 0 8 1 9 0 1)) (hours (5 ∷ 6 ∷ 7 ∷ []))
     -- O 0..0: no valid triple
     ∷ starred (rule calendarA 3 (bounds 0 8 1 9 0 0)) (fits (answered Never))
     -- O 2..2: S 1..3, E 4..6, compulsory part [3, 7)
-    ∷ starred (rule calendarA 3 (bounds 0 8 1 9 2 2)) (fits (answered (within (bounds 1 3 4 6 2 2) 7 7)))
+    ∷ starred (rule calendarA 3 (bounds 0 8 1 9 2 2))
+    (fits (answered (Within (window (bounds 1 3 4 6 2 2) 7 7)
+    (by (triple 1 6 2) (triple 3 4 2) (triple 3 4 2) (triple 1 6 2) (triple 1 6 2) (triple 1 6 2)))))
     ∷ starred (compulsoryPart calendarA 3 (bounds 0 8 1 9 2 2)) (hours (3 ∷ 4 ∷ 5 ∷ 6 ∷ []))
     -- A: (1, 7, 1) valid; (6, 2, 1) not, it holds no overtime hour
     ∷ starred (isValid calendarA 3 (triple 1 7 1)) (holds true)

@@ -3,6 +3,7 @@ pub mod Searching
 pub mod FirstFrom
 pub mod Summing
 pub mod Extremes
+pub mod FirstBest
 pub mod Multiples
 pub mod Ranges
 pub mod Lists

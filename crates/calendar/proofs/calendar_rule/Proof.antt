@@ -41,7 +41,7 @@ returns-3 : tie.Need-returns-3
 returns-3 c = ap answered (sym (c .enum-told3 .given .1)) ∙ answers (c .before .before)
 
 returns-4 : tie.Need-returns-4
-returns-4 c = ap answered (sym (c .before .fit .given .1)) ∙ answers (c .before .before .before)
+returns-4 c = ap answered (sym (c .before .found .given .1)) ∙ answers (c .before .before .before)
 
 pub calendar-rule-spec : {M : Type 1} → statement M
 calendar-rule-spec =

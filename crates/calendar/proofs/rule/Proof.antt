@@ -3,7 +3,7 @@ use Prim.Native.Nat.{_+_, _-_}
 use native.Mathlib.Omega.{arith}
 use borrow.Author.Needs.{needs}
 use Rattle.calendar.specs.Triples.{over, starting, validTriples}
-use Rattle.calendar.specs.Rule.{ruleOf}
+use Rattle.calendar.specs.Rule.{witnessedRule}
 use Rattle.calendar.specs.inner.Stretches.{Reaches}
 use Rattle.calendar.specs.inner.Windows.{withTriples}
 use Rattle.calendar.proofs.Windows.{unmoved, over-none, with-step}
@@ -15,7 +15,7 @@ use Rattle.calendar.proofs.rule.Tie as tie
 abbrev Inv-loop : tie.InvT-loop
 Inv-loop calendar work-time b last s₀ shortest₀ longest₀ best₀ s shortest longest best =
     Carried calendar (work-time .0) b s shortest longest
-    × (withTriples best (over s (b .latest .0) (starting calendar (work-time .0) b)) ≡ ruleOf calendar (work-time .0) b)
+    × (withTriples best (over s (b .latest .0) (starting calendar (work-time .0) b)) ≡ witnessedRule calendar (work-time .0) b)
 
 abbrev μ-loop : tie.MeasureT-loop
 μ-loop calendar work-time b last s₀ shortest₀ longest₀ best₀ s shortest longest best = last + 1 - s
@@ -33,7 +33,7 @@ reach c =
     (c .before .lengthen .ensures) (c .lengthen2 .ensures)
 
 loop-holds : tie.Need-loop-holds Inv-loop μ-loop
-unfolding withTriples ruleOf validTriples
+unfolding withTriples witnessedRule validTriples
 loop-holds c = (carried-first _ _ (c .before .no-hours .ensures) (c .no-hours2 .ensures), refl)
 
 lengthen-requires : tie.Need-lengthen-requires Inv-loop μ-loop

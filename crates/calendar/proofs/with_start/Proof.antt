@@ -1,9 +1,9 @@
-use mathlib.Core.Path.{_≡_, sym, ap, _∙_}
+use mathlib.Core.Path.{_≡_, sym, _∙_}
 use mathlib.Core.Bool.{true, false}
 use borrow.Author.Tests.{not-true, not-false}
 use Rattle.plan.specs.HourKinds.{isKind, closed}
 use Rattle.calendar.specs.inner.Stretches.{mayEnd}
-use Rattle.calendar.specs.inner.Windows.{withWindow}
+use Rattle.calendar.specs.inner.Windows.{WindowReady}
 use Rattle.calendar.proofs.Windows.{unmoved, with-window-of}
 use Rattle.calendar.proofs.Stretches.{counts-small}
 use Rattle.calendar.proofs.Starts.{none-closed, none-between, none-ends, window-ready, window-is}
@@ -35,15 +35,15 @@ returns-3 c =
     let known = entry (c .before .before .before .before .before) .pre in
     unmoved _ (none-ends known (sym (c .before .may-end .ensures) ∙ not-true _ (c .if3 .taken)))
 
-window-from-requires : tie.Need-window-from-requires
-window-from-requires c κs = window-ready (entry (opened c) .pre) (open-start (opened c)) (ends c) (c .before .before .if2 .left)
+ready : (c : tie.Else3) → let a = entry (opened c) .args in WindowReady (a .work-time .0) (a .s .0) (a .shortest) (a .longest)
+ready c = window-ready (entry (opened c) .pre) (open-start (opened c)) (ends c) (c .before .before .if2 .left)
 
 returns-4 : tie.Need-returns-4
 returns-4 c =
-    let place = c .before .before in
+    let place = c .before .before .before in
     let start = entry (opened place) in
     let window = window-is (start .pre) (open-start (opened place)) (ends place) (place .before .before .if2 .left) in
-    c .with-window .ensures ∙ ap (withWindow (start .args .fit)) (c .before .window-from .ensures) ∙ sym (with-window-of _ _ _ window)
+    rw (c .with-window .ensures, c .before .before .window-from .ensures, c .before .witnesses-from .ensures) (sym (with-window-of _ _ _ _ window))
 
 pub with-start-spec : {M : Type 1} → statement M
 with-start-spec =
@@ -55,6 +55,7 @@ with-start-spec =
     returns-2
     (λ c κs. counts-small (entry (c .before .before .before) .pre .is-shortest))
     returns-3
-    window-from-requires
+    (λ c κs. ready c)
+    (λ c κs. ready (c .before))
     (λ c κs. search needs)
     returns-4)

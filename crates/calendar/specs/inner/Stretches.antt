@@ -49,17 +49,30 @@ pub record HasCounts (cal : List ℕ) (t : Triple) (n : Counts) : Type 0 where
 
 -- ---- stretches
 
--- of the e hours from s on, those up to the last open one
-unfoldable pub openLength : List ℕ → ℕ → ℕ → ℕ
-openLength cal s zero = 0
-openLength cal s (suc e) = if isKind closed cal (s + e) then openLength cal s e else suc e
+-- of the e hours from s on, those up to the last one at which the test holds
+unfoldable pub upToLast : (ℕ → Bool) → ℕ → ℕ → ℕ
+upToLast test s zero = 0
+upToLast test s (suc e) = if test (s + e) then suc e else upToLast test s e
+
+-- those up to the last open hour, and up to the last regular one
+abbrev pub openLength : List ℕ → ℕ → ℕ → ℕ
+openLength cal s e = upToLast (λ t. not (isKind closed cal t)) s e
+
+abbrev pub regularLength : List ℕ → ℕ → ℕ → ℕ
+regularLength cal s e = upToLast (λ t. isKind regular cal t) s e
 
 -- the stretch of e hours from s on; one of no hours
 abbrev pub stretchOf : List ℕ → ℕ → ℕ → Stretch
-stretchOf cal s e = record { hours = duration e; last = duration (openLength cal s e); counts = countsOf cal s e }
+stretchOf cal s e =
+    record {
+      hours = duration e;
+      last = duration (openLength cal s e);
+      regular = duration (regularLength cal s e);
+      counts = countsOf cal s e;
+    }
 
 abbrev pub noHours : Stretch
-noHours = record { hours = duration 0; last = duration 0; counts = record { regular = 0; overtime = 0 } }
+noHours = record { hours = duration 0; last = duration 0; regular = duration 0; counts = record { regular = 0; overtime = 0 } }
 
 -- a stretch from s on
 pub record IsStretch (cal : List ℕ) (s : ℕ) (a : Stretch) : Type 0 where

@@ -1,13 +1,16 @@
--- Windows: of the valid triples from one start, and of those from several.
+-- Windows and their witnesses: of the valid triples from one start, and of those from several.
 use mathlib.Core.List.{List}
 use Prim.Native.Nat.{ℕ, _+_, _-_, _≤_, min, max}
+use Rattle.units.specs.Extremes.{less, more, betterOf}
 use Rattle.units.specs.Limits.{mostHours, hour, duration}
 use Rattle.calendar.specs.declared.Stretch.{Stretch}
 use Rattle.calendar.specs.declared.Triple.{Triple}
 use Rattle.calendar.specs.declared.Window.{Window}
-use Rattle.calendar.specs.declared.Fit.{Fit}
-use Rattle.calendar.specs.declared.Fit.the-variants.{Never, Within}
-use Rattle.calendar.specs.Rule.{fitOf, spread}
+use Rattle.calendar.specs.declared.Witnesses.{Witnesses}
+use Rattle.calendar.specs.declared.Witnessed.{Witnessed}
+use Rattle.calendar.specs.declared.Witnessed.the-variants.{Never, Within}
+use Rattle.calendar.specs.Triples.{triple, startOf, elapsedOf, overtimeOf}
+use Rattle.calendar.specs.Rule.{spread, firsts, witnessedOf}
 
 -- a task with the work time p, which starts at s, ends in time with the shortest stretch and with the last open hour of the longest, and neither
 -- has more regular hours than p
@@ -34,7 +37,30 @@ windowFrom p s shortest longest =
       lct = hour (s + longest .last .0);
     }
 
--- the window of two windows' triples, and an answer with one window's triples more
+-- Its witnesses: the shortest triple, with the most overtime; the longest, with the least; and the shortest with the least, which lasts to the
+-- last regular hour, or as the shortest if that is longer.
+abbrev pub shortestFrom : ℕ → ℕ → Stretch → Triple
+shortestFrom p s shortest = triple s (shortest .hours .0) (p - shortest .counts .regular)
+
+abbrev pub longestFrom : ℕ → ℕ → Stretch → Triple
+longestFrom p s longest = triple s (longest .last .0) (p - longest .counts .regular)
+
+abbrev pub fewestFrom : ℕ → ℕ → Stretch → Stretch → Triple
+fewestFrom p s shortest longest = triple s (max (shortest .hours .0) (longest .regular .0)) (p - longest .counts .regular)
+
+abbrev pub witnessesFrom : ℕ → ℕ → Stretch → Stretch → Witnesses
+witnessesFrom p s shortest longest =
+    record {
+      earliest = shortestFrom p s shortest;
+      latest = shortestFrom p s shortest;
+      shortest = shortestFrom p s shortest;
+      longest = longestFrom p s longest;
+      fewest = fewestFrom p s shortest longest;
+      most = shortestFrom p s shortest;
+    }
+
+-- the window of two windows' triples; their witnesses, where the second's triples are all after the first's; an answer with one window's triples
+-- more
 abbrev pub wider : Window → Window → Window
 wider w v =
     record {
@@ -51,11 +77,22 @@ wider w v =
       lct = hour (max (w .lct .0) (v .lct .0));
     }
 
-abbrev pub withWindow : Fit → Window → Fit
-withWindow Never v = Within v
-withWindow (Within w) v = Within (wider w v)
+abbrev pub firstOfBoth : Witnesses → Witnesses → Witnesses
+firstOfBoth a b =
+    record {
+      earliest = betterOf less startOf (a .earliest) (b .earliest);
+      latest = betterOf more startOf (a .latest) (b .latest);
+      shortest = betterOf less elapsedOf (a .shortest) (b .shortest);
+      longest = betterOf more elapsedOf (a .longest) (b .longest);
+      fewest = betterOf less overtimeOf (a .fewest) (b .fewest);
+      most = betterOf more overtimeOf (a .most) (b .most);
+    }
+
+abbrev pub withWindow : Witnessed → Window → Witnesses → Witnessed
+withWindow Never v later = Within v later
+withWindow (Within w by) v later = Within (wider w v) (firstOfBoth by later)
 
 -- an answer with further triples
-unfoldable pub withTriples : Fit → List Triple → Fit
-withTriples Never ts = fitOf ts
-withTriples (Within w) ts = Within (spread w ts)
+unfoldable pub withTriples : Witnessed → List Triple → Witnessed
+withTriples Never ts = witnessedOf ts
+withTriples (Within w by) ts = Within (spread w ts) (firsts by ts)

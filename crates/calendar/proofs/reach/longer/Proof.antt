@@ -3,13 +3,23 @@ use borrow.Author.Needs.{needs}
 use Rattle.calendar.proofs.reach.longer.Statement.{statement}
 use Rattle.calendar.proofs.reach.longer.Tie as tie
 
+-- the place once the next hour is looked at
+abbrev seen : tie.After-with-hour → tie.After-is-kind2
+seen c = c .before .before .before .before
+
+abbrev entry : tie.After-is-kind2 → tie.Start
+entry c = c .before .before .before .before .before
+
 with-hour-requires : tie.Need-with-hour-requires
 with-hour-requires c κs =
-    let known = c .before .before .before .before .before .pre in
+    let known = entry (c .before .before .before) .pre in
     (counts-below known .0, counts-below known .1, known .room)
 
 returns : tie.Need-returns
-returns c = stretch-next (c .before .before .before .before .before .before .pre) (c .before .last-open .ensures) (c .with-hour .ensures)
+returns c =
+    let kinds = seen c in
+    stretch-next (entry kinds .pre) (kinds .before .is-kind .ensures) (kinds .is-kind2 .ensures)
+    (c .before .before .up-to-last .ensures) (c .before .up-to-last2 .ensures) (c .with-hour .ensures)
 
 pub longer-spec : {M : Type 1} → statement M
 longer-spec =
@@ -18,7 +28,10 @@ longer-spec =
     (λ c. search needs)
     (λ c. search needs)
     (λ c. search needs)
+    (λ c κs. search needs)
+    (λ c κs. search needs)
     (λ c. search needs)
+    (λ c κs. search needs)
     (λ c κs. search needs)
     with-hour-requires
     returns)

@@ -1,3 +1,6 @@
+use mathlib.Core.Path.{ap, _∙_}
+use Rattle.calendar.specs.Rule.{ruleOf, witnessedRule, withoutWitnesses}
+use Rattle.calendar.proofs.Windows.{without-witnesses}
 use Rattle.propagation.proofs.Fits.{core-asks, core-answers}
 use borrow.Author.Needs.{needs}
 use Rattle.propagation.proofs.kept.fit_of.Statement.{statement}
@@ -9,7 +12,11 @@ rule-requires c κs =
     (c .before .before .before .before .before .before .before .before .pre)
 
 returns : tie.Need-returns
-returns c = core-answers _ _ _ _ _ (c .before .calendar-at .ensures) (c .before .before .before .bounds-at .ensures) _ (c .rule .ensures)
+unfolding ruleOf witnessedRule
+returns c =
+    let called = c .before in
+    let answer = c .without-witnesses .ensures ∙ ap withoutWitnesses (called .rule .ensures) ∙ without-witnesses _ in
+    core-answers _ _ _ _ _ (called .before .calendar-at .ensures) (called .before .before .before .bounds-at .ensures) _ answer
 
 pub fit-of-spec : {M : Type 1} → statement M
 fit-of-spec =
@@ -22,4 +29,5 @@ fit-of-spec =
     (λ c. search needs)
     (λ c κs. search needs)
     rule-requires
+    (λ c κs. search needs)
     returns)
