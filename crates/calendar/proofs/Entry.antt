@@ -18,7 +18,7 @@ use Rattle.plan.specs.Faults.{oneForEachTask, calendarsFault, planFault, inputF
 use Rattle.plan.proofs.Refusals.{unless-true, unless-false}
 use Rattle.plan.proofs.Passed.{passed}
 use Rattle.calendar.specs.Rule.{witnessedRule}
-use Rattle.calendar.specs.inner.Stretches.{RuleReady}
+use Rattle.calendar.specs.inner.Ready.{RuleReady}
 use Rattle.calendar.specs.Entry.{oneTask, calendarRule}
 
 module _ (cal : List ℕ) (p : ℕ) (b : Bounds) where

@@ -1,6 +1,3 @@
-pub mod Counting
-pub mod Lasts
-pub mod Stretches
 pub mod Valid
 pub mod Windows
 pub mod Triples

@@ -13,26 +13,27 @@ use Rattle.units.specs.Choice.{if_then_else_}
 use Rattle.units.specs.Sums.{oneIf}
 use Rattle.units.specs.declared.Bounds.{Bounds}
 use Rattle.units.proofs.Choices.{if-true, if-false, true≢false, untrue}
-use Rattle.plan.specs.HourKinds.{isKind, regular, closed, overtime}
+use Rattle.plan.specs.HourKinds.{isKind, regular, closed, overtime, hoursOf}
 use Rattle.plan.proofs.HourKinds.{open-works}
-use Rattle.calendar.specs.declared.Stretch.{Stretch}
+use Rattle.stretches.specs.declared.Stretch.{Stretch}
+use Rattle.stretches.specs.inner.Stretches.{IsStretch, noHours}
+use Rattle.stretches.specs.inner.Stretches.{openLength, regularLength, stretchOf, mayEnd, mayLast, stopsAt}
+use Rattle.stretches.specs.inner.Stretches.{lengthened}
+use Rattle.stretches.proofs.Counting.{hours-more, hours-none, hours-first, hours-mono, regulars}
+use Rattle.stretches.proofs.Lasts.{last-le, last-regulars, last-holds, regular-open, open-le, open-regular, open-last, open-past, open-itself}
+use Rattle.stretches.proofs.Stretches.{last-is, regular-is, counts-are, MayEnd, may-end, ends-may, MayLast}
+use Rattle.stretches.proofs.Stretches.{may-last, lasts-may, last-shorter, no-stretch, own-hours, own-stretch}
+use Rattle.stretches.proofs.Stretches.{long-inside, long-none, long-holds, end-next}
+use Rattle.stretches.proofs.Stretches.{last-next}
 use Rattle.calendar.specs.declared.Triple.{Triple}
 use Rattle.calendar.specs.declared.Witnessed.the-variants.{Within}
-use Rattle.calendar.specs.Valid.{hoursOf, overtimeEnds}
+use Rattle.calendar.specs.Valid.{overtimeEnds}
 use Rattle.calendar.specs.Triples.{triple, elapsedOf, overtimeOf, starting}
 use Rattle.calendar.specs.Rule.{witnessedOf}
 use Rattle.calendar.specs.Witnesses.{Earlier, starts-earlier, is-shorter}
-use Rattle.calendar.specs.inner.Stretches.{IsStretch, AllSymbols, RuleReady, Reaches, noHours}
-use Rattle.calendar.specs.inner.Stretches.{openLength, regularLength, stretchOf, mayEnd, mayLast, stopsAt}
-use Rattle.calendar.specs.inner.Stretches.{lengthened}
+use Rattle.calendar.specs.inner.Ready.{AllSymbols, RuleReady, Reaches}
 use Rattle.calendar.specs.inner.Windows.{WindowReady, windowFrom, shortestFrom, longestFrom, fewestFrom, witnessesFrom}
-use Rattle.calendar.proofs.Counting.{hours-more, hours-none, hours-first, hours-mono, regulars}
 use Rattle.calendar.proofs.Valid.{Valid, valid-facts, facts-valid}
-use Rattle.calendar.proofs.Lasts.{last-le, last-regulars, last-holds, regular-open, open-le, open-regular, open-last, open-past, open-itself}
-use Rattle.calendar.proofs.Stretches.{last-is, regular-is, counts-are, MayEnd, may-end, ends-may, MayLast}
-use Rattle.calendar.proofs.Stretches.{may-last, lasts-may, last-shorter, no-stretch, own-hours, own-stretch}
-use Rattle.calendar.proofs.Stretches.{long-inside, long-none, long-holds, end-next}
-use Rattle.calendar.proofs.Stretches.{last-next}
 use Rattle.calendar.proofs.Triples.{Held, Starting, has-starting, only-starting, no-members}
 use Rattle.calendar.proofs.Ordering.{starting-ordered}
 use Rattle.calendar.proofs.Witnessing.{First, witnessed-is}

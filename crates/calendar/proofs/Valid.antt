@@ -9,8 +9,8 @@ use lib.Dec.{leb}
 use borrow.Author.Tests.{lt-leb, le-leb, ne-eqb, eq-eqb, leb-true, eqb-true, not-true}
 use Rattle.units.specs.Choice.{_and_}
 use Rattle.units.proofs.Choices.{and-both, and-left, and-right, not-left, not-right}
-use Rattle.plan.specs.HourKinds.{isKind, regular, closed, overtime}
-use Rattle.calendar.specs.Valid.{hoursOf, overtimeEnds, valid}
+use Rattle.plan.specs.HourKinds.{isKind, regular, closed, overtime, hoursOf}
+use Rattle.calendar.specs.Valid.{overtimeEnds, valid}
 
 module _ (cal : List ℕ) (p s e o : ℕ) where
   pub no-length : e < 1 → valid cal p s e o ≡ false

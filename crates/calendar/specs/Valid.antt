@@ -5,12 +5,8 @@ use Prim.Native.Nat.{ℕ, _+_, _-_}
 use lib.ListN.{length}
 use lib.Dec.{leb, eqb}
 use Rattle.units.specs.Choice.{_and_, if_then_else_}
-use Rattle.units.specs.Sums.{oneIf, countWhere}
-use Rattle.plan.specs.HourKinds.{isKind, regular, closed, overtime}
-
--- how many hours of [s, s + e) are of the kind
-unfoldable pub hoursOf : ℕ → List ℕ → ℕ → ℕ → ℕ
-hoursOf kind cal s e = countWhere (λ j. isKind kind cal (s + j)) e
+use Rattle.units.specs.Sums.{oneIf}
+use Rattle.plan.specs.HourKinds.{isKind, regular, closed, overtime, hoursOf}
 
 -- how many hours of the set {s, s + e - 1} are of kind `o`; for e = 1 that set has one member
 unfoldable pub overtimeEnds : List ℕ → ℕ → ℕ → ℕ

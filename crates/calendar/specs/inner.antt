@@ -1,3 +1,3 @@
 -- What contracts of private functions cite and no public one does; 01 has no such terms.
-pub mod Stretches
+pub mod Ready
 pub mod Windows

@@ -1,13 +1,16 @@
 // The calendar rule: the least and greatest start, elapsed time and overtime over the valid triples in a box.
-mod reach;
 mod widen;
 
 use plan::CLOSED;
 use plan::OVERTIME;
-use plan::REGULAR;
 use plan::Refusal;
 use plan::Tested;
 use plan::is_kind;
+use stretches::Counts;
+use stretches::Stretch;
+use stretches::count_hours;
+use stretches::one_if;
+use stretches::reach;
 use units::Bounds;
 use units::Duration;
 use units::Hour;
@@ -16,14 +19,12 @@ ghost use mathlib.Core.Path.{_≡_};
 ghost use Prim.Native.Nat.{_+_, _≤_, _<_};
 ghost use lib.ListN.{length};
 ghost use Rattle.units.specs.Limits.{mostHours};
-ghost use Rattle.units.specs.Sums.{oneIf};
-ghost use Rattle.plan.specs.HourKinds.{isKind};
 ghost use Rattle.plan.specs.Lent.{old};
 ghost use Rattle.calendar.specs.Valid.{overtimeEnds};
 ghost use Rattle.calendar.specs.Triples.{validTriple, starting};
 ghost use Rattle.calendar.specs.Rule.{witnessedRule, withoutWitnesses};
 ghost use Rattle.calendar.specs.Entry.{calendarRule, ruleAnswer};
-ghost use Rattle.calendar.specs.inner.Stretches.{Inside, HasCounts, RuleReady, Reaches, countsOf, withHour};
+ghost use Rattle.calendar.specs.inner.Ready.{HasCounts, RuleReady, Reaches};
 ghost use Rattle.calendar.specs.inner.Windows.{withTriples};
 
 // 01's (s, e, o): when a task starts, how long it lasts, and its overtime.
@@ -72,56 +73,6 @@ pub enum RuleAnswer {
     Never,
     Within(Window, Witnesses),
     Refused(Refusal),
-}
-
-// The regular and the overtime hours of a stretch of a calendar.
-struct Counts {
-    regular: u16,
-    overtime: u16,
-}
-
-// So many hours from one start on, how many up to the last open one and up to the last regular one, and the counts.
-struct Stretch {
-    hours: Duration,
-    last: Duration,
-    regular: Duration,
-    counts: Counts,
-}
-
-// 1 for an hour of the kind.
-fn one_if(calendar: &[u8], t: usize, kind: u8) -> u16
-    requires { ⌜ t < length (now calendar) ⌝ }
-    ensures { λ r. ⌜ (r ≡ oneIf (isKind kind (old calendar) t)) × (r ≤ 1) ⌝ }
-{
-    if is_kind(calendar, t, kind) { 1 } else { 0 }
-}
-
-// The counts with one hour more.
-fn with_hour(n: Counts, calendar: &[u8], t: usize) -> Counts
-    requires { ⌜ (n .regular < mostHours) × (n .overtime < mostHours) × (t < length (now calendar)) ⌝ }
-    ensures { λ r. ⌜ r ≡ withHour n (old calendar) t ⌝ }
-{
-    Counts {
-        regular: n.regular + one_if(calendar, t, REGULAR),
-        overtime: n.overtime + one_if(calendar, t, OVERTIME),
-    }
-}
-
-// The counts of so many hours from the start on.
-fn count_hours(calendar: &[u8], start: Hour, hours: Duration) -> Counts
-    requires { ⌜ Inside (now calendar) (start .0) (hours .0) ⌝ }
-    ensures { λ r. ⌜ r ≡ countsOf (old calendar) (start .0) (hours .0) ⌝ }
-{
-    let first = start.0 as usize;
-    let end = hours.0 as usize;
-    let mut n = Counts {
-        regular: 0,
-        overtime: 0,
-    };
-    for i in 0..end {
-        n = with_hour(n, calendar, first + i);
-    }
-    n
 }
 
 // How many of the first and the last of the e hours from s on are overtime hours; where they are one hour, it counts once.
@@ -258,7 +209,7 @@ pub fn calendar_rule(calendar: &[u8], work_time: Duration, b: Bounds) -> RuleAns
         b.fewest.0,
         b.most.0,
     ];
-    let tested = plan::test_input(
+    let tested = input::test_input(
         hours.0,
         &capacity,
         calendar,

@@ -1,9 +1,9 @@
 // Windows and their witnesses: of the valid triples from one start, and of those from several.
-use crate::Stretch;
 use crate::Triple;
 use crate::Window;
 use crate::Witnessed;
 use crate::Witnesses;
+use stretches::Stretch;
 use units::Bounds;
 use units::Duration;
 use units::Hour;

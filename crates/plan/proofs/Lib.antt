@@ -1,7 +1,6 @@
 pub mod HourKinds
 pub mod Boxes
 pub mod Refusals
-pub mod Faults
 pub mod Passed
 pub mod Numbers
 pub mod Parts

@@ -5,4 +5,3 @@ pub mod Refusals
 pub mod Faults
 pub mod Passed
 pub mod Lent
-pub mod inner

@@ -147,7 +147,7 @@ fn test_stored(
         × (now heights ≡ storedHeights rooms tasks (now cells)) ⌝ }
     ensures { λ x. ⌜ testedFault x ≡ planFault (storedPlan hours rooms tasks (old symbols) (old cells)) (storedBoxes tasks (old cells)) ⌝ }
 {
-    plan::test_plan(
+    input::test_plan(
         hours,
         &cells[CAPACITIES..CAPACITIES + rooms],
         symbols,
@@ -165,7 +165,7 @@ fn test_symbols(hours: u16, symbols: &[u8], refusal: Refusal) -> Tested
     let numbers = [0u16; 1];
     let room = &numbers[..];
     let none = &room[..0];
-    let tested = plan::test_plan(hours, room, symbols, none, none, none, none);
+    let tested = input::test_plan(hours, room, symbols, none, none, none, none);
     let Tested::Passed = tested else {
         return tested;
     };

@@ -313,7 +313,7 @@ pub fn write_plan(
         let P = oldPlan hours capacities calendars «task_calendars» «work_times» heights in
         ⌜ ((n : ℕ) → writingAnswer x ≡ answered n → ReadsBack P (old boxes) (take n (left out))) ⌝ }
 {
-    let tested = plan::test_input(
+    let tested = input::test_input(
         hours,
         capacities,
         calendars,

@@ -15,7 +15,7 @@ use Rattle.plan.specs.Boxes.{boundsAt}
 use Rattle.plan.specs.Passed.{Passed}
 use Rattle.calendar.specs.declared.Fit.{Fit}
 use Rattle.calendar.specs.Rule.{ruleOf}
-use Rattle.calendar.specs.inner.Stretches.{RuleReady}
+use Rattle.calendar.specs.inner.Ready.{RuleReady}
 use Rattle.steps.specs.Load.{fitAt}
 use Rattle.propagation.specs.inner.Fitting.{Fitting}
 

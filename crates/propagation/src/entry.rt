@@ -33,13 +33,13 @@ pub fn test_entry(
         let P = oldPlan hours capacities calendars «task_calendars» «work_times» heights in
         ⌜ testedFault r ≡ entryFault P (old boxes) (old «log_kinds») (old «log_tasks») (old «log_hours») ⌝ }
 {
-    if !plan::has_one_for_each_task(capacities, task_calendars, work_times, heights, boxes) {
+    if !input::has_one_for_each_task(capacities, task_calendars, work_times, heights, boxes) {
         return Tested::Refused(Refusal::MemorySize);
     }
     if !has_one_for_each_step(log_kinds, log_tasks, log_hours) {
         return Tested::Refused(Refusal::MemorySize);
     }
-    plan::test_plan(
+    input::test_plan(
         hours,
         capacities,
         calendars,

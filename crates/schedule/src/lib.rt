@@ -188,7 +188,7 @@ fn is_right_size(
     ensures { λ r. ⌜ r ≡ (oneForEachTask (old capacities) (old «task_calendars») (old «work_times») (old heights) (old boxes)
         and isSized (length (old «task_calendars»)) (old schedule)) ⌝ }
 {
-    if !plan::has_one_for_each_task(capacities, task_calendars, work_times, heights, boxes) {
+    if !input::has_one_for_each_task(capacities, task_calendars, work_times, heights, boxes) {
         return false;
     }
     units::is_for_each(schedule.len(), Triple::NUMBERS, task_calendars.len())
@@ -218,7 +218,7 @@ fn test_schedule(
     ) {
         return Tested::Refused(Refusal::MemorySize);
     }
-    let by_plan = plan::test_plan(
+    let by_plan = input::test_plan(
         hours,
         capacities,
         calendars,

@@ -12,7 +12,7 @@ use Rattle.plan.specs.Refusals.{unless, answerUnless}
 use Rattle.plan.specs.Faults.{oneForEachTask, isCalendars, symbolFault, calendarsFault}
 use Rattle.plan.specs.Faults.{capacityFault, countsFault, heightFault, oneTaskFault, taskFault, tasksFault, planFault}
 use Rattle.plan.specs.Faults.{inputFault}
-use Rattle.calendar.specs.Valid.{hoursOf, overtimeEnds, valid}
+use Rattle.calendar.specs.Valid.{overtimeEnds, valid}
 use Rattle.calendar.specs.Triples.{each, over, lasting, starting, validTriples}
 use Rattle.calendar.specs.Rule.{spread, fitOf, ruleOf, firsts, witnessedOf, witnessedRule}
 use Rattle.calendar.specs.Entry.{oneTask, calendarRule}
@@ -20,7 +20,7 @@ use Rattle.steps.specs.Load.{fitAt, mustRun, load, othersLoad, roomExces
 use Rattle.steps.specs.Steps.{kindOf, isStep, onJudgement, onFit, sameBounds, judgeC, judgeO, judgeL, judgeU, judgeKind, judge}
 use Rattle.steps.specs.Filter.{onAdmitted, ifAdmitted, firstOfKind, firstBy, filterOrder, nextBy, after, runBy}
 use Rattle.units.specs.Extremes.{least, greatest, betterOf, firstBest}
-use Rattle.plan.specs.HourKinds.{isSymbol, isKind}
+use Rattle.plan.specs.HourKinds.{isSymbol, isKind, hoursOf}
 use Rattle.steps.specs.Entry.{stepAt, stepsFrom, oneForEachStep, entryFault, endingAnswer, logged, filterPlan, leftBy, filterRecords}
 use Rattle.steps.specs.Weeks.{weeks, left, outcomeOf, hoursHeld}
 use Rattle.units.specs.Cells.{written}

@@ -10,11 +10,11 @@ use Rattle.units.specs.Lists.{listTo}
 use Rattle.plan.specs.Plan.{roomCount, taskCount, calendarCount, firstSymbol, calendarAt, calendarOf, workTimeOf}
 use Rattle.plan.specs.Plan.{capacityOf, roomPart, heightsOf, heightOf, heightsWhere}
 use Rattle.plan.specs.Boxes.{boundsAt, withBounds}
-use Rattle.plan.specs.HourKinds.{isSymbol, isKind}
+use Rattle.plan.specs.HourKinds.{isSymbol, isKind, hoursOf}
 use Rattle.plan.specs.Refusals.{unless, onAnswer}
 use Rattle.plan.specs.Faults.{oneForEachTask, isCalendars, symbolFault, calendarsFault, capacityFault, countsFault, heightFault, oneTaskFault}
 use Rattle.plan.specs.Faults.{taskFault, tasksFault, planFault}
-use Rattle.calendar.specs.Valid.{hoursOf, overtimeEnds, valid}
+use Rattle.calendar.specs.Valid.{overtimeEnds, valid}
 use Rattle.calendar.specs.Triples.{each, over, lasting, starting, validTriples}
 use Rattle.calendar.specs.Rule.{spread, fitOf, ruleOf}
 use Rattle.steps.specs.Load.{fitAt, mustRun, load, othersLoad, roomExcess, excess}

@@ -1,7 +1,7 @@
 use mathlib.Core.Path.{sym, _∙_}
 use native.Mathlib.Omega.{arith}
+use Rattle.stretches.proofs.Counting.{regulars, overtimes}
 use Rattle.calendar.proofs.Valid.{closed-first, closed-last, other-overtime, few-overtime, by-ends}
-use Rattle.calendar.proofs.Counting.{regulars, overtimes}
 use borrow.Author.Needs.{needs}
 use Rattle.calendar.proofs.is_valid_by.Statement.{statement}
 use Rattle.calendar.proofs.is_valid_by.Tie as tie

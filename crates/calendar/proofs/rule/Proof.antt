@@ -4,7 +4,7 @@ use native.Mathlib.Omega.{arith}
 use borrow.Author.Needs.{needs}
 use Rattle.calendar.specs.Triples.{over, starting, validTriples}
 use Rattle.calendar.specs.Rule.{witnessedRule}
-use Rattle.calendar.specs.inner.Stretches.{Reaches}
+use Rattle.calendar.specs.inner.Ready.{Reaches}
 use Rattle.calendar.specs.inner.Windows.{withTriples}
 use Rattle.calendar.proofs.Windows.{unmoved, over-none, with-step}
 use Rattle.calendar.proofs.Starts.{Carried, carried-first, shortest-stretch, longest-stretch, carried-on, carried-next}

@@ -2,10 +2,10 @@ use mathlib.Core.Path.{_≡_, sym, _∙_}
 use mathlib.Core.Bool.{true, false}
 use borrow.Author.Tests.{not-true, not-false}
 use Rattle.plan.specs.HourKinds.{isKind, closed}
-use Rattle.calendar.specs.inner.Stretches.{mayEnd}
+use Rattle.stretches.specs.inner.Stretches.{mayEnd}
+use Rattle.stretches.proofs.Stretches.{counts-small}
 use Rattle.calendar.specs.inner.Windows.{WindowReady}
 use Rattle.calendar.proofs.Windows.{unmoved, with-window-of}
-use Rattle.calendar.proofs.Stretches.{counts-small}
 use Rattle.calendar.proofs.Starts.{none-closed, none-between, none-ends, window-ready, window-is}
 use borrow.Author.Needs.{needs}
 use Rattle.calendar.proofs.with_start.Statement.{statement}

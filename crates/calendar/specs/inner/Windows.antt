@@ -3,7 +3,7 @@ use mathlib.Core.List.{List}
 use Prim.Native.Nat.{ℕ, _+_, _-_, _≤_, min, max}
 use Rattle.units.specs.Extremes.{less, more, betterOf}
 use Rattle.units.specs.Limits.{mostHours, hour, duration}
-use Rattle.calendar.specs.declared.Stretch.{Stretch}
+use Rattle.stretches.specs.declared.Stretch.{Stretch}
 use Rattle.calendar.specs.declared.Triple.{Triple}
 use Rattle.calendar.specs.declared.Window.{Window}
 use Rattle.calendar.specs.declared.Witnesses.{Witnesses}

@@ -1,0 +1,3 @@
+pub mod Counting
+pub mod Lasts
+pub mod Stretches
