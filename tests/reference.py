@@ -421,7 +421,7 @@ def read_plan(text, enough=True):
     task_calendars, work_times = (tuple(task[k] for task in tasks) for k in range(2))
     heights = tuple(task[2 + room] for room in range(rooms) for task in tasks)
     plan = Plan(hours, tuple(capacities), b"".join(calendars), task_calendars, work_times, heights)
-    boxes = [tuple(task[2 + rooms :]) or (0, hours - 1, task[1], hours, 0, task[1]) for task in tasks]
+    boxes = [tuple(task[2 + rooms :]) or (0, hours - 1, task[1], hours, 0, 0) for task in tasks]
     refusal = plan_fault(plan, boxes)
     return (refusal, None) if refusal else (None, (plan, len(calendars), boxes))
 

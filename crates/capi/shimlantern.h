@@ -148,7 +148,8 @@ void shimlantern_filter(uint16_t hours, const uint16_t *capacities, size_t rooms
 
 /* Reads a plan text into memory for the most that a plan can hold: SHIMLANTERN_MOST_ROOMS capacities, SHIMLANTERN_MOST_SYMBOLS symbols,
    SHIMLANTERN_MOST_TASKS calendars of tasks and as many work times, SHIMLANTERN_MOST_HEIGHTS heights and SHIMLANTERN_MOST_BOUNDS bounds. Less than
-   that is 31. Cells past the plan's own are untouched.
+   that is 31. Cells past the plan's own are untouched. A task line without bounds has start 0 to hours - 1, elapsed time from the work time to hours,
+   and no overtime.
    answer: number (0, 1 to 10, 17 or 31), place, hours, how many rooms, how many calendars, how many tasks. */
 enum {
     SHIMLANTERN_READ_HOURS = 2,

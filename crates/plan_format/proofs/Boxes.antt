@@ -17,7 +17,7 @@ module _ (h rooms : ℕ) where
   box-long task e = sym (if-true _ _ _ (eq-eqb (length task) (rooms + 8) e))
 
   pub box-short : (last : ℕ) (task : List ℕ) → last ≡ h - 1 → (length task ≡ rooms + 8 → ⊥)
-      → 0 ∷ last ∷ getD task 1 0 ∷ h ∷ 0 ∷ getD task 1 0 ∷ [] ≡ boxOf h rooms task
+      → 0 ∷ last ∷ getD task 1 0 ∷ h ∷ 0 ∷ 0 ∷ [] ≡ boxOf h rooms task
   unfolding boxOf
   box-short last task e k = rw e (sym (if-false _ _ _ (ne-eqb (length task) (rooms + 8) k)))
 

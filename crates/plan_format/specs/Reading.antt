@@ -1,5 +1,5 @@
 -- Reading a plan as an entry point: the text's plan, its refusals in their order, and what lent memory holds after (01, "Plan text and
--- listing", "Refused because of the state"; rooms: 02, W-202).
+-- listing", "Refused because of the state"; rooms: 02, W-202; the box of a line without bounds: W-205).
 use mathlib.Core.Bool.{Bool, true}
 use mathlib.Core.Option.{Option}
 use mathlib.Core.List.{List, [], _∷_, _++_, map}
@@ -20,12 +20,12 @@ unfoldable pub joined : List (List ℕ) → List ℕ
 joined [] = []
 joined (l ∷ ls) = l ++ joined ls
 
--- a task's six bounds, where there are so many rooms: those of its line, or S 0 to H - 1, E p to H, O 0 to p
+-- a task's six bounds, where there are so many rooms: those of its line, or S 0 to H - 1, E p to H, O 0 to 0
 unfoldable pub boxOf : ℕ → ℕ → List ℕ → List ℕ
 boxOf h rooms task =
     if eqb (length task) (rooms + 8)
     then drop (rooms + 2) task
-    else 0 ∷ (h - 1) ∷ getD task 1 0 ∷ h ∷ 0 ∷ getD task 1 0 ∷ []
+    else 0 ∷ (h - 1) ∷ getD task 1 0 ∷ h ∷ 0 ∷ 0 ∷ []
 
 -- the tasks' heights, room by room
 unfoldable pub heightsIn : ℕ → List (List ℕ) → List ℕ

@@ -120,7 +120,7 @@ fn store_heights(cells: &mut [u16], task: usize, rooms: usize, numbers: &[u16])
     }
 }
 
-// Stores a task's box: the bounds of its line, or all that its work time allows.
+// Stores a task's box: the bounds of its line, or all that its work time allows without overtime.
 fn store_box(cells: &mut [u16], task: usize, hours: u16, rooms: usize, numbers: &[u16])
     requires { ⌜ (task < mostTasks) × (rooms ≤ mostRooms) × (length (now cells) ≡ storeSize) × (rooms + 2 ≤ length (now numbers)) ⌝ }
     ensures { λ _. ⌜ left cells ≡ writtenAt (boxesAt + boxNumbers * task) (boxOf hours rooms (old numbers)) (old cells) ⌝ }
@@ -134,7 +134,7 @@ fn store_box(cells: &mut [u16], task: usize, hours: u16, rooms: usize, numbers: 
         return;
     }
     let work_time = numbers[1];
-    let bounds = [0, last_hour(hours), work_time, hours, 0, work_time];
+    let bounds = [0, last_hour(hours), work_time, hours, 0, 0];
     put_cells(cells, BOXES + Bounds::NUMBERS * task, &bounds);
 }
 

@@ -148,20 +148,29 @@ fn print_listing(name: &[u8]) {
     io::write_all(STDOUT_FILENO, &out[..k]);
 }
 
-// Every limit and every refusal of a plan text, the traps of 01, and a week of 40 tasks.
-fn print_listings() {
+// What a plan may have at most, and one more.
+fn print_limits() {
     print_listing(b"no-tasks.plan");
     print_listing(b"hours-1008.plan");
     print_listing(b"hours-1009.plan");
     print_listing(b"tasks-64.plan");
     print_listing(b"tasks-65.plan");
+}
+
+// 01's weeks and its traps, and overtime asked for and not.
+fn print_weeks() {
     print_listing(b"printed-week.plan");
     print_listing(b"height-above-capacity.plan");
     print_listing(b"calendar-a.plan");
     print_listing(b"rests-before-closing.plan");
     print_listing(b"one-hour-of-overtime.plan");
+    print_listing(b"overtime-not-asked-for.plan");
     print_listing(b"two-hours-of-overtime.plan");
     print_listing(b"own-part-is-no-excess.plan");
+}
+
+// Every refusal of a plan text but 5, which is among the limits.
+fn print_refusals() {
     print_listing(b"refused-1.plan");
     print_listing(b"refused-1-no-lf.plan");
     print_listing(b"refused-2.plan");
@@ -175,6 +184,10 @@ fn print_listings() {
     print_listing(b"refused-17.plan");
     print_listing(b"refused-17-no-room.plan");
     print_listing(b"refused-1-heights.plan");
+}
+
+// Weeks of two rooms, and one of 40 tasks.
+fn print_larger_weeks() {
     print_listing(b"two-rooms.plan");
     print_listing(b"overload-in-the-second-room.plan");
     print_listing(b"bakery-week.plan");
@@ -400,7 +413,7 @@ fn printed_week_log(room: usize)
 fn two_rooms_logs() {
     let capacities: [u16; 2] = [2, 1];
     let heights = HEIGHTS_IN_TWO_ROOMS;
-    let later: [u16; 12] = [0, 0, 2, 2, 0, 0, 0, 3, 2, 4, 0, 2];
+    let later: [u16; 12] = [0, 0, 2, 2, 0, 0, 0, 3, 2, 4, 0, 0];
     week_log(4, &capacities, b"rrrr", &heights, later, CELLS);
     let together: [u16; 12] = [0, 1, 2, 2, 0, 0, 0, 1, 2, 2, 0, 0];
     week_log(3, &capacities, b"rrr", &heights, together, CELLS);
@@ -508,7 +521,7 @@ fn count_rewritten(name: &[u8], room: usize)
 // Plans written back: with bounds and without, of two rooms, without tasks, one that is refused, the printed week of 66 bytes, and the longest text.
 fn print_rewritings() {
     print_rewritten(b"printed-week.plan");
-    print_rewritten(b"own-part-is-no-excess.plan");
+    print_rewritten(b"overtime-not-asked-for.plan");
     print_rewritten(b"two-rooms.plan");
     print_rewritten(b"no-tasks.plan");
     print_rewritten(b"bakery-week.plan");
@@ -527,7 +540,10 @@ fn main() {
     schedule_over_capacity();
     schedule_that_ends_closed();
     schedule_over_the_second_capacity();
-    print_listings();
+    print_limits();
+    print_weeks();
+    print_refusals();
+    print_larger_weeks();
     printed_week_log(CELLS);
     printed_week_log(2);
     two_rooms_logs();
