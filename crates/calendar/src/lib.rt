@@ -1,4 +1,5 @@
 // The calendar rule: the least and greatest start, elapsed time and overtime over the valid triples in a box.
+#![tactic(auto)]
 mod widen;
 
 ghost use Rattle.std.specs.Prelude.{◌≡◌, ◌+◌, ◌≤◌, ◌<◌, length};
@@ -16,7 +17,7 @@ use stretches::{Counts, Stretch, count_hours, one_if, reach};
 use units::{Bounds, Duration, Hour, MaybeDuration};
 
 // 01's (s, e, o): when a task starts, how long it lasts, and its overtime.
-#[derive(Drop)]
+#[derive(Clone, Copy)]
 pub struct Triple {
     pub start: Hour,
     pub elapsed: Duration,
@@ -29,7 +30,7 @@ impl Triple {
 }
 
 // The bounds of a task's valid triples, with the least and the greatest end.
-#[derive(Drop)]
+#[derive(Clone, Copy)]
 pub struct Window {
     pub bounds: Bounds,
     pub ect: Hour,
@@ -37,14 +38,14 @@ pub struct Window {
 }
 
 // Whether a task has a valid triple, and the bounds of the valid ones.
-#[derive(Drop)]
+#[derive(Clone, Copy)]
 pub enum Fit {
     Never,
     Within(Window),
 }
 
 // For each bound a valid triple that attains it: of several the earliest start, then the shortest elapsed time.
-#[derive(Drop)]
+#[derive(Clone, Copy)]
 pub struct Witnesses {
     pub earliest: Triple,
     pub latest: Triple,
@@ -55,14 +56,14 @@ pub struct Witnesses {
 }
 
 // What the calendar rule answers for input that is tested: no valid triple, or the bounds of the valid ones and their witnesses.
-#[derive(Drop)]
+#[derive(Clone, Copy)]
 pub enum Witnessed {
     Never,
     Within(Window, Witnesses),
 }
 
 // What the calendar rule answers.
-#[derive(Drop)]
+#[derive(Clone, Copy)]
 pub enum RuleAnswer {
     Never,
     Within(Window, Witnesses),

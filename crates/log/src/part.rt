@@ -7,7 +7,7 @@ ghost use Rattle.log.specs.Inner.Parts.{part_size, part_steps, Sized, checked_pa
 use steps::{Filtered, LogChecked, Step};
 
 // The kinds, the tasks and the hours of its steps stand in the first cells, as many as the count.
-#[derive(Drop)]
+#[derive(Clone, Copy)]
 pub struct Part {
     pub kinds: [u8; Part::SIZE],
     pub tasks: [u16; Part::SIZE],
@@ -22,7 +22,7 @@ impl Part {
 
 // What the log checker comes to with a part: the answer, where the log ends with it; if there may be more, the number of steps so far, and
 // whether the last of them said impossible.
-#[derive(Drop)]
+#[derive(Clone, Copy)]
 pub struct PartChecked {
     pub answer: LogChecked,
     pub more: bool,
@@ -31,7 +31,7 @@ pub struct PartChecked {
 }
 
 // What the filter comes to with a part: its steps; the answer, where the run ends with them; if it goes on, the number of steps taken so far.
-#[derive(Drop)]
+#[derive(Clone, Copy)]
 pub struct PartFiltered {
     pub steps: Part,
     pub answer: Filtered,

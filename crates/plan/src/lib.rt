@@ -1,4 +1,5 @@
 // A plan in lent memory: its parts, and why a call is refused.
+#![tactic(auto)]
 ghost use Rattle.std.specs.Prelude.{◌≡◌, ◌+◌, ◌*◌, ◌/◌, ◌≤◌, ◌<◌, length, get_or, take, drop};
 ghost use Rattle.units.specs.Limits.{box_numbers, height};
 ghost use Rattle.plan.specs.Plan.{first_symbol, room_part};
@@ -10,7 +11,7 @@ ghost use Rattle.plan.specs.Lent.{old, left};
 use units::{Bounds, Duration, Height, Hour};
 
 // Why a call is refused, in the order of the papers' numbers, with the place where they name one.
-#[derive(Drop)]
+#[derive(Clone, Copy)]
 pub enum Refusal {
     // 1, at a line counted from 1.
     Malformed(usize),
@@ -47,10 +48,10 @@ pub enum Refusal {
 }
 
 // A refusal as 01 gives it: its number, then its place.
-#[derive(Drop)]
+#[derive(Clone, Copy)]
 pub struct Fault(pub u16, pub usize);
 
-#[derive(Drop)]
+#[derive(Clone, Copy)]
 pub enum Tested {
     Passed,
     Refused(Refusal),

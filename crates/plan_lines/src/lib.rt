@@ -1,4 +1,5 @@
 // A plan text read line by line. What it holds is stored as far as there is room; what it counts goes on.
+#![tactic(auto)]
 ghost use Rattle.std.specs.Prelude.{true, List, ◌∷◌, [], ◌++◌, ◌≡◌, ℕ, ◌+◌, ◌-◌, ◌*◌, ◌≤◌, ◌<◌, leb, eqb, length, get_or, drop};
 ghost use Rattle.units.specs.Choice.{◌and◌};
 ghost use Rattle.units.specs.Cells.{written_at};
@@ -20,7 +21,7 @@ use units::{Bounds, RoomNumber};
 
 // What has been read of a text: the section reached, H, how many rooms, how many calendars, whether each calendar line has H symbols, how many
 // symbols and how many tasks.
-#[derive(Drop)]
+#[derive(Clone, Copy)]
 pub struct Scan {
     pub reached: usize,
     pub hours: u16,
@@ -32,14 +33,14 @@ pub struct Scan {
 }
 
 // What has been read once another line is, if the line keeps to the rules.
-#[derive(Drop)]
+#[derive(Clone, Copy)]
 enum MaybeScan {
     Broken,
     Next(Scan),
 }
 
 // What a whole text comes to: the line that breaks the rules, or all that it holds.
-#[derive(Drop)]
+#[derive(Clone, Copy)]
 pub enum Scanned {
     Malformed(usize),
     Whole(Scan),

@@ -1,4 +1,5 @@
 // The records of plan text, one a line.
+#![tactic(auto)]
 ghost use Rattle.std.specs.Prelude.{List, ℕ, ◌≤◌, length, drop};
 ghost use Rattle.plan.specs.Lent.{old, left};
 ghost use Rattle.text.specs.Fields.{tab, parts};
@@ -10,7 +11,7 @@ use text::fields::{end_of, is_word, numbers_of};
 use text::{MaybeNumbers, TAB};
 
 // A line's record: where a `cal` line's symbols begin, how many numbers a `plan` or a `task` line has.
-#[derive(Drop)]
+#[derive(Clone, Copy)]
 pub enum LineRecord {
     Other,
     Plan(usize),

@@ -1,4 +1,5 @@
 // Plan text: reading a plan.
+#![tactic(auto)]
 ghost use Rattle.std.specs.Prelude.{true, List, [], ◌∷◌, ◌≡◌, ℕ, ◌*◌, ◌≤◌, length, take};
 ghost use Rattle.std.proofs.Math.Option.{some};
 ghost use Rattle.units.specs.Cells.{written};
@@ -21,7 +22,7 @@ use text::put::{put_bytes, put_cells};
 use units::{Bounds, CalendarNumber, Duration, MaybeDuration, RoomNumber};
 
 // What reading a plan answers: a refusal, or H, and how many rooms, calendars and tasks were read.
-#[derive(Drop)]
+#[derive(Clone, Copy)]
 pub enum PlanReading {
     Refused(Refusal),
     Read {

@@ -1,4 +1,5 @@
 // Plan text: writing a plan.
+#![tactic(auto)]
 ghost use Rattle.std.specs.Prelude.{true, [], ◌∷◌, ◌++◌, ◌≡◌, ℕ, ◌+◌, ◌*◌, ◌≤◌, ◌<◌, length, get_or, take};
 ghost use Rattle.std.proofs.Math.Option.{none};
 ghost use Rattle.units.specs.Limits.{most_calendars, most_rooms, most_tasks, box_numbers};
@@ -21,7 +22,7 @@ use text::put::{put_byte, put_bytes, put_line};
 use units::{Bounds, Duration, RoomNumber};
 
 // What writing a plan answers: a refusal, or the length of its text.
-#[derive(Drop)]
+#[derive(Clone, Copy)]
 pub enum PlanWriting {
     Refused(Refusal),
     Written(usize),

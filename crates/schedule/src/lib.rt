@@ -1,4 +1,5 @@
 // The schedule checker: whether a schedule is feasible, and its makespan.
+#![tactic(auto)]
 ghost use Rattle.std.specs.Prelude.{◌≡◌, ◌+◌, ◌*◌, ◌≤◌, max, length};
 ghost use Rattle.units.specs.Choice.{◌and◌, first_of};
 ghost use Rattle.units.specs.Limits.{most_hours, within};
@@ -17,7 +18,7 @@ use plan::{Refusal, Tested};
 use units::{Bounds, Duration, Height, Hour};
 
 // What the schedule checker answers; a feasible schedule with its makespan.
-#[derive(Drop)]
+#[derive(Clone, Copy)]
 pub enum ScheduleChecked {
     Refused(Refusal),
     Feasible(Hour),

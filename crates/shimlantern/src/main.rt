@@ -1,10 +1,11 @@
 // The program: reads a plan from standard input, filters it with room for 2,048 steps, and prints the listing.
+#![tactic(auto)]
 ghost use Rattle.shimlantern.specs.Inner.Input.{Reads};
 
 use libc::{STDIN_FILENO, STDOUT_FILENO};
 
 // Standard input as it was read: so many bytes, or that a read failed.
-#[derive(Drop)]
+#[derive(Clone, Copy)]
 enum Input {
     Unreadable,
     Bytes(usize),

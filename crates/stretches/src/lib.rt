@@ -1,4 +1,5 @@
 // Stretches of a calendar: so many hours from one start on, and their counts.
+#![tactic(auto)]
 pub mod reach;
 
 ghost use Rattle.std.specs.Prelude.{◌≡◌, ◌≤◌, ◌<◌, length};
@@ -12,14 +13,14 @@ use plan::{OVERTIME, REGULAR, is_kind};
 use units::{Duration, Hour};
 
 // The regular and the overtime hours of a stretch of a calendar.
-#[derive(Drop)]
+#[derive(Clone, Copy)]
 pub struct Counts {
     pub regular: u16,
     pub overtime: u16,
 }
 
 // So many hours from one start on, how many up to the last open one and up to the last regular one, and the counts.
-#[derive(Drop)]
+#[derive(Clone, Copy)]
 pub struct Stretch {
     pub hours: Duration,
     pub last: Duration,

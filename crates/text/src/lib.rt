@@ -1,4 +1,5 @@
 // Text: fields and numbers, read and printed, and bytes put into lent memory.
+#![tactic(auto)]
 pub mod fields;
 pub mod lengths;
 pub mod put;
@@ -10,14 +11,14 @@ pub const TAB: u8 = 9;
 pub const LF: u8 = 10;
 
 // A field as a number, if it is one.
-#[derive(Drop)]
+#[derive(Clone, Copy)]
 pub enum MaybeNumber {
     NotANumber,
     Number(u16),
 }
 
 // Fields as numbers: how many there are, if each is a number.
-#[derive(Drop)]
+#[derive(Clone, Copy)]
 pub enum MaybeNumbers {
     NotNumbers,
     Count(usize),

@@ -1,4 +1,5 @@
 // One turn: the loads of the hours, what a step comes to, and the search for the first admitted step.
+#![tactic(auto)]
 pub mod judge;
 mod load;
 mod search;

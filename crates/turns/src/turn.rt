@@ -13,7 +13,7 @@ use steps::{Found, Judged, Step};
 use units::{Bounds, Duration};
 
 // No step is admitted; or the first admitted one, with what it comes to: it moves the bounds of a task, or says impossible.
-#[derive(Drop)]
+#[derive(Clone, Copy)]
 pub enum Turn {
     Settled,
     At { step: Step, judged: Judged },

@@ -1,31 +1,33 @@
 // The kinds of value that a plan is made of. Document 01's limits stand here, each once, at the kind of value that it limits.
+#![tactic(auto)]
+
 ghost use Rattle.std.specs.Prelude.{◌≡◌, ◌+◌, ◌-◌, ◌*◌, ◌≤◌, ◌<◌, leb, ltb, eqb};
 ghost use Rattle.units.specs.Limits.{hour, duration, height, calendar_number, room_number, within, is_plan_length, is_hour, is_work_time, is_height, is_capacity, is_calendar_count, is_calendar_number, is_room_count, is_room_number, is_task_count, is_overtime, is_box, with_earliest, with_latest, hour_made, duration_made, height_made, calendar_number_made, room_number_made, bounds_made};
 ghost use Rattle.units.specs.Choice.{some_if};
 ghost use Rattle.units.specs.Inner.Order.{in_order};
 
 // An hour of the clock: hour 0 is the plan's first.
-#[derive(Drop)]
+#[derive(Clone, Copy)]
 pub struct Hour(pub u16);
 
 // A length in hours.
-#[derive(Drop)]
+#[derive(Clone, Copy)]
 pub struct Duration(pub u16);
 
 // How much of a room's capacity a task takes, and the capacity itself (01's racks).
-#[derive(Drop)]
+#[derive(Clone, Copy)]
 pub struct Height(pub u16);
 
 // A calendar's place among the plan's calendars, from 0.
-#[derive(Drop)]
+#[derive(Clone, Copy)]
 pub struct CalendarNumber(pub u16);
 
 // A room's place among the plan's rooms, from 0.
-#[derive(Drop)]
+#[derive(Clone, Copy)]
 pub struct RoomNumber(pub u16);
 
 // 01's box: the least and the greatest start, elapsed time and overtime that a task may have.
-#[derive(Drop)]
+#[derive(Clone, Copy)]
 pub struct Bounds {
     pub earliest: Hour,
     pub latest: Hour,
@@ -36,37 +38,37 @@ pub struct Bounds {
 }
 
 // What a constructor answers: the value, or that the number is outside the limits of its kind.
-#[derive(Drop)]
+#[derive(Clone, Copy)]
 pub enum MaybeHour {
     Outside,
     Within(Hour),
 }
 
-#[derive(Drop)]
+#[derive(Clone, Copy)]
 pub enum MaybeDuration {
     Outside,
     Within(Duration),
 }
 
-#[derive(Drop)]
+#[derive(Clone, Copy)]
 pub enum MaybeHeight {
     Outside,
     Within(Height),
 }
 
-#[derive(Drop)]
+#[derive(Clone, Copy)]
 pub enum MaybeCalendarNumber {
     Outside,
     Within(CalendarNumber),
 }
 
-#[derive(Drop)]
+#[derive(Clone, Copy)]
 pub enum MaybeRoomNumber {
     Outside,
     Within(RoomNumber),
 }
 
-#[derive(Drop)]
+#[derive(Clone, Copy)]
 pub enum MaybeBounds {
     Outside,
     Within(Bounds),

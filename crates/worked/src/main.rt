@@ -1,5 +1,6 @@
 // 01's worked weeks without a star, weeks of two rooms, logs of step records, and plans written back as text: each is run, and its answer printed on
 // a line.
+#![tactic(auto)]
 ghost use Rattle.std.specs.Prelude.{◌≡◌, ◌≤◌, length};
 ghost use Rattle.plan_format.specs.Text.{most_bytes};
 ghost use Rattle.worked.specs.Logs.{cells};

@@ -1,0 +1,13 @@
+use mathlib.Core.Path.{sym}
+use native.Mathlib.Omega.{arith}
+use Rattle.units.proofs.Multiples.{none_each, not-whole, by-quotient}
+use Rattle.units.proofs.is_for_each.Goals as goal
+
+pub returns-then-numbers-eq0 : goal.returns-then-numbers-eq0
+returns-then-numbers-eq0 c = none_each _ _ _ c.if-numbers-eq0.true
+
+pub returns-then-length-numbers-ne0 : goal.returns-then-length-numbers-ne0
+returns-then-length-numbers-ne0 c = sym (not-whole _ _ _ c.if-length-numbers-ne0.true)
+
+pub returns : goal.returns
+returns c = by-quotient _ _ _ (let ne = c.if-numbers-eq0.false in omega arith) c.if-length-numbers-ne0.false
