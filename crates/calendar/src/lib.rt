@@ -4,7 +4,6 @@ mod widen;
 
 ghost use Rattle.std.specs.Prelude.{◌≡◌, ◌+◌, ◌≤◌, ◌<◌, length};
 ghost use Rattle.units.specs.Limits.{most_hours};
-ghost use Rattle.plan.specs.Lent.{old};
 ghost use Rattle.calendar.specs.Valid.{overtime_ends};
 ghost use Rattle.calendar.specs.Triples.{valid_triple, starting};
 ghost use Rattle.calendar.specs.Rule.{witnessed_rule, without_witnesses};
@@ -73,7 +72,7 @@ pub enum RuleAnswer {
 // How many of the first and the last of the e hours from s on are overtime hours; where they are one hour, it counts once.
 fn overtime_ends(calendar: &[u8], s: usize, e: u16) -> u16
     requires { (1 ≤ e) × (s + e ≤ length calendar.now) }
-    ensures { result ≡ overtime_ends (old calendar) s e }
+    ensures { result ≡ overtime_ends calendar.now s e }
 {
     let first = one_if(calendar, s, OVERTIME);
     if e == 1 {
@@ -85,7 +84,7 @@ fn overtime_ends(calendar: &[u8], s: usize, e: u16) -> u16
 // Whether a triple within the calendar is valid, from the counts of its hours.
 fn is_valid_by(calendar: &[u8], work_time: Duration, t: Triple, n: Counts) -> bool
     requires { HasCounts calendar.now t n }
-    ensures { result ≡ valid_triple (old calendar) work_time.0 t }
+    ensures { result ≡ valid_triple calendar.now work_time.0 t }
 {
     let s = t.start.0 as usize;
     let e = t.elapsed.0;
@@ -111,7 +110,7 @@ fn is_valid_by(calendar: &[u8], work_time: Duration, t: Triple, n: Counts) -> bo
 // Whether a triple is valid for a task with the calendar and the work time.
 pub fn is_valid(calendar: &[u8], work_time: Duration, t: Triple) -> bool
     requires { length calendar.now ≤ most_hours }
-    ensures { result ≡ valid_triple (old calendar) work_time.0 t }
+    ensures { result ≡ valid_triple calendar.now work_time.0 t }
 {
     let start = t.start;
     let elapsed = t.elapsed;
@@ -137,7 +136,7 @@ fn with_start(
     found: Witnessed,
 ) -> Witnessed
     requires { Reaches calendar.now work_time.0 b s.0 shortest longest }
-    ensures { result ≡ with_triples found (starting (old calendar) work_time.0 b s.0) }
+    ensures { result ≡ with_triples found (starting calendar.now work_time.0 b s.0) }
 {
     if is_kind(calendar, s.0 as usize, CLOSED) {
         return found;
@@ -156,7 +155,7 @@ fn with_start(
 // The calendar rule for input that is tested. A later start ends no earlier, so both stretches only go forward.
 pub fn rule(calendar: &[u8], work_time: Duration, b: Bounds) -> Witnessed
     requires { RuleReady calendar.now b }
-    ensures { result ≡ witnessed_rule (old calendar) work_time.0 b }
+    ensures { result ≡ witnessed_rule calendar.now work_time.0 b }
 {
     let last = b.latest.0;
     let mut s = b.earliest.0;
@@ -187,7 +186,7 @@ pub fn without_witnesses(found: Witnessed) -> Fit
 
 // The calendar rule. Its input is tested as a plan of one calendar and one task, with H the calendar's length.
 pub fn calendar_rule(calendar: &[u8], work_time: Duration, b: Bounds) -> RuleAnswer
-    ensures { rule_answer result ≡ calendar_rule (old calendar) work_time.0 b }
+    ensures { rule_answer result ≡ calendar_rule calendar.now work_time.0 b }
 {
     let MaybeDuration::Within(hours) = Duration::of_plan(calendar.len()) else {
         return RuleAnswer::Refused(Refusal::Hours);

@@ -4,7 +4,7 @@
 ghost use Rattle.std.specs.Prelude.{◌≡◌, length};
 ghost use Rattle.units.specs.Cells.{written};
 ghost use Rattle.plan.specs.Boxes.{bounds_at};
-ghost use Rattle.plan.specs.Lent.{old, left, old_plan};
+ghost use Rattle.plan.specs.Lent.{old_plan};
 ghost use Rattle.calendar.specs.Entry.{calendar_rule};
 ghost use Rattle.schedule.specs.Entry.{check_schedule};
 ghost use Rattle.steps.specs.Entry.{check_log, check_answer, filter_end, filter_plan};
@@ -23,7 +23,7 @@ pub extern "C" fn shimlantern_calendar_rule(
     bounds: &[u16; 6],
     answer: &mut [u64; 29],
 )
-    ensures { left answer ≡ rule_numbers (calendar_rule (old calendar) work_time (bounds_at (old bounds) 0)) }
+    ensures { answer.new ≡ rule_numbers (calendar_rule calendar.now work_time (bounds_at bounds.now 0)) }
 {
     let b = plan::bounds_at(bounds, 0);
     let found = calendar::calendar_rule(calendar, Duration(work_time), b);
@@ -44,7 +44,7 @@ pub extern "C" fn shimlantern_check_schedule(
     answer: &mut [u64; 3],
 )
     ensures { let P = old_plan hours capacities calendars task_calendars work_times heights in
-        left answer ≡ schedule_numbers (check_schedule P (old boxes) (old schedule)) }
+        answer.new ≡ schedule_numbers (check_schedule P boxes.now schedule.now) }
 {
     let checked = schedule::check_schedule(
         hours,
@@ -75,8 +75,8 @@ pub extern "C" fn shimlantern_check_log(
     answer: &mut [u64; 4],
 )
     ensures { let P = old_plan hours capacities calendars task_calendars work_times heights in
-        let e = check_log P (old boxes) (old log_kinds) (old log_tasks) (old log_hours) in
-        (left answer ≡ log_numbers (check_answer e)) × (left boxes ≡ e.boxes) }
+        let e = check_log P boxes.old log_kinds.now log_tasks.now log_hours.now in
+        (answer.new ≡ log_numbers (check_answer e)) × (boxes.new ≡ e.boxes) }
 {
     let checked = propagation::replay::check_log(
         hours,
@@ -109,9 +109,9 @@ pub extern "C" fn shimlantern_filter(
     answer: &mut [u64; 4],
 )
     ensures { let P = old_plan hours capacities calendars task_calendars work_times heights in
-        let e = filter_plan P (old boxes) (old log_kinds) (old log_tasks) (old log_hours) in
-        (left answer ≡ filter_numbers e.answer)
-        × (filter_end e.answer (left boxes) (left log_kinds) (left log_tasks) (left log_hours) ≡ e) }
+        let e = filter_plan P boxes.old log_kinds.old log_tasks.old log_hours.old in
+        (answer.new ≡ filter_numbers e.answer)
+        × (filter_end e.answer boxes.new log_kinds.new log_tasks.new log_hours.new ≡ e) }
 {
     let filtered = propagation::filter::filter(
         hours,
@@ -140,9 +140,9 @@ pub extern "C" fn shimlantern_read_plan(
     boxes: &mut [u16],
     answer: &mut [u64; 6],
 )
-    ensures { let e = read_plan (old capacities) (old calendars) (old task_calendars) (old work_times) (old heights) (old boxes) (old text) in
-        (left answer ≡ read_numbers e.answer)
-        × (end_with e.answer (left capacities) (left calendars) (left task_calendars) (left work_times) (left heights) (left boxes) ≡ e) }
+    ensures { let e = read_plan capacities.old calendars.old task_calendars.old work_times.old heights.old boxes.old text.now in
+        (answer.new ≡ read_numbers e.answer)
+        × (end_with e.answer capacities.new calendars.new task_calendars.new work_times.new heights.new boxes.new ≡ e) }
 {
     let reading = plan_text::read_plan(
         text,
@@ -170,8 +170,8 @@ pub extern "C" fn shimlantern_write_plan(
     answer: &mut [u64; 3],
 )
     ensures { let P = old_plan hours capacities calendars task_calendars work_times heights in
-        let e = write_plan P (old boxes) (old out) in
-        (left answer ≡ write_numbers e.answer) × (left out ≡ e.out) }
+        let e = write_plan P boxes.now out.old in
+        (answer.new ≡ write_numbers e.answer) × (out.new ≡ e.out) }
 {
     let writing = plan_writing::write_plan(
         hours,
@@ -189,7 +189,7 @@ pub extern "C" fn shimlantern_write_plan(
 // What the program prints for a plan text, and its length; the bytes past it are untouched.
 #[unsafe(no_mangle)]
 pub extern "C" fn shimlantern_list_text(text: &[u8], out: &mut [u8; listing::ROOM]) -> usize
-    ensures { (result ≡ length (listing_of_text (old text))) × (left out ≡ written (listing_of_text (old text)) (old out)) }
+    ensures { (result ≡ length (listing_of_text text.now)) × (out.new ≡ written (listing_of_text text.now) out.old) }
 {
     text_listing::list_text(text, out)
 }

@@ -5,7 +5,7 @@ ghost use Rattle.units.specs.Choice.{first_of};
 ghost use Rattle.plan.specs.HourKinds.{is_symbol};
 ghost use Rattle.plan.specs.Refusals.{tested_fault};
 ghost use Rattle.plan.specs.Faults.{one_for_each_task, is_calendars, symbol_fault, calendars_fault, capacity_fault, counts_fault, height_fault, one_task_fault, tasks_fault, plan_fault, input_fault};
-ghost use Rattle.plan.specs.Lent.{old, shifts_of, old_shifts, old_plan};
+ghost use Rattle.plan.specs.Lent.{shifts_of, old_shifts, old_plan};
 ghost use Rattle.input.specs.Inner.Ready.{TasksReady};
 
 use plan::{
@@ -25,7 +25,7 @@ pub fn has_one_for_each_task(
     heights: &[u16],
     boxes: &[u16],
 ) -> bool
-    ensures { result ≡ one_for_each_task (old capacities) (old task_calendars) (old work_times) (old heights) (old boxes) }
+    ensures { result ≡ one_for_each_task capacities.now task_calendars.now work_times.now heights.now boxes.now }
 {
     let tasks = task_calendars.len();
     if work_times.len() != tasks {
@@ -40,7 +40,7 @@ pub fn has_one_for_each_task(
 // Whether the symbols make calendars of so many hours each, and as many as a plan may have.
 fn has_calendars(calendars: &[u8], hours: Duration) -> bool
     requires { 1 ≤ hours.0 }
-    ensures { result ≡ is_calendars hours.0 (old calendars) }
+    ensures { result ≡ is_calendars hours.0 calendars.now }
 {
     if calendars.len() % hours.0 as usize != 0 {
         return false;
@@ -51,7 +51,7 @@ fn has_calendars(calendars: &[u8], hours: Duration) -> bool
 // Whether the symbol at an index is r, c or o.
 fn is_symbol(calendars: &[u8], k: usize) -> bool
     requires { k < length calendars.now }
-    ensures { result ≡ is_symbol (old calendars) k }
+    ensures { result ≡ is_symbol calendars.now k }
 {
     if is_kind(calendars, k, REGULAR) {
         return true;
@@ -64,7 +64,7 @@ fn is_symbol(calendars: &[u8], k: usize) -> bool
 
 // 4, at the first symbol other than r, c, o.
 fn test_symbols(calendars: &[u8]) -> Tested
-    ensures { tested_fault result ≡ first_of (symbol_fault (old calendars)) (length (old calendars)) }
+    ensures { tested_fault result ≡ first_of (symbol_fault calendars.now) (length calendars.now) }
 {
     for k in 0..calendars.len() {
         if !is_symbol(calendars, k) {
@@ -76,7 +76,7 @@ fn test_symbols(calendars: &[u8]) -> Tested
 
 // H and the calendars: 2, 3, 4.
 fn test_calendars(hours: u16, calendars: &[u8]) -> Tested
-    ensures { tested_fault result ≡ calendars_fault hours (old calendars) }
+    ensures { tested_fault result ≡ calendars_fault hours calendars.now }
 {
     let MaybeDuration::Within(plan_length) = Duration::of_plan(hours as usize) else {
         return Tested::Refused(Refusal::Hours);
@@ -89,7 +89,7 @@ fn test_calendars(hours: u16, calendars: &[u8]) -> Tested
 
 // 10, of any room.
 fn test_capacities(capacities: &[u16]) -> Tested
-    ensures { tested_fault result ≡ first_of (capacity_fault (old capacities)) (length (old capacities)) }
+    ensures { tested_fault result ≡ first_of (capacity_fault capacities.now) (length capacities.now) }
 {
     for room in 0..capacities.len() {
         let MaybeHeight::Within(_) = Height::of_plan(capacities[room]) else {
@@ -101,7 +101,7 @@ fn test_capacities(capacities: &[u16]) -> Tested
 
 // Counts and the capacities: 5, 17, 10.
 fn test_counts(tasks: usize, capacities: &[u16]) -> Tested
-    ensures { tested_fault result ≡ counts_fault tasks (old capacities) }
+    ensures { tested_fault result ≡ counts_fault tasks capacities.now }
 {
     if !Bounds::is_count(tasks) {
         return Tested::Refused(Refusal::Tasks);
@@ -115,7 +115,7 @@ fn test_counts(tasks: usize, capacities: &[u16]) -> Tested
 // 8, of a task of so many in any of so many rooms.
 fn test_heights(rooms: usize, tasks: usize, heights: &[u16], task: usize) -> Tested
     requires { (length heights.now ≡ rooms * tasks) × (task < tasks) }
-    ensures { tested_fault result ≡ first_of (height_fault tasks (old heights) task) rooms }
+    ensures { tested_fault result ≡ first_of (height_fault tasks heights.now task) rooms }
 {
     for room in 0..rooms {
         let height = height_at(room_part(heights, tasks, room), task);
@@ -139,7 +139,7 @@ fn test_task(
     bounds: Bounds,
 ) -> Tested
     requires { (length heights.now ≡ rooms * tasks) × (task < tasks) }
-    ensures { tested_fault result ≡ one_task_fault hours.0 calendars rooms tasks (old heights) task calendar work_time bounds }
+    ensures { tested_fault result ≡ one_task_fault hours.0 calendars rooms tasks heights.now task calendar work_time bounds }
 {
     let MaybeCalendarNumber::Within(_) = CalendarNumber::of_plan(calendar, calendars) else {
         return Tested::Refused(Refusal::NoCalendar(task));
@@ -169,7 +169,7 @@ fn test_tasks(
 ) -> Tested
     requires { TasksReady (shifts_of hours.0 calendars task_calendars work_times) rooms heights.now boxes.now }
     ensures { let S = old_shifts hours.0 calendars task_calendars work_times in
-        tested_fault result ≡ tasks_fault S rooms (old heights) (old boxes) }
+        tested_fault result ≡ tasks_fault S rooms heights.now boxes.now }
 {
     let count = calendar_count(calendars, hours);
     for i in 0..task_calendars.len() {
@@ -203,7 +203,7 @@ pub fn test_plan(
 ) -> Tested
     requires { one_for_each_task capacities.now task_calendars.now work_times.now heights.now boxes.now ≡ true }
     ensures { let P = old_plan hours capacities calendars task_calendars work_times heights in
-        tested_fault result ≡ plan_fault P (old boxes) }
+        tested_fault result ≡ plan_fault P boxes.now }
 {
     let by_calendars = test_calendars(hours, calendars);
     let Tested::Passed = by_calendars else {
@@ -235,7 +235,7 @@ pub fn test_input(
     boxes: &[u16],
 ) -> Tested
     ensures { let P = old_plan hours capacities calendars task_calendars work_times heights in
-        tested_fault result ≡ input_fault P (old boxes) }
+        tested_fault result ≡ input_fault P boxes.now }
 {
     if !has_one_for_each_task(capacities, task_calendars, work_times, heights, boxes) {
         return Tested::Refused(Refusal::MemorySize);

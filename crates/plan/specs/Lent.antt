@@ -1,5 +1,5 @@
--- How a contract names what its caller lends. A `requires` has each reference as it is then; an `ensures` has it twice, as the function began and
--- as it returns.
+-- How a contract names the plan that its caller lends. A `requires` has each reference as it is then; an `ensures` has it twice, as the function
+-- began and as it returns.
 use Rattle.std.specs.Prelude.{List, ℕ}
 use Rattle.std.specs.Borrow.{Bor}
 use denote.Triple.Both.{Both}
@@ -9,12 +9,9 @@ use Rattle.plan.specs.Plan.{Shifts, Plan, shifts, plan}
 abbrev pub Lent : Type 0 → Type 0
 Lent X = Both (Bor X) (Bor X)
 
--- what lay behind it as the function began, and what lies there as it returns
+-- what lay behind it as the function began
 abbrev pub old : {X : Type 0} → Lent X → X
 old s = s.entry.now
-
-abbrev pub left : {X : Type 0} → Lent X → X
-left s = s.exit.now
 
 -- the plan that the slices hold, and of it the part that the calendar rule reads: in a `requires`, and in an `ensures` as the function began
 abbrev pub shifts_of : ℕ → Bor (List ℕ) → Bor (List ℕ) → Bor (List ℕ) → Shifts

@@ -1,12 +1,12 @@
 // A plan in lent memory: its parts, and why a call is refused.
 #![tactic(auto)]
+
 ghost use Rattle.std.specs.Prelude.{◌≡◌, ◌+◌, ◌*◌, ◌/◌, ◌≤◌, ◌<◌, length, get_or, take, drop};
 ghost use Rattle.units.specs.Limits.{box_numbers, height};
 ghost use Rattle.plan.specs.Plan.{first_symbol, room_part};
 ghost use Rattle.plan.specs.HourKinds.{is_kind};
 ghost use Rattle.plan.specs.Boxes.{bounds_at, with_bounds};
 ghost use Rattle.plan.specs.Refusals.{fault_of};
-ghost use Rattle.plan.specs.Lent.{old, left};
 
 use units::{Bounds, Duration, Height, Hour};
 
@@ -87,7 +87,7 @@ pub fn fault_of(r: Refusal) -> Fault
 // The box of task i.
 pub fn bounds_at(boxes: &[u16], i: usize) -> Bounds
     requires { box_numbers * i + box_numbers ≤ length boxes.now }
-    ensures { result ≡ bounds_at (old boxes) i }
+    ensures { result ≡ bounds_at boxes.now i }
 {
     let first = Bounds::NUMBERS * i;
     Bounds {
@@ -103,7 +103,7 @@ pub fn bounds_at(boxes: &[u16], i: usize) -> Bounds
 // Another box for task i.
 pub fn put_bounds(boxes: &mut [u16], i: usize, b: Bounds)
     requires { box_numbers * i + box_numbers ≤ length boxes.old }
-    ensures { left boxes ≡ with_bounds (old boxes) i b }
+    ensures { boxes.new ≡ with_bounds boxes.old i b }
 {
     let first = Bounds::NUMBERS * i;
     boxes[first] = b.earliest.0;
@@ -117,7 +117,7 @@ pub fn put_bounds(boxes: &mut [u16], i: usize, b: Bounds)
 // Of numbers that lie room by room, so many a room, those of one: the heights of all tasks in a room, the loads of all hours.
 pub fn room_part(numbers: &[u16], each: usize, room: usize) -> &[u16]
     requires { room * each + each ≤ length numbers.now }
-    ensures { result.now ≡ room_part each (old numbers) room }
+    ensures { result.now ≡ room_part each numbers.now room }
 {
     let from = room * each;
     &numbers[from..from + each]
@@ -126,7 +126,7 @@ pub fn room_part(numbers: &[u16], each: usize, room: usize) -> &[u16]
 // The height of task i.
 pub fn height_at(heights: &[u16], i: usize) -> Height
     requires { i < length heights.now }
-    ensures { result ≡ height (get_or (old heights) i 0) }
+    ensures { result ≡ height (get_or heights.now i 0) }
 {
     Height(heights[i])
 }
@@ -141,7 +141,7 @@ pub const OVERTIME: u8 = b'o';
 // Whether an hour of a calendar is of the kind. Nothing else reads a symbol.
 pub fn is_kind(calendar: &[u8], t: usize, kind: u8) -> bool
     requires { t < length calendar.now }
-    ensures { result ≡ is_kind kind (old calendar) t }
+    ensures { result ≡ is_kind kind calendar.now t }
 {
     calendar[t] == kind
 }
@@ -178,7 +178,7 @@ pub fn first_symbol(number: u16, hours: Duration) -> usize
 // The symbols of one calendar.
 pub fn calendar_at(calendars: &[u8], hours: Duration, number: u16) -> &[u8]
     requires { first_symbol hours.0 number + hours.0 ≤ length calendars.now }
-    ensures { result.now ≡ take hours.0 (drop (first_symbol hours.0 number) (old calendars)) }
+    ensures { result.now ≡ take hours.0 (drop (first_symbol hours.0 number) calendars.now) }
 {
     let each = hours.0;
     let from = first_within(calendars.len(), number, each);
@@ -189,7 +189,7 @@ pub fn calendar_at(calendars: &[u8], hours: Duration, number: u16) -> &[u8]
 // How many calendars of so many hours there are.
 pub fn calendar_count(calendars: &[u8], hours: Duration) -> usize
     requires { 1 ≤ hours.0 }
-    ensures { result ≡ length (old calendars) / hours.0 }
+    ensures { result ≡ length calendars.now / hours.0 }
 {
     calendars.len() / hours.0 as usize
 }

@@ -4,7 +4,6 @@ ghost use Rattle.std.specs.Prelude.{true, List, ◌∷◌, [], ◌++◌, ◌≡�
 ghost use Rattle.units.specs.Choice.{◌and◌};
 ghost use Rattle.units.specs.Cells.{written_at};
 ghost use Rattle.units.specs.Limits.{most_rooms, most_tasks, box_numbers};
-ghost use Rattle.plan.specs.Lent.{old, left};
 ghost use Rattle.text.specs.Fields.{lf, parts};
 ghost use Rattle.plan_format.specs.Records.{plan_record, cal_record, task_record};
 ghost use Rattle.plan_format.specs.Text.{Read, most_bytes, plan_section, nothing, comes, is_task_line, with_record, with_line, read_lines, read_text};
@@ -90,8 +89,8 @@ fn last_hour(hours: u16) -> u16
 // Stores a calendar's symbols after those of the calendars before it, if there is room.
 fn store_symbols(symbols: &mut [u8], at: usize, calendar: &[u8])
     requires { (at ≤ most_bytes) × (length calendar.now ≤ most_bytes) × (length symbols.old ≡ most_symbols) }
-    ensures { (before : List ℕ) → at ≡ length before → Kept 0 most_symbols before (old symbols)
-        → Kept 0 most_symbols (before ++ old calendar) (left symbols) }
+    ensures { (before : List ℕ) → at ≡ length before → Kept 0 most_symbols before symbols.old
+        → Kept 0 most_symbols (before ++ calendar.now) symbols.new }
 {
     if at + calendar.len() <= symbols.len() {
         put_bytes(symbols, at, calendar);
@@ -101,7 +100,7 @@ fn store_symbols(symbols: &mut [u8], at: usize, calendar: &[u8])
 // Stores the capacities, which follow H among a line's numbers, if there is room.
 fn store_capacities(cells: &mut [u16], rooms: usize, numbers: &[u16])
     requires { (length cells.old ≡ store_size) × (length numbers.now ≡ most_numbers) }
-    ensures { (ns : List ℕ) → Begin ns (1 + rooms) (old numbers) → Kept capacities_at most_rooms (drop 1 ns) (left cells) }
+    ensures { (ns : List ℕ) → Begin ns (1 + rooms) numbers.now → Kept capacities_at most_rooms (drop 1 ns) cells.new }
 {
     if rooms <= RoomNumber::MOST {
         put_cells(cells, CAPACITIES, &numbers[1..1 + rooms]);
@@ -111,7 +110,7 @@ fn store_capacities(cells: &mut [u16], rooms: usize, numbers: &[u16])
 // Stores a task's height in each room.
 fn store_heights(cells: &mut [u16], task: usize, rooms: usize, numbers: &[u16])
     requires { (task < most_tasks) × (rooms ≤ most_rooms) × (length cells.old ≡ store_size) × (rooms + 2 ≤ length numbers.now) }
-    ensures { left cells ≡ with_heights task (old numbers) rooms (old cells) }
+    ensures { cells.new ≡ with_heights task numbers.now rooms cells.old }
 {
     for room in 0..rooms {
         cells[HEIGHTS + Bounds::MOST * room + task] = numbers[room + SHORT];
@@ -121,7 +120,7 @@ fn store_heights(cells: &mut [u16], task: usize, rooms: usize, numbers: &[u16])
 // Stores a task's box: the bounds of its line, or all that its work time allows without overtime.
 fn store_box(cells: &mut [u16], task: usize, hours: u16, rooms: usize, numbers: &[u16])
     requires { (task < most_tasks) × (rooms ≤ most_rooms) × (length cells.old ≡ store_size) × (rooms + 2 ≤ length numbers.now) }
-    ensures { left cells ≡ written_at (boxes_at + box_numbers * task) (box_of hours rooms (old numbers)) (old cells) }
+    ensures { cells.new ≡ written_at (boxes_at + box_numbers * task) (box_of hours rooms numbers.now) cells.old }
 {
     if numbers.len() == rooms + LONG {
         put_cells(
@@ -146,8 +145,8 @@ fn store_task(
     numbers: &[u16],
 )
     requires { (length cells.old ≡ store_size) × (length numbers.now ≡ most_numbers) × (is_task_line rooms count ≡ true) }
-    ensures { (rs ns : List ℕ) (tasks : List (List ℕ)) → rooms ≡ length rs → task ≡ length tasks → Begin ns count (old numbers)
-        → KeepsTasks hours rs tasks (old cells) → KeepsTasks hours rs (tasks ++ (ns ∷ [])) (left cells) }
+    ensures { (rs ns : List ℕ) (tasks : List (List ℕ)) → rooms ≡ length rs → task ≡ length tasks → Begin ns count numbers.now
+        → KeepsTasks hours rs tasks cells.old → KeepsTasks hours rs (tasks ++ (ns ∷ [])) cells.new }
 {
     if RoomNumber::MOST < rooms {
         return;
@@ -192,8 +191,8 @@ fn is_task_line(rooms: usize, numbers: usize) -> bool
 // After a `plan` line of so many numbers.
 fn with_plan(scan: Scan, count: usize, numbers: &[u16], cells: &mut [u16]) -> MaybeScan
     requires { (1 ≤ count) × (length numbers.now ≡ most_numbers) × (length cells.old ≡ store_size) }
-    ensures { (r : Read) (n : ℕ) (symbols ns : List ℕ) → Begin ns count (old numbers) → Holds r scan n symbols (old cells)
-        → Follows (with_record r (plan_record (get_or ns 0 0) (drop 1 ns))) result n symbols (left cells) }
+    ensures { (r : Read) (n : ℕ) (symbols ns : List ℕ) → Begin ns count numbers.now → Holds r scan n symbols cells.old
+        → Follows (with_record r (plan_record (get_or ns 0 0) (drop 1 ns))) result n symbols cells.new }
 {
     if !may_come(PLAN, scan.reached) {
         return MaybeScan::Broken;
@@ -224,8 +223,8 @@ fn is_even(even: bool, symbols: usize, hours: u16) -> bool
 // After a `cal` line.
 fn with_calendar(scan: Scan, calendar: &[u8], symbols: &mut [u8]) -> MaybeScan
     requires { (counted scan ≤ most_bytes) × (length calendar.now ≤ most_bytes) × (length symbols.old ≡ most_symbols) }
-    ensures { (r : Read) (n : ℕ) (cells : List ℕ) → Holds r scan n (old symbols) cells
-        → Follows (with_record r (cal_record (old calendar))) result (n + (length (old calendar) + 1)) (left symbols) cells }
+    ensures { (r : Read) (n : ℕ) (cells : List ℕ) → Holds r scan n symbols.old cells
+        → Follows (with_record r (cal_record calendar.now)) result (n + (length calendar.now + 1)) symbols.new cells }
 {
     if !may_come(CALENDARS, scan.reached) {
         return MaybeScan::Broken;
@@ -245,8 +244,8 @@ fn with_calendar(scan: Scan, calendar: &[u8], symbols: &mut [u8]) -> MaybeScan
 // After a `task` line of so many numbers.
 fn with_task(scan: Scan, count: usize, numbers: &[u16], cells: &mut [u16]) -> MaybeScan
     requires { (counted scan ≤ most_bytes) × (length numbers.now ≡ most_numbers) × (length cells.old ≡ store_size) }
-    ensures { (r : Read) (n : ℕ) (symbols ns : List ℕ) → Begin ns count (old numbers) → Holds r scan n symbols (old cells)
-        → Follows (with_record r (task_record ns)) result (n + 1) symbols (left cells) }
+    ensures { (r : Read) (n : ℕ) (symbols ns : List ℕ) → Begin ns count numbers.now → Holds r scan n symbols cells.old
+        → Follows (with_record r (task_record ns)) result (n + 1) symbols cells.new }
 {
     if !may_come(TASKS, scan.reached) {
         return MaybeScan::Broken;
@@ -269,8 +268,8 @@ fn with_task(scan: Scan, count: usize, numbers: &[u16], cells: &mut [u16]) -> Ma
 // After another line.
 fn with_line(scan: Scan, line: &[u8], symbols: &mut [u8], cells: &mut [u16]) -> MaybeScan
     requires { (counted scan ≤ most_bytes) × (length line.now ≤ most_bytes) × Sized symbols.old cells.old }
-    ensures { (r : Read) (n : ℕ) → Holds r scan n (old symbols) (old cells)
-        → Follows (with_line r (old line)) result (n + (length (old line) + 1)) (left symbols) (left cells) }
+    ensures { (r : Read) (n : ℕ) → Holds r scan n symbols.old cells.old
+        → Follows (with_line r line.now) result (n + (length line.now + 1)) symbols.new cells.new }
 {
     let mut numbers = [0u16; MOST_NUMBERS];
     let found = plan_records::record_of(line, &mut numbers);
@@ -298,7 +297,7 @@ fn is_end(whole: bool, reached: usize, left: usize) -> bool
 // The lines of a text, or of as much of it as is looked at.
 fn read_lines(text: &[u8], whole: bool, symbols: &mut [u8], cells: &mut [u16]) -> Scanned
     requires { (length text.now ≤ most_bytes) × Sized symbols.old cells.old }
-    ensures { Scans (read_lines whole 1 nothing (parts lf (old text))) result (left symbols) (left cells) }
+    ensures { Scans (read_lines whole 1 nothing (parts lf text.now)) result symbols.new cells.new }
 {
     let mut scan = Scan {
         reached: 0,
@@ -333,7 +332,7 @@ fn read_lines(text: &[u8], whole: bool, symbols: &mut [u8], cells: &mut [u16]) -
 // The first line that breaks the rules, or all that a text holds. No byte past the most is looked at.
 pub fn read_text(text: &[u8], symbols: &mut [u8], cells: &mut [u16]) -> Scanned
     requires { Sized symbols.old cells.old }
-    ensures { Scans (read_text (old text)) result (left symbols) (left cells) }
+    ensures { Scans (read_text text.now) result symbols.new cells.new }
 {
     if text.len() <= MOST_BYTES {
         return read_lines(text, true, symbols, cells);

@@ -1,7 +1,6 @@
 // The records of plan text, one a line.
 #![tactic(auto)]
 ghost use Rattle.std.specs.Prelude.{List, ℕ, ◌≤◌, length, drop};
-ghost use Rattle.plan.specs.Lent.{old, left};
 ghost use Rattle.text.specs.Fields.{tab, parts};
 ghost use Rattle.text.specs.Reading.{NumbersMade};
 ghost use Rattle.plan_format.specs.Records.{numbers_if, plan_of, cal_of, task_of, record_of};
@@ -22,7 +21,7 @@ pub enum LineRecord {
 // The numbers in the fields from an index of the line on, if there are `least` of them or more.
 fn numbers_from(line: &[u8], from: usize, least: usize, numbers: &mut [u16]) -> MaybeNumbers
     requires { from ≤ length line.now }
-    ensures { NumbersMade (numbers_if least (parts tab (drop from (old line)))) result (left numbers) }
+    ensures { NumbersMade (numbers_if least (parts tab (drop from line.now))) result numbers.new }
 {
     let MaybeNumbers::Count(count) = numbers_of(&line[from..], numbers) else {
         return MaybeNumbers::NotNumbers;
@@ -36,7 +35,7 @@ fn numbers_from(line: &[u8], from: usize, least: usize, numbers: &mut [u16]) -> 
 // `plan`: H and the capacities, in the fields from an index of the line on.
 fn plan_of(line: &[u8], from: usize, numbers: &mut [u16]) -> LineRecord
     requires { from ≤ length line.now }
-    ensures { Finds (plan_of (parts tab (drop from (old line)))) result (old line) (left numbers) }
+    ensures { Finds (plan_of (parts tab (drop from line.now))) result line.now numbers.new }
 {
     let MaybeNumbers::Count(count) = numbers_from(line, from, 1, numbers) else {
         return LineRecord::Other;
@@ -47,7 +46,7 @@ fn plan_of(line: &[u8], from: usize, numbers: &mut [u16]) -> LineRecord
 // `cal`: one field of symbols, from an index of the line on. It stores no numbers, so the contract takes any.
 fn cal_of(line: &[u8], from: usize) -> LineRecord
     requires { from ≤ length line.now }
-    ensures { (cells : List ℕ) → Finds (cal_of (parts tab (drop from (old line)))) result (old line) cells }
+    ensures { (cells : List ℕ) → Finds (cal_of (parts tab (drop from line.now))) result line.now cells }
 {
     let fields = &line[from..];
     if end_of(fields, TAB) != fields.len() {
@@ -62,7 +61,7 @@ fn cal_of(line: &[u8], from: usize) -> LineRecord
 // `task`: calendar, p and what follows, in the fields from an index of the line on.
 fn task_of(line: &[u8], from: usize, numbers: &mut [u16]) -> LineRecord
     requires { from ≤ length line.now }
-    ensures { Finds (task_of (parts tab (drop from (old line)))) result (old line) (left numbers) }
+    ensures { Finds (task_of (parts tab (drop from line.now))) result line.now numbers.new }
 {
     let MaybeNumbers::Count(count) = numbers_from(line, from, 2, numbers) else {
         return LineRecord::Other;
@@ -72,7 +71,7 @@ fn task_of(line: &[u8], from: usize, numbers: &mut [u16]) -> LineRecord
 
 // A line's record, by its first field. The cells hold the first of its numbers, as many as there is room for.
 pub fn record_of(line: &[u8], numbers: &mut [u16]) -> LineRecord
-    ensures { Finds (record_of (old line)) result (old line) (left numbers) }
+    ensures { Finds (record_of line.now) result line.now numbers.new }
 {
     let end = end_of(line, TAB);
     if end == line.len() {

@@ -7,7 +7,6 @@ ghost use Rattle.units.specs.Choice.{◌or_else◌};
 ghost use Rattle.units.specs.Limits.{most_rooms, most_tasks, box_numbers};
 ghost use Rattle.plan.specs.Plan.{plan};
 ghost use Rattle.plan.specs.Refusals.{fault_of, tested_fault};
-ghost use Rattle.plan.specs.Lent.{old, left};
 ghost use Rattle.plan.specs.Faults.{plan_fault};
 ghost use Rattle.plan_format.specs.Text.{Read, most_bytes};
 ghost use Rattle.plan_format.specs.Reading.{most_symbols, most_heights, is_enough, line_fault, read_fault, end_with, read_tested, read_plan};
@@ -103,7 +102,7 @@ fn test_lines(scan: Scan) -> Tested
 // Gathers the heights of so many tasks in so many rooms, without the gaps between the rooms, if there is room. Answers how many they are.
 fn gather_heights(rooms: usize, tasks: usize, cells: &[u16], heights: &mut [u16]) -> usize
     requires { (length cells.now ≡ store_size) × (length heights.old ≡ most_heights) }
-    ensures { (result ≤ most_heights) × Gathered rooms tasks (old cells) (take result (left heights)) }
+    ensures { (result ≤ most_heights) × Gathered rooms tasks cells.now (take result heights.new) }
 {
     if RoomNumber::MOST < rooms {
         return 0;
@@ -132,7 +131,7 @@ fn test_stored(
         × (tasks ≤ most_tasks)
         × (length cells.now ≡ store_size)
         × (heights.now ≡ stored_heights rooms tasks cells.now) }
-    ensures { tested_fault result ≡ plan_fault (stored_plan hours rooms tasks (old symbols) (old cells)) (stored_boxes tasks (old cells)) }
+    ensures { tested_fault result ≡ plan_fault (stored_plan hours rooms tasks symbols.now cells.now) (stored_boxes tasks cells.now) }
 {
     input::test_plan(
         hours,
@@ -147,7 +146,7 @@ fn test_stored(
 
 // The tests of H and the calendars, as in a plan of one room and no task; then a refusal.
 fn test_symbols(hours: u16, symbols: &[u8], refusal: Refusal) -> Tested
-    ensures { tested_fault result ≡ (plan_fault (plan hours (0 ∷ []) (old symbols) [] [] []) [] or_else some (fault_of refusal)) }
+    ensures { tested_fault result ≡ (plan_fault (plan hours (0 ∷ []) symbols.now [] [] []) [] or_else some (fault_of refusal)) }
 {
     let numbers = [0u16; 1];
     let room = &numbers[..];
@@ -162,7 +161,7 @@ fn test_symbols(hours: u16, symbols: &[u8], refusal: Refusal) -> Tested
 // The tests of a whole text. Of more tasks or rooms than are stored, it asks for the symbols alone.
 fn test_read(scan: Scan, symbols: &[u8], cells: &[u16], heights: &[u16]) -> Tested
     requires { Stored scan symbols.now cells.now × Gathered scan.rooms scan.tasks cells.now heights.now }
-    ensures { (r : Read) → Holds r scan most_bytes (old symbols) (old cells) → tested_fault result ≡ read_fault true r }
+    ensures { (r : Read) → Holds r scan most_bytes symbols.now cells.now → tested_fault result ≡ read_fault true r }
 {
     let lines = test_lines(scan);
     let Tested::Passed = lines else {
@@ -194,9 +193,9 @@ fn store_shifts(
         × (length symbols.now ≤ length calendars.old)
         × (tasks ≤ length task_calendars.old)
         × (tasks ≤ length work_times.old) }
-    ensures { (left calendars ≡ written (old symbols) (old calendars))
-        × (left task_calendars ≡ written (section calendars_at tasks (old cells)) (old task_calendars))
-        × (left work_times ≡ written (section work_times_at tasks (old cells)) (old work_times)) }
+    ensures { (calendars.new ≡ written symbols.now calendars.old)
+        × (task_calendars.new ≡ written (section calendars_at tasks cells.now) task_calendars.old)
+        × (work_times.new ≡ written (section work_times_at tasks cells.now) work_times.old) }
 {
     put_bytes(calendars, 0, symbols);
     put_cells(task_calendars, 0, &cells[..tasks]);
@@ -219,9 +218,9 @@ fn store_rooms(
         × (rooms ≤ length capacities.old)
         × (length gathered.now ≤ length heights.old)
         × (box_numbers * tasks ≤ length boxes.old) }
-    ensures { (left capacities ≡ written (section capacities_at rooms (old cells)) (old capacities))
-        × (left heights ≡ written (old gathered) (old heights))
-        × (left boxes ≡ written (stored_boxes tasks (old cells)) (old boxes)) }
+    ensures { (capacities.new ≡ written (section capacities_at rooms cells.now) capacities.old)
+        × (heights.new ≡ written gathered.now heights.old)
+        × (boxes.new ≡ written (stored_boxes tasks cells.now) boxes.old) }
 {
     put_cells(capacities, 0, &cells[CAPACITIES..CAPACITIES + rooms]);
     put_cells(heights, 0, gathered);
@@ -248,12 +247,12 @@ fn store_plan(
         × (length symbols.now ≤ most_symbols)
         × (length gathered.now ≤ most_heights)
         × (is_enough capacities.old calendars.old task_calendars.old work_times.old heights.old boxes.old ≡ true) }
-    ensures { (left capacities ≡ written (section capacities_at rooms (old cells)) (old capacities))
-        × (left calendars ≡ written (old symbols) (old calendars))
-        × (left task_calendars ≡ written (section calendars_at tasks (old cells)) (old task_calendars))
-        × (left work_times ≡ written (section work_times_at tasks (old cells)) (old work_times))
-        × (left heights ≡ written (old gathered) (old heights))
-        × (left boxes ≡ written (stored_boxes tasks (old cells)) (old boxes)) }
+    ensures { (capacities.new ≡ written (section capacities_at rooms cells.now) capacities.old)
+        × (calendars.new ≡ written symbols.now calendars.old)
+        × (task_calendars.new ≡ written (section calendars_at tasks cells.now) task_calendars.old)
+        × (work_times.new ≡ written (section work_times_at tasks cells.now) work_times.old)
+        × (heights.new ≡ written gathered.now heights.old)
+        × (boxes.new ≡ written (stored_boxes tasks cells.now) boxes.old) }
 {
     store_shifts(tasks, symbols, cells, calendars, task_calendars, work_times);
     store_rooms(rooms, tasks, cells, gathered, capacities, heights, boxes);
@@ -275,9 +274,9 @@ fn keep_plan(
     requires { Stored scan symbols.now cells.now
         × Gathered scan.rooms scan.tasks cells.now gathered.now
         × (length gathered.now ≤ most_heights) }
-    ensures { (r : Read) → Holds r scan most_bytes (old symbols) (old cells)
-        → end_with (reading_answer result) (left capacities) (left calendars) (left task_calendars) (left work_times) (left heights) (left boxes)
-        ≡ read_tested (old capacities) (old calendars) (old task_calendars) (old work_times) (old heights) (old boxes) r }
+    ensures { (r : Read) → Holds r scan most_bytes symbols.now cells.now
+        → end_with (reading_answer result) capacities.new calendars.new task_calendars.new work_times.new heights.new boxes.new
+        ≡ read_tested capacities.old calendars.old task_calendars.old work_times.old heights.old boxes.old r }
 {
     if !is_enough(
         capacities.len(),
@@ -326,8 +325,8 @@ pub fn read_plan(
     heights: &mut [u16],
     boxes: &mut [u16],
 ) -> PlanReading
-    ensures { end_with (reading_answer result) (left capacities) (left calendars) (left task_calendars) (left work_times) (left heights) (left boxes)
-        ≡ read_plan (old capacities) (old calendars) (old task_calendars) (old work_times) (old heights) (old boxes) (old text) }
+    ensures { end_with (reading_answer result) capacities.new calendars.new task_calendars.new work_times.new heights.new boxes.new
+        ≡ read_plan capacities.old calendars.old task_calendars.old work_times.old heights.old boxes.old text.now }
 {
     let mut symbols = [0u8; MOST_SYMBOLS];
     let mut cells = [0u16; CELLS];

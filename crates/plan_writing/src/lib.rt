@@ -9,7 +9,7 @@ ghost use Rattle.plan.specs.Plan.{shifts, calendar_count};
 ghost use Rattle.plan.specs.Boxes.{box_cells};
 ghost use Rattle.plan.specs.Refusals.{answered};
 ghost use Rattle.plan.specs.Faults.{one_for_each_task, input_fault};
-ghost use Rattle.plan.specs.Lent.{old, left, plan_of, old_plan};
+ghost use Rattle.plan.specs.Lent.{plan_of, old_plan};
 ghost use Rattle.plan_format.specs.Records.{cal_record, record_line};
 ghost use Rattle.plan_format.specs.Text.{text_of};
 ghost use Rattle.plan_format.specs.Writing.{cal_records, heights_at, task_numbers, task_records, text_of_plan, write_end, write_plan, ReadsBack};
@@ -37,7 +37,7 @@ const TASK_NUMBERS: usize = 2 + RoomNumber::MOST + Bounds::NUMBERS;
 // The numbers of the plan line, as many as there are rooms and one.
 fn plan_numbers(hours: Duration, capacities: &[u16]) -> [usize; PLAN_NUMBERS]
     requires { length capacities.now ≤ most_rooms }
-    ensures { take (length (old capacities) + 1) result ≡ hours.0 ∷ old capacities }
+    ensures { take (length capacities.now + 1) result ≡ hours.0 ∷ capacities.now }
 {
     let mut numbers = [0; PLAN_NUMBERS];
     numbers[0] = hours.0 as usize;
@@ -60,9 +60,9 @@ fn height_numbers(
         × (length work_times.now ≡ tasks)
         × (length heights.now ≡ length capacities.now * tasks)
         × (i < tasks) }
-    ensures { let rooms = length (old capacities) in
+    ensures { let rooms = length capacities.now in
         take (rooms + 2) result
-        ≡ get_or (old task_calendars) i 0 ∷ get_or (old work_times) i 0 ∷ heights_at rooms (length (old task_calendars)) (old heights) i }
+        ≡ get_or task_calendars.now i 0 ∷ get_or work_times.now i 0 ∷ heights_at rooms (length task_calendars.now) heights.now i }
 {
     let mut numbers = [0; TASK_NUMBERS];
     numbers[0] = task_calendars[i] as usize;
@@ -101,8 +101,8 @@ fn task_numbers(
     requires { (one_for_each_task capacities.now task_calendars.now work_times.now heights.now boxes.now ≡ true)
         × (length capacities.now ≤ most_rooms)
         × (i < length task_calendars.now) }
-    ensures { let rooms = length (old capacities) in
-        take (rooms + 8) result ≡ task_numbers rooms (old task_calendars) (old work_times) (old heights) (old boxes) i }
+    ensures { let rooms = length capacities.now in
+        take (rooms + 8) result ≡ task_numbers rooms task_calendars.now work_times.now heights.now boxes.now i }
 {
     let first = height_numbers(capacities, task_calendars, work_times, heights, i);
     with_bounds(first, capacities.len() + 2, bounds_at(boxes, i))
@@ -119,8 +119,8 @@ fn tasks_length(
     requires { (one_for_each_task capacities.now task_calendars.now work_times.now heights.now boxes.now ≡ true)
         × (length capacities.now ≤ most_rooms)
         × (length task_calendars.now ≤ most_tasks) }
-    ensures { let rooms = length (old capacities) in
-        let records = task_records rooms (old task_calendars) (old work_times) (old heights) (old boxes) (length (old task_calendars)) in
+    ensures { let rooms = length capacities.now in
+        let records = task_records rooms task_calendars.now work_times.now heights.now boxes.now (length task_calendars.now) in
         (result ≡ length (text_of records)) × (result ≤ 350 * most_tasks) }
 {
     let mut bytes = 0;
@@ -146,7 +146,7 @@ fn text_length(
 ) -> usize
     requires { input_fault (plan_of hours.0 capacities calendars task_calendars work_times heights) boxes.now ≡ none }
     ensures { let P = old_plan hours.0 capacities calendars task_calendars work_times heights in
-        result ≡ length (text_of_plan P (old boxes)) }
+        result ≡ length (text_of_plan P boxes.now) }
 {
     let numbers = plan_numbers(hours, capacities);
     let first = line_length(b"plan", &numbers[..capacities.len() + 1]);
@@ -157,7 +157,7 @@ fn text_length(
 // The line of a calendar.
 fn put_calendar(out: &mut [u8], at: usize, calendar: &[u8]) -> usize
     requires { at + length (ended (record_line (cal_record calendar.now))) ≤ length out.old }
-    ensures { Put (ended (record_line (cal_record (old calendar)))) at (old out) result (left out) }
+    ensures { Put (ended (record_line (cal_record calendar.now))) at out.old result out.new }
 {
     let symbols = put_bytes(out, at, b"cal\t");
     let end = put_bytes(out, symbols, calendar);
@@ -170,8 +170,8 @@ fn put_calendars(out: &mut [u8], at: usize, calendars: &[u8], hours: Duration) -
         (1 ≤ hours.0)
         × (calendar_count S ≤ most_calendars)
         × (at + length (text_of (cal_records S (calendar_count S))) ≤ length out.old) }
-    ensures { let S = shifts hours.0 (old calendars) [] [] in
-        Put (text_of (cal_records S (calendar_count S))) at (old out) result (left out) }
+    ensures { let S = shifts hours.0 calendars.now [] [] in
+        Put (text_of (cal_records S (calendar_count S))) at out.old result out.new }
 {
     let mut end = at;
     for k in 0..calendar_count(calendars, hours) {
@@ -197,9 +197,9 @@ fn put_tasks(
         × (rooms ≤ most_rooms)
         × (length task_calendars.now ≤ most_tasks)
         × (at + length (text_of records) ≤ length out.old) }
-    ensures { let rooms = length (old capacities) in
-        let records = task_records rooms (old task_calendars) (old work_times) (old heights) (old boxes) (length (old task_calendars)) in
-        Put (text_of records) at (old out) result (left out) }
+    ensures { let rooms = length capacities.now in
+        let records = task_records rooms task_calendars.now work_times.now heights.now boxes.now (length task_calendars.now) in
+        Put (text_of records) at out.old result out.new }
 {
     let mut end = at;
     for i in 0..task_calendars.len() {
@@ -223,7 +223,7 @@ fn put_text(
     requires { let P = plan_of hours.0 capacities calendars task_calendars work_times heights in
         (input_fault P boxes.now ≡ none) × (length (text_of_plan P boxes.now) ≤ length out.old) }
     ensures { let P = old_plan hours.0 capacities calendars task_calendars work_times heights in
-        Put (text_of_plan P (old boxes)) 0 (old out) result (left out) }
+        Put (text_of_plan P boxes.now) 0 out.old result out.new }
 {
     let numbers = plan_numbers(hours, capacities);
     let first = put_line(out, 0, b"plan", &numbers[..capacities.len() + 1]);
@@ -252,7 +252,7 @@ fn write_passed(
 ) -> PlanWriting
     requires { input_fault (plan_of hours.0 capacities calendars task_calendars work_times heights) boxes.now ≡ none }
     ensures { let P = old_plan hours.0 capacities calendars task_calendars work_times heights in
-        write_end (writing_answer result) (left out) ≡ write_plan P (old boxes) (old out) }
+        write_end (writing_answer result) out.new ≡ write_plan P boxes.now out.old }
 {
     let length = text_length(
         hours,
@@ -291,9 +291,9 @@ pub fn write_plan(
     out: &mut [u8],
 ) -> PlanWriting
     ensures out_value { let P = old_plan hours capacities calendars task_calendars work_times heights in
-        write_end (writing_answer result) (left out) ≡ write_plan P (old boxes) (old out) }
+        write_end (writing_answer result) out.new ≡ write_plan P boxes.now out.old }
     ensures back { let P = old_plan hours capacities calendars task_calendars work_times heights in
-        ((n : ℕ) → writing_answer result ≡ answered n → ReadsBack P (old boxes) (take n (left out))) }
+        ((n : ℕ) → writing_answer result ≡ answered n → ReadsBack P boxes.now (take n out.new)) }
 {
     let tested = input::test_input(
         hours,

@@ -1,6 +1,6 @@
 // The filter: takes the first admitted step of each turn, and logs it.
 ghost use Rattle.std.specs.Prelude.{true, ◌≡◌, ◌+◌, ◌^◌, ◌<◌, length};
-ghost use Rattle.plan.specs.Lent.{old, left, plan_of, old_plan};
+ghost use Rattle.plan.specs.Lent.{plan_of, old_plan};
 ghost use Rattle.plan.specs.Passed.{Passed};
 ghost use Rattle.steps.specs.Filter.{run};
 ghost use Rattle.steps.specs.Entry.{steps_from, one_for_each_step, check_records, filter_end, filter_plan, filter_answer};
@@ -33,9 +33,9 @@ fn run_filter(
         × (one_for_each_step log_kinds.old log_tasks.old log_hours.old ≡ true) }
     requires log_kinds_bound { taken + length log_kinds.old < 2 ^ 64 }
     ensures { let P = old_plan hours.0 capacities calendars task_calendars work_times heights in
-        let run = run P (old boxes) (length (old log_kinds)) in
-        filter_end (filter_answer result) (left boxes) (left log_kinds) (left log_tasks) (left log_hours)
-        ≡ logged_from taken run (old log_kinds) (old log_tasks) (old log_hours) }
+        let run = run P boxes.old (length log_kinds.old) in
+        filter_end (filter_answer result) boxes.new log_kinds.new log_tasks.new log_hours.new
+        ≡ logged_from taken run log_kinds.old log_tasks.old log_hours.old }
 {
     let mut fits = kept::all_fits(hours, calendars, task_calendars, work_times, boxes);
     let mut count: usize = 0;
@@ -92,8 +92,8 @@ pub fn filter_from(
 ) -> Filtered
     requires { taken + length log_kinds.old < 2 ^ 64 }
     ensures { let P = old_plan hours capacities calendars task_calendars work_times heights in
-        filter_end (filter_answer result) (left boxes) (left log_kinds) (left log_tasks) (left log_hours)
-        ≡ filter_from P (old boxes) (old log_kinds) (old log_tasks) (old log_hours) taken }
+        filter_end (filter_answer result) boxes.new log_kinds.new log_tasks.new log_hours.new
+        ≡ filter_from P boxes.old log_kinds.old log_tasks.old log_hours.old taken }
 {
     let tested = entry::test_entry(
         hours,
@@ -139,11 +139,11 @@ pub fn filter(
     log_hours: &mut [u16],
 ) -> Filtered
     ensures log_hours_value { let P = old_plan hours capacities calendars task_calendars work_times heights in
-        filter_end (filter_answer result) (left boxes) (left log_kinds) (left log_tasks) (left log_hours)
-        ≡ filter_plan P (old boxes) (old log_kinds) (old log_tasks) (old log_hours) }
+        filter_end (filter_answer result) boxes.new log_kinds.new log_tasks.new log_hours.new
+        ≡ filter_plan P boxes.old log_kinds.old log_tasks.old log_hours.old }
     ensures holds { let P = old_plan hours capacities calendars task_calendars work_times heights in
-        let steps = steps_from (left log_kinds) (left log_tasks) (left log_hours) 0 in
-        FilterHolds P (old boxes) (check_records P (old boxes)) (length (old log_kinds)) (filter_answer result) (left boxes) steps }
+        let steps = steps_from log_kinds.new log_tasks.new log_hours.new 0 in
+        FilterHolds P boxes.old (check_records P boxes.old) (length log_kinds.old) (filter_answer result) boxes.new steps }
 {
     filter_from(
         hours,

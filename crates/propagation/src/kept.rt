@@ -2,7 +2,7 @@
 ghost use Rattle.std.specs.Prelude.{◌≡◌, ℕ, ◌≤◌, ◌<◌, length, get_or, set};
 ghost use Rattle.units.specs.Limits.{most_tasks};
 ghost use Rattle.plan.specs.Boxes.{with_bounds};
-ghost use Rattle.plan.specs.Lent.{old, left, shifts_of, old_shifts};
+ghost use Rattle.plan.specs.Lent.{shifts_of, old_shifts};
 ghost use Rattle.steps.specs.Load.{fit_at};
 ghost use Rattle.propagation.specs.Inner.Fitting.{Fitting};
 
@@ -19,7 +19,7 @@ pub fn fit_of(
     i: usize,
 ) -> Fit
     requires { Fitting (shifts_of hours.0 calendars task_calendars work_times) boxes.now i }
-    ensures { result ≡ fit_at (old_shifts hours.0 calendars task_calendars work_times) (old boxes) i }
+    ensures { result ≡ fit_at (old_shifts hours.0 calendars task_calendars work_times) boxes.now i }
 {
     let work_time = Duration(work_times[i]);
     let b = plan::bounds_at(boxes, i);
@@ -37,8 +37,8 @@ pub fn all_fits(
 ) -> [Fit; Bounds::MOST]
     requires { (length task_calendars.now ≤ most_tasks)
         × ((i : ℕ) → i < length task_calendars.now → Fitting (shifts_of hours.0 calendars task_calendars work_times) boxes.now i) }
-    ensures { (length result ≡ most_tasks) × ((i : ℕ) → i < length (old task_calendars) → get_or result i Fit.Never
-        ≡ fit_at (old_shifts hours.0 calendars task_calendars work_times) (old boxes) i) }
+    ensures { (length result ≡ most_tasks) × ((i : ℕ) → i < length task_calendars.now → get_or result i Fit.Never
+        ≡ fit_at (old_shifts hours.0 calendars task_calendars work_times) boxes.now i) }
 {
     let mut fits = [Fit::Never; Bounds::MOST];
     for i in 0..task_calendars.len() {
@@ -60,8 +60,8 @@ pub fn move_bounds(
 ) -> [Fit; Bounds::MOST]
     requires { (task < most_tasks)
         × Fitting (shifts_of hours.0 calendars task_calendars work_times) (with_bounds boxes.old task b) task }
-    ensures { (left boxes ≡ with_bounds (old boxes) task b)
-        × (result ≡ set fits task (fit_at (old_shifts hours.0 calendars task_calendars work_times) (left boxes) task)) }
+    ensures { (boxes.new ≡ with_bounds boxes.old task b)
+        × (result ≡ set fits task (fit_at (old_shifts hours.0 calendars task_calendars work_times) boxes.new task)) }
 {
     let i = task as usize;
     plan::put_bounds(boxes, i, b);

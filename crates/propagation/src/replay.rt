@@ -1,6 +1,6 @@
 // The log checker: a log from anyone, step by step, each at its turn.
 ghost use Rattle.std.specs.Prelude.{true, ◌≡◌, ◌+◌, ◌^◌, ◌<◌, length};
-ghost use Rattle.plan.specs.Lent.{old, left, plan_of, old_plan};
+ghost use Rattle.plan.specs.Lent.{plan_of, old_plan};
 ghost use Rattle.plan.specs.Passed.{Passed};
 ghost use Rattle.steps.specs.Log.{replay_from};
 ghost use Rattle.steps.specs.Entry.{steps_in, one_for_each_step, entry_fault, check_log, check_answer, log_answer};
@@ -33,8 +33,8 @@ fn replay_log(
         × (one_for_each_step log_kinds.now log_tasks.now log_hours.now ≡ true) }
     requires log_kinds_bound { from + length log_kinds.now < 2 ^ 64 }
     ensures { let P = old_plan hours.0 capacities calendars task_calendars work_times heights in
-        let e = replay_from P from said (old boxes) (steps_in (old log_kinds) (old log_tasks) (old log_hours)) in
-        (log_answer result ≡ check_answer e) × (left boxes ≡ e.boxes) }
+        let e = replay_from P from said boxes.old (steps_in log_kinds.now log_tasks.now log_hours.now) in
+        (log_answer result ≡ check_answer e) × (boxes.new ≡ e.boxes) }
 {
     let mut fits = kept::all_fits(hours, calendars, task_calendars, work_times, boxes);
     let mut impossible = said;
@@ -106,8 +106,8 @@ pub fn check_from(
 ) -> LogChecked
     requires { from + length log_kinds.now < 2 ^ 64 }
     ensures { let P = old_plan hours capacities calendars task_calendars work_times heights in
-        let e = check_from P (old boxes) (old log_kinds) (old log_tasks) (old log_hours) from said in
-        (log_answer result ≡ check_answer e) × (left boxes ≡ e.boxes) }
+        let e = check_from P boxes.old log_kinds.now log_tasks.now log_hours.now from said in
+        (log_answer result ≡ check_answer e) × (boxes.new ≡ e.boxes) }
 {
     let tested = entry::test_entry(
         hours,
@@ -154,15 +154,15 @@ pub fn check_log(
     log_hours: &[u16],
 ) -> LogChecked
     ensures fact_1 { let P = old_plan hours capacities calendars task_calendars work_times heights in
-        let e = check_log P (old boxes) (old log_kinds) (old log_tasks) (old log_hours) in
-        let refusal = entry_fault P (old boxes) (old log_kinds) (old log_tasks) (old log_hours) in
-        let steps = steps_in (old log_kinds) (old log_tasks) (old log_hours) in
-        (log_answer result ≡ check_answer e) × (left boxes ≡ e.boxes) }
+        let e = check_log P boxes.old log_kinds.now log_tasks.now log_hours.now in
+        let refusal = entry_fault P boxes.old log_kinds.now log_tasks.now log_hours.now in
+        let steps = steps_in log_kinds.now log_tasks.now log_hours.now in
+        (log_answer result ≡ check_answer e) × (boxes.new ≡ e.boxes) }
     ensures fact_2 { let P = old_plan hours capacities calendars task_calendars work_times heights in
-        let e = check_log P (old boxes) (old log_kinds) (old log_tasks) (old log_hours) in
-        let refusal = entry_fault P (old boxes) (old log_kinds) (old log_tasks) (old log_hours) in
-        let steps = steps_in (old log_kinds) (old log_tasks) (old log_hours) in
-        CheckedHolds P (old boxes) refusal steps (log_answer result) (left boxes) }
+        let e = check_log P boxes.old log_kinds.now log_tasks.now log_hours.now in
+        let refusal = entry_fault P boxes.old log_kinds.now log_tasks.now log_hours.now in
+        let steps = steps_in log_kinds.now log_tasks.now log_hours.now in
+        CheckedHolds P boxes.old refusal steps (log_answer result) boxes.new }
 {
     check_from(
         hours,

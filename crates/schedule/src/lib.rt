@@ -6,7 +6,7 @@ ghost use Rattle.units.specs.Limits.{most_hours, within};
 ghost use Rattle.units.specs.Sums.{max_to};
 ghost use Rattle.plan.specs.Refusals.{tested_fault};
 ghost use Rattle.plan.specs.Faults.{one_for_each_task};
-ghost use Rattle.plan.specs.Lent.{old, shifts_of, old_shifts, old_plan};
+ghost use Rattle.plan.specs.Lent.{shifts_of, old_shifts, old_plan};
 ghost use Rattle.calendar.specs.Triples.{triple_numbers, end_of, in_bounds};
 ghost use Rattle.schedule.specs.Schedule.{triple_at, runs};
 ghost use Rattle.schedule.specs.Entry.{one_triple_fault, triple_fault, is_sized, check_fault, check_schedule, schedule_answer};
@@ -27,7 +27,7 @@ pub enum ScheduleChecked {
 // The triple of task i.
 fn triple_at(schedule: &[u16], i: usize) -> Triple
     requires { triple_numbers * i + triple_numbers ≤ length schedule.now }
-    ensures { result ≡ triple_at (old schedule) i }
+    ensures { result ≡ triple_at schedule.now i }
 {
     let first = Triple::NUMBERS * i;
     Triple {
@@ -68,7 +68,7 @@ fn test_triple(
     t: Triple,
 ) -> Tested
     requires { length calendar.now ≤ most_hours }
-    ensures { tested_fault result ≡ one_triple_fault (old calendar) work_time.0 bounds task t }
+    ensures { tested_fault result ≡ one_triple_fault calendar.now work_time.0 bounds task t }
 {
     if !is_in_bounds(bounds, t) {
         return Tested::Refused(Refusal::OutsideBounds(task));
@@ -90,7 +90,7 @@ fn test_triples(
 ) -> Tested
     requires { TriplesReady (shifts_of hours.0 calendars task_calendars work_times) boxes.now schedule.now }
     ensures { let S = old_shifts hours.0 calendars task_calendars work_times in
-        tested_fault result ≡ first_of (triple_fault S (old boxes) (triple_at (old schedule))) (length S.task_calendars) }
+        tested_fault result ≡ first_of (triple_fault S boxes.now (triple_at schedule.now)) (length S.task_calendars) }
 {
     for i in 0..task_calendars.len() {
         let tested = test_triple(
@@ -121,7 +121,7 @@ fn is_running(t: Triple, hour: Hour) -> bool
 // The heights in a room of the tasks that run in the hour, added.
 fn running_heights(heights: &[u16], schedule: &[u16], hour: Hour) -> Height
     requires { HoursReady heights.now schedule.now }
-    ensures { result.0 ≡ running_heights (old heights) (old schedule) hour.0 }
+    ensures { result.0 ≡ running_heights heights.now schedule.now hour.0 }
 {
     let mut sum = Height(0);
     for i in 0..heights.len() {
@@ -141,7 +141,7 @@ fn test_hour(
     hour: Hour,
 ) -> Tested
     requires { RoomsReady (length capacities.now) tasks heights.now schedule.now }
-    ensures { tested_fault result ≡ heights_fault (old capacities) tasks (old heights) (old schedule) hour.0 }
+    ensures { tested_fault result ≡ heights_fault capacities.now tasks heights.now schedule.now hour.0 }
 {
     for room in 0..capacities.len() {
         let in_room = plan::room_part(heights, tasks, room);
@@ -162,7 +162,7 @@ fn test_hours(
     schedule: &[u16],
 ) -> Tested
     requires { RoomsReady (length capacities.now) tasks heights.now schedule.now }
-    ensures { tested_fault result ≡ first_of (heights_fault (old capacities) tasks (old heights) (old schedule)) hours.0 }
+    ensures { tested_fault result ≡ first_of (heights_fault capacities.now tasks heights.now schedule.now) hours.0 }
 {
     for hour in 0..hours.0 {
         let tested = test_hour(capacities, tasks, heights, schedule, Hour(hour));
@@ -182,8 +182,8 @@ fn is_right_size(
     boxes: &[u16],
     schedule: &[u16],
 ) -> bool
-    ensures { result ≡ (one_for_each_task (old capacities) (old task_calendars) (old work_times) (old heights) (old boxes)
-        and is_sized (length (old task_calendars)) (old schedule)) }
+    ensures { result ≡ (one_for_each_task capacities.now task_calendars.now work_times.now heights.now boxes.now
+        and is_sized (length task_calendars.now) schedule.now) }
 {
     if !input::has_one_for_each_task(capacities, task_calendars, work_times, heights, boxes) {
         return false;
@@ -203,7 +203,7 @@ fn test_schedule(
     schedule: &[u16],
 ) -> Tested
     ensures { let P = old_plan hours capacities calendars task_calendars work_times heights in
-        tested_fault result ≡ check_fault P (old boxes) (old schedule) }
+        tested_fault result ≡ check_fault P boxes.now schedule.now }
 {
     if !is_right_size(
         capacities,
@@ -258,7 +258,7 @@ fn later(a: Hour, b: Hour) -> Hour
 // The largest end.
 fn latest_end(schedule: &[u16], tasks: usize) -> Hour
     requires { EndsReady schedule.now tasks }
-    ensures { result.0 ≡ max_to (λ i. end_of (triple_at (old schedule) i)) tasks }
+    ensures { result.0 ≡ max_to (λ i. end_of (triple_at schedule.now i)) tasks }
 {
     let mut latest = Hour(0);
     for i in 0..tasks {
@@ -281,9 +281,9 @@ pub fn check_schedule(
     schedule: &[u16],
 ) -> ScheduleChecked
     ensures result_value { let P = old_plan hours capacities calendars task_calendars work_times heights in
-        schedule_answer result ≡ check_schedule P (old boxes) (old schedule) }
+        schedule_answer result ≡ check_schedule P boxes.now schedule.now }
     ensures exactly { let P = old_plan hours capacities calendars task_calendars work_times heights in
-        Decides P (old boxes) (old schedule) (schedule_answer result) }
+        Decides P boxes.now schedule.now (schedule_answer result) }
 {
     let tested = test_schedule(
         hours,

@@ -6,7 +6,6 @@ ghost use Rattle.std.specs.Prelude.{◌≡◌, ◌≤◌, ◌<◌, length};
 ghost use Rattle.units.specs.Limits.{most_hours};
 ghost use Rattle.units.specs.Sums.{one_if};
 ghost use Rattle.plan.specs.HourKinds.{is_kind};
-ghost use Rattle.plan.specs.Lent.{old};
 ghost use Rattle.stretches.specs.Inner.Stretches.{Inside, counts_of, with_hour};
 
 use plan::{OVERTIME, REGULAR, is_kind};
@@ -31,7 +30,7 @@ pub struct Stretch {
 // 1 for an hour of the kind.
 pub fn one_if(calendar: &[u8], t: usize, kind: u8) -> u16
     requires { t < length calendar.now }
-    ensures { (result ≡ one_if (is_kind kind (old calendar) t)) × (result ≤ 1) }
+    ensures { (result ≡ one_if (is_kind kind calendar.now t)) × (result ≤ 1) }
 {
     if is_kind(calendar, t, kind) { 1 } else { 0 }
 }
@@ -39,7 +38,7 @@ pub fn one_if(calendar: &[u8], t: usize, kind: u8) -> u16
 // The counts with one hour more.
 fn with_hour(n: Counts, calendar: &[u8], t: usize) -> Counts
     requires { (n.regular < most_hours) × (n.overtime < most_hours) × (t < length calendar.now) }
-    ensures { result ≡ with_hour n (old calendar) t }
+    ensures { result ≡ with_hour n calendar.now t }
 {
     Counts {
         regular: n.regular + one_if(calendar, t, REGULAR),
@@ -50,7 +49,7 @@ fn with_hour(n: Counts, calendar: &[u8], t: usize) -> Counts
 // The counts of so many hours from the start on.
 pub fn count_hours(calendar: &[u8], start: Hour, hours: Duration) -> Counts
     requires { Inside calendar.now start.0 hours.0 }
-    ensures { result ≡ counts_of (old calendar) start.0 hours.0 }
+    ensures { result ≡ counts_of calendar.now start.0 hours.0 }
 {
     let first = start.0 as usize;
     let end = hours.0 as usize;

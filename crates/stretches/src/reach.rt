@@ -2,7 +2,6 @@
 ghost use Rattle.std.specs.Prelude.{◌≡◌, ◌+◌, ◌-◌, ◌≤◌, ◌<◌};
 ghost use Rattle.units.specs.Choice.{if◌then◌else◌};
 ghost use Rattle.units.specs.Limits.{most_hours, duration};
-ghost use Rattle.plan.specs.Lent.{old};
 ghost use Rattle.stretches.specs.Inner.Stretches.{HasHour, IsStretch, HasRoom, without_hour, no_hours, stretch_of, may_end, may_last, stops_at, lengthened};
 
 use crate::{Counts, Stretch, one_if, with_hour};
@@ -19,7 +18,7 @@ fn one_less(n: Duration) -> Duration
 // The counts with one hour less, which is among those counted.
 fn without_hour(n: Counts, calendar: &[u8], t: usize) -> Counts
     requires { HasHour n calendar.now t }
-    ensures { result ≡ without_hour n (old calendar) t }
+    ensures { result ≡ without_hour n calendar.now t }
 {
     Counts {
         regular: n.regular - one_if(calendar, t, REGULAR),
@@ -53,7 +52,7 @@ fn up_to_last(last: Duration, hours: Duration, holds: bool) -> Duration
 // The stretch with one hour more at its end.
 fn longer(calendar: &[u8], s: Hour, a: Stretch) -> Stretch
     requires { HasRoom calendar.now s.0 a }
-    ensures { result ≡ stretch_of (old calendar) s.0 (a.hours.0 + 1) }
+    ensures { result ≡ stretch_of calendar.now s.0 (a.hours.0 + 1) }
 {
     let next = (s.0 as usize) + (a.hours.0 as usize);
     let is_open = !is_kind(calendar, next, CLOSED);
@@ -69,7 +68,7 @@ fn longer(calendar: &[u8], s: Hour, a: Stretch) -> Stretch
 // The stretch without its first hour: from the next hour on, to the same end.
 pub fn without_first(calendar: &[u8], s: Hour, a: Stretch) -> Stretch
     requires { IsStretch calendar.now s.0 a }
-    ensures { result ≡ stretch_of (old calendar) (s.0 + 1) (a.hours.0 - 1) }
+    ensures { result ≡ stretch_of calendar.now (s.0 + 1) (a.hours.0 - 1) }
 {
     if a.hours.0 < 1 {
         return a;
@@ -107,7 +106,7 @@ pub fn may_end(work_time: Duration, b: Bounds, a: Stretch) -> bool
 // Whether a task may last one hour more than the stretch, by the tests that hold of a shorter stretch too.
 fn may_last(calendar: &[u8], work_time: Duration, b: Bounds, s: Hour, a: Stretch) -> bool
     requires { HasRoom calendar.now s.0 a }
-    ensures { result ≡ may_last (old calendar) work_time.0 b s.0 (a.hours.0 + 1) }
+    ensures { result ≡ may_last calendar.now work_time.0 b s.0 (a.hours.0 + 1) }
 {
     let p = work_time.0;
     let first = s.0 as usize;
@@ -138,7 +137,7 @@ fn stops(
     shortest: bool,
 ) -> bool
     requires { HasRoom calendar.now s.0 a }
-    ensures { result ≡ stops_at (old calendar) work_time.0 b s.0 shortest a.hours.0 }
+    ensures { result ≡ stops_at calendar.now work_time.0 b s.0 shortest a.hours.0 }
 {
     if shortest {
         return may_end(work_time, b, a);
@@ -156,8 +155,8 @@ pub fn lengthen(
     shortest: bool,
 ) -> Stretch
     requires { IsStretch calendar.now s.0 a }
-    ensures { result ≡ stretch_of (old calendar) s.0
-        (lengthened (old calendar) s.0 (stops_at (old calendar) work_time.0 b s.0 shortest) a.hours.0) }
+    ensures { result ≡ stretch_of calendar.now s.0
+        (lengthened calendar.now s.0 (stops_at calendar.now work_time.0 b s.0 shortest) a.hours.0) }
 {
     let room = calendar.len() - (s.0 as usize);
     let mut at = a;

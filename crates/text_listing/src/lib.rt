@@ -3,7 +3,7 @@
 ghost use Rattle.std.specs.Prelude.{◌≡◌, ◌*◌, ◌≤◌, length};
 ghost use Rattle.units.specs.Limits.{most_tasks, box_numbers};
 ghost use Rattle.units.specs.Cells.{written};
-ghost use Rattle.plan.specs.Lent.{old, left, old_plan};
+ghost use Rattle.plan.specs.Lent.{old_plan};
 ghost use Rattle.text_listing.specs.Program.{plan_listing, listing_of_text};
 
 use listing::{ROOM, list_refusal, list_run};
@@ -26,8 +26,8 @@ fn list_plan(
     out: &mut [u8; ROOM],
 ) -> usize
     requires { (length task_calendars.now ≤ most_tasks) × (length boxes.old ≡ box_numbers * length task_calendars.now) }
-    ensures { let L = plan_listing (old_plan hours capacities calendars task_calendars work_times heights) (old boxes) in
-        (result ≡ length L) × (left out ≡ written L (old out)) }
+    ensures { let L = plan_listing (old_plan hours capacities calendars task_calendars work_times heights) boxes.old in
+        (result ≡ length L) × (out.new ≡ written L out.old) }
 {
     let mut log_kinds = [0u8; STEPS];
     let mut log_tasks = [0u16; STEPS];
@@ -49,7 +49,7 @@ fn list_plan(
 
 // The listing of a text, and its length; the bytes past it are untouched.
 pub fn list_text(text: &[u8], out: &mut [u8; ROOM]) -> usize
-    ensures { let L = listing_of_text (old text) in (result ≡ length L) × (left out ≡ written L (old out)) }
+    ensures { let L = listing_of_text text.now in (result ≡ length L) × (out.new ≡ written L out.old) }
 {
     let mut capacities = [0u16; RoomNumber::MOST];
     let mut symbols = [0u8; MOST_SYMBOLS];

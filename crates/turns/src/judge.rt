@@ -2,7 +2,6 @@
 ghost use Rattle.std.specs.Prelude.{◌≡◌, ℕ, ◌+◌, ◌≤◌, ◌<◌, ltb, length};
 ghost use Rattle.units.specs.Choice.{◌and◌, if◌then◌else◌};
 ghost use Rattle.units.specs.Limits.{most_hours, is_hour, is_room_number};
-ghost use Rattle.plan.specs.Lent.{old};
 ghost use Rattle.steps.specs.Steps.{kind_of, is_step, same_bounds};
 ghost use Rattle.turns.specs.Inner.Ready.{RoomsReady, Ready};
 ghost use Rattle.turns.specs.Inner.Kept.{exceeds, excess_by, calendar_by, lower_by, upper_by, bound_by, judge_by};
@@ -58,7 +57,7 @@ fn has_excess(
     t: Hour,
 ) -> bool
     requires { RoomsReady (length capacities.now) tasks heights.now × (i < tasks) }
-    ensures { result ≡ excess_by tasks (old capacities) (old heights) fits w i t.0 }
+    ensures { result ≡ excess_by tasks capacities.now heights.now fits w i t.0 }
 {
     for room in 0..capacities.len() {
         let in_room = plan::room_part(heights, tasks, room);
@@ -151,7 +150,7 @@ fn judge_bound(
     t: Hour,
 ) -> Judged
     requires { Ready (length capacities.now) tasks heights.now boxes.now × (task < tasks) × (t.0 < most_hours) }
-    ensures { (hours : ℕ) → result ≡ bound_by hours tasks (old capacities) (old heights) (old boxes) fits lower task t.0 }
+    ensures { (hours : ℕ) → result ≡ bound_by hours tasks capacities.now heights.now boxes.now fits lower task t.0 }
 {
     let i = task as usize;
     let fit = fits[i];
@@ -231,7 +230,7 @@ pub fn judge_step(
     x: Step,
 ) -> Judged
     requires { Ready (length capacities.now) tasks heights.now boxes.now × (hours.0 ≤ most_hours) }
-    ensures { result ≡ judge_by hours.0 tasks (old capacities) (old heights) (old boxes) fits x }
+    ensures { result ≡ judge_by hours.0 tasks capacities.now heights.now boxes.now fits x }
 {
     if !is_step(capacities.len(), tasks, hours, x) {
         return Judged::Unknown;

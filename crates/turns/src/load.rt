@@ -1,7 +1,6 @@
 // The load of each hour, from the answers of the calendar rule that are kept.
 ghost use Rattle.std.specs.Prelude.{◌≡◌, ℕ, ◌+◌, ◌*◌, ◌≤◌, ◌<◌, min, length, get_or};
 ghost use Rattle.units.specs.Limits.{most_hours};
-ghost use Rattle.plan.specs.Lent.{old, left};
 ghost use Rattle.steps.specs.Load.{must_run};
 ghost use Rattle.turns.specs.Inner.Kept.{load_of};
 ghost use Rattle.turns.specs.Inner.Finding.{part_at, Changed, Loaded};
@@ -23,7 +22,7 @@ pub fn must_run(w: Window, t: Hour) -> bool
 // The heights in a room of the tasks whose compulsory part holds the hour, added. A task with no valid triple has none.
 pub fn load_at(fits: [Fit; Bounds::MOST], heights: &[u16], t: Hour) -> Height
     requires { RoomReady heights.now }
-    ensures { result.0 ≡ load_of fits (old heights) t.0 }
+    ensures { result.0 ≡ load_of fits heights.now t.0 }
 {
     let mut sum = Height(0);
     for i in 0..heights.len() {
@@ -54,8 +53,8 @@ fn add_part(loads: &mut [u16], from: usize, hours: usize, w: Window, height: Hei
     requires { (hours ≤ most_hours)
         × (from + hours ≤ length loads.old)
         × ((t : ℕ) → t < hours → get_or loads.old (from + t) 0 + height.0 < 65536) }
-    ensures { Changed from hours (old loads) (left loads)
-        × ((t : ℕ) → t < hours → get_or (left loads) (from + t) 0 ≡ get_or (old loads) (from + t) 0 + part_at (Fit.Within w) height.0 t) }
+    ensures { Changed from hours loads.old loads.new
+        × ((t : ℕ) → t < hours → get_or loads.new (from + t) 0 ≡ get_or loads.old (from + t) 0 + part_at (Fit.Within w) height.0 t) }
 {
     let end = clipped(w.ect, hours);
     for t in w.bounds.latest.0 as usize..end.0 as usize {
@@ -77,8 +76,8 @@ fn fill_room(
         × (from + hours ≤ length loads.old)
         × ((t : ℕ) → t < hours → get_or loads.old (from + t) 0 ≡ 0)
         × RoomReady heights.now }
-    ensures { Changed from hours (old loads) (left loads)
-        × ((t : ℕ) → t < hours → get_or (left loads) (from + t) 0 ≡ load_of fits (old heights) t) }
+    ensures { Changed from hours loads.old loads.new
+        × ((t : ℕ) → t < hours → get_or loads.new (from + t) 0 ≡ load_of fits heights.now t) }
 {
     for j in 0..heights.len() {
         let fit = fits[j];
@@ -102,7 +101,7 @@ pub fn fill_loads(
         × (length loads.old ≡ rooms * hours)
         × ((k : ℕ) → k < length loads.old → get_or loads.old k 0 ≡ 0)
         × RoomsReady rooms tasks heights.now }
-    ensures { (length (left loads) ≡ length (old loads)) × Loaded hours rooms tasks (left loads) fits (old heights) }
+    ensures { (length loads.new ≡ length loads.old) × Loaded hours rooms tasks loads.new fits heights.now }
 {
     for room in 0..rooms {
         let in_room = plan::room_part(heights, tasks, room);

@@ -1,7 +1,6 @@
 // The search for the first admitted step, in the filter's order, from the boxes and the answers of the calendar rule that are kept.
 ghost use Rattle.std.specs.Prelude.{true, false, List, ◌≡◌, ℕ, ◌+◌, ◌*◌, ◌≤◌, ◌<◌, length, get_or};
 ghost use Rattle.units.specs.Limits.{most_hours, most_rooms, most_tasks, box_numbers};
-ghost use Rattle.plan.specs.Lent.{old};
 ghost use Rattle.steps.specs.Filter.{first_by, filter_order};
 ghost use Rattle.turns.specs.Inner.Kept.{excess_by, calendar_by, admitted_by, found_step};
 ghost use Rattle.turns.specs.Inner.Ready.{RoomsReady, Ready};
@@ -26,7 +25,7 @@ fn is_narrowed(fit: Fit, task: u16, b: Bounds) -> bool
 // The first C, by task.
 fn first_calendar(tasks: usize, boxes: &[u16], fits: [Fit; Bounds::MOST]) -> Found
     requires { (tasks ≤ most_tasks) × (length boxes.now ≡ box_numbers * tasks) }
-    ensures { found_step result ≡ first_calendar (old boxes) fits tasks }
+    ensures { found_step result ≡ first_calendar boxes.now fits tasks }
 {
     for i in 0..tasks {
         let task = i as u16;
@@ -44,7 +43,7 @@ fn first_calendar(tasks: usize, boxes: &[u16], fits: [Fit; Bounds::MOST]) -> Fou
 // The first O of a room, by hour: the first hour whose load exceeds the capacity.
 fn room_overload(room: u16, loads: &[u16], capacity: Height) -> Found
     requires { length loads.now ≤ most_hours }
-    ensures { found_step result ≡ room_overload room (old loads) capacity.0 }
+    ensures { found_step result ≡ room_overload room loads.now capacity.0 }
 {
     for at in 0..loads.len() {
         if plan::height_at(loads, at).exceeds(capacity) {
@@ -61,7 +60,7 @@ fn room_overload(room: u16, loads: &[u16], capacity: Height) -> Found
 // The first O, by room, then hour.
 fn first_overload(hours: usize, loads: &[u16], capacities: &[u16]) -> Found
     requires { (hours ≤ most_hours) × (length capacities.now ≤ most_rooms) × (length loads.now ≡ length capacities.now * hours) }
-    ensures { found_step result ≡ first_overload hours (old loads) (old capacities) }
+    ensures { found_step result ≡ first_overload hours loads.now capacities.now }
 {
     for room in 0..capacities.len() {
         let in_room = plan::room_part(loads, hours, room);
@@ -89,8 +88,8 @@ fn is_crowded(
         × (hours ≤ most_hours)
         × (i < tasks)
         × (t.0 < hours) }
-    ensures { (fits : List Fit) → Loaded hours (length (old capacities)) tasks (old loads) fits (old heights)
-        → result ≡ excess_by tasks (old capacities) (old heights) fits w i t.0 }
+    ensures { (fits : List Fit) → Loaded hours (length capacities.now) tasks loads.now fits heights.now
+        → result ≡ excess_by tasks capacities.now heights.now fits w i t.0 }
 {
     for room in 0..capacities.len() {
         let height = plan::height_at(heights, room * tasks + i);
@@ -147,7 +146,7 @@ fn first_excess(
     requires { Ready (length capacities.now) tasks heights.now boxes.now
         × Loaded hours (length capacities.now) tasks loads.now fits heights.now
         × (hours ≤ most_hours) }
-    ensures { found_step result ≡ first_excess hours tasks (old capacities) (old heights) (old boxes) fits lower }
+    ensures { found_step result ≡ first_excess hours tasks capacities.now heights.now boxes.now fits lower }
 {
     let mut found = Found::Nothing;
     let kind = letter(lower);
@@ -188,8 +187,8 @@ fn first_by_load(
         × (hours ≤ most_hours)
         × (length loads.old ≡ length capacities.now * hours)
         × ((k : ℕ) → k < length loads.old → get_or loads.old k 0 ≡ 0) }
-    ensures { found_step result ≡ first_by (length (old capacities)) tasks hours
-        (admitted_by hours tasks (old capacities) (old heights) (old boxes) fits) load_order }
+    ensures { found_step result ≡ first_by (length capacities.now) tasks hours
+        (admitted_by hours tasks capacities.now heights.now boxes.now fits) load_order }
 {
     load::fill_loads(loads, hours, fits, capacities.len(), tasks, heights);
     let overload = first_overload(hours, loads, capacities);
@@ -217,8 +216,8 @@ pub fn next_step(
     fits: [Fit; Bounds::MOST],
 ) -> Found
     requires { Ready (length capacities.now) tasks heights.now boxes.now × (hours.0 ≤ most_hours) }
-    ensures { found_step result ≡ first_by (length (old capacities)) tasks hours.0
-        (admitted_by hours.0 tasks (old capacities) (old heights) (old boxes) fits) filter_order }
+    ensures { found_step result ≡ first_by (length capacities.now) tasks hours.0
+        (admitted_by hours.0 tasks capacities.now heights.now boxes.now fits) filter_order }
 {
     let calendar = first_calendar(tasks, boxes, fits);
     let Found::Nothing = calendar else {

@@ -2,7 +2,6 @@
 ghost use Rattle.std.specs.Prelude.{List, ◌≡◌, ℕ, ◌≤◌, ◌<◌, length};
 ghost use Rattle.units.specs.Limits.{most_hours};
 ghost use Rattle.plan.specs.Plan.{plan};
-ghost use Rattle.plan.specs.Lent.{old};
 ghost use Rattle.steps.specs.Filter.{next};
 ghost use Rattle.turns.specs.Inner.Ready.{Ready};
 ghost use Rattle.turns.specs.Inner.Kept.{Keeping, turn_of};
@@ -30,8 +29,8 @@ pub fn next_turn(
 ) -> Turn
     requires { Ready (length capacities.now) tasks heights.now boxes.now × (hours.0 ≤ most_hours) }
     ensures by_index { (calendars task_calendars work_times : List ℕ) →
-        let P = plan hours.0 (old capacities) calendars task_calendars work_times (old heights) in
-        tasks ≡ length task_calendars → Keeping P (old boxes) fits → turn_of (old boxes) result ≡ next P (old boxes) }
+        let P = plan hours.0 capacities.now calendars task_calendars work_times heights.now in
+        tasks ≡ length task_calendars → Keeping P boxes.now fits → turn_of boxes.now result ≡ next P boxes.now }
     ensures there { (x : Step) (i : ℕ) (b : Bounds) → result ≡ Turn.At x (Judged.Moved i b) → i < tasks }
 {
     let found = search::next_step(hours, capacities, tasks, heights, boxes, fits);

@@ -222,6 +222,10 @@ fn report_checked(answer: LogChecked) {
     match answer {
         LogChecked::Refused(refusal) => report_refusal(refusal),
         LogChecked::Accepted { steps, impossible } => {
+            print_word(b"accepted") {
+    match answer {
+        LogChecked::Refused(refusal) => report_refusal(refusal),
+        LogChecked::Accepted { steps, impossible } => {
             print_word(b"accepted");
             print_field(steps as u64);
             if impossible {
@@ -275,7 +279,7 @@ fn filter_log(
     ensures { length result ≡ cells }
 {
     let mut log = empty_log();
-    let answer = log::filter(
+    let answer = step_log::filter(
         hours,
         capacities,
         calendars,
@@ -303,7 +307,7 @@ fn check_log(
 ) -> LogChecked
     requires { (count ≤ cells) × (length log ≡ cells) }
 {
-    log::check_log(
+    step_log::check_log(
         hours,
         capacities,
         calendars,
@@ -432,6 +436,7 @@ fn report_writing(answer: PlanWriting) {
 
 // Reads a plan text and writes the plan back.
 fn rewrite(text: &[u8], out: &mut [u8]) -> PlanWriting {
+    let mut capacities = [0u16; RoomNumber::MOST] -> PlanWriting {
     let mut capacities = [0u16; RoomNumber::MOST];
     let mut symbols = [0u8; MOST_SYMBOLS];
     let mut task_calendars = [0u16; Bounds::MOST];

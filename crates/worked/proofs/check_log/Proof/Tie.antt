@@ -5,9 +5,9 @@ use Rattle.worked.proofs.check_log.Kinds
 use Rattle.worked.proofs.check_log.Proof.Lts
 use Rattle.worked.proofs.check_log.Reads
 use Rattle.worked.proofs.check_log.Statement
-use Rattle.log.proofs.check_log.Met
-use Rattle.log.proofs.lent.CheckLogReads as Reads'
-use Rattle.log.proofs.check_log.Symbol
+use Rattle.step_log.proofs.check_log.Met
+use Rattle.step_log.proofs.lent.CheckLogReads as Reads'
+use Rattle.step_log.proofs.check_log.Symbol
 use borrow.Fn.Run
 use borrow.Fn.Written
 use contract.Running
@@ -85,4 +85,4 @@ module _ {M : Type 1} where
     𝓜 = 𝓜;
     𝓡 = 𝓡;
   }) λ g. closed 𝓤 𝓛 (Run.Over 𝓛 𝓜 𝓡 Code.env) (Reads'.known record { M = M; 𝓤 = 𝓤; 𝓛 = 𝓛; 𝓜 = 𝓜; 𝓡 = 𝓡 } Code.env
-      Symbol.name Symbol.routine Code.calls-log::check-log (Met.met 𝓤 𝓛 𝓜 𝓡))
+      Symbol.name Symbol.routine Code.calls-step_log::check-log (Met.met 𝓤 𝓛 𝓜 𝓡))

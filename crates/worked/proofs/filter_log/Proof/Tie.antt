@@ -8,9 +8,9 @@ use Rattle.worked.proofs.filter_log.Kinds
 use Rattle.worked.proofs.filter_log.Proof.Lts
 use Rattle.worked.proofs.filter_log.Reads as Reads'
 use Rattle.worked.proofs.filter_log.Statement
-use Rattle.log.proofs.filter.Met as Met'
-use Rattle.log.proofs.lent.FilterReads as Reads''
-use Rattle.log.proofs.filter.Symbol as Symbol'
+use Rattle.step_log.proofs.filter.Met as Met'
+use Rattle.step_log.proofs.lent.FilterReads as Reads''
+use Rattle.step_log.proofs.filter.Symbol as Symbol'
 use Rattle.worked.proofs.report_filtered.Met as Met''
 use Rattle.worked.proofs.report_filtered.Reads as Reads'3
 use Rattle.worked.proofs.report_filtered.Symbol as Symbol''
@@ -110,5 +110,5 @@ module _ {M : Type 1} where
     𝓡 = 𝓡;
   }) λ g. closed 𝓤 𝓛 (Run.Over 𝓛 𝓜 𝓡 Code.env) (Reads.known record { M = M; 𝓤 = 𝓤; 𝓛 = 𝓛; 𝓜 = 𝓜; 𝓡 = 𝓡 } Code.env
       Symbol.name Symbol.routine Code.calls-worked::empty-log (Met.met 𝓤 𝓛 𝓜 𝓡)) (Reads''.known record { M = M; 𝓤 = 𝓤; 𝓛 = 𝓛; 𝓜 = 𝓜; 𝓡 = 𝓡 } Code.env Symbol'.name Symbol'.routine
-      Code.calls-log::filter (Met'.met 𝓤 𝓛 𝓜 𝓡)) (Reads'3.known record { M = M; 𝓤 = 𝓤; 𝓛 = 𝓛; 𝓜 = 𝓜; 𝓡 = 𝓡 } Code.env Symbol''.name Symbol''.routine Code.calls-worked::report-filtered
+      Code.calls-step_log::filter (Met'.met 𝓤 𝓛 𝓜 𝓡)) (Reads'3.known record { M = M; 𝓤 = 𝓤; 𝓛 = 𝓛; 𝓜 = 𝓜; 𝓡 = 𝓡 } Code.env Symbol''.name Symbol''.routine Code.calls-worked::report-filtered
       (Met''.met 𝓤 𝓛 𝓜 𝓡))

@@ -1,0 +1,140 @@
+// The log checker and the filter over a log that is a lent slice of step records, of any length: thin functions over `propagation`, which works
+// on three slices of numbers. The steps go there part by part, each part on the boxes that the one before it left.
+#![tactic(auto)]
+ghost use Rattle.std.specs.Prelude.{◌≡◌, ◌++◌, ◌+◌, ◌≤◌, ◌<◌, length, get_or, set, take, drop};
+ghost use Rattle.units.specs.Cells.{written};
+ghost use Rattle.plan.specs.Faults.{input_fault};
+ghost use Rattle.plan.specs.Lent.{old_plan};
+ghost use Rattle.steps.specs.Claim.{CheckedHolds, FilterHolds};
+ghost use Rattle.steps.specs.Entry.{check_answer, log_answer, filter_answer};
+ghost use Rattle.step_log.specs.Entry.{check_steps, steps_end, filter_steps};
+ghost use Rattle.step_log.specs.Inner.Parts.{no_step, part_size, part_steps, Sized};
+
+use part::Part;
+use steps::{Filtered, LogChecked, Step};
+
+mod part;
+
+fn step_at(log: &[Step], i: usize) -> Step
+    requires { i < length log.now }
+    ensures { result ≡ get_or log.now i no_step }
+{
+    log[i]
+}
+
+fn put_step(log: &mut [Step], i: usize, x: Step)
+    requires { i < length log.old }
+    ensures { log.new ≡ set log.old i x }
+{
+    log[i] = x;
+}
+
+// The steps from one on, as many as a part holds or the log has.
+fn part_at(log: &[Step], from: usize) -> Part
+    requires { from ≤ length log.now }
+    ensures { (part_steps result ≡ take part_size (drop from log.now)) × Sized result }
+{
+    let end = part::part_end(from, log.len());
+    let mut steps = part::no_steps();
+    let mut i = from;
+    while i < end {
+        let x = step_at(log, i);
+        steps = part::with_step(steps, x);
+        i += 1;
+    }
+    steps
+}
+
+// The steps of a part become those of the log from one on.
+fn put_part(log: &mut [Step], from: usize, steps: Part)
+    requires { (from + steps.count ≤ length log.old) × (steps.count ≤ part_size) }
+    ensures { log.new ≡ (take from log.old ++ written (part_steps steps) (drop from log.old)) }
+{
+    let count = steps.count;
+    let mut k = 0;
+    while k < count {
+        let x = part::step_of(steps, k);
+        put_step(log, from + k, x);
+        k += 1;
+    }
+}
+
+// The log checker. Accepted or refused by 11, 12 or 13, the boxes become those at the log's end; any other refusal changes nothing.
+pub fn check_log(
+    hours: u16,
+    capacities: &[u16],
+    calendars: &[u8],
+    task_calendars: &[u16],
+    work_times: &[u16],
+    heights: &[u16],
+    boxes: &mut [u16],
+    log: &[Step],
+) -> LogChecked
+    ensures fact { let P = old_plan hours capacities calendars task_calendars work_times heights in
+        let e = check_steps P boxes.old log.now in
+        (log_answer result ≡ check_answer e) × (boxes.new ≡ e.boxes) }
+    ensures holds { let P = old_plan hours capacities calendars task_calendars work_times heights in
+        CheckedHolds P boxes.old (input_fault P boxes.old) log.now (log_answer result) boxes.new }
+{
+    let mut from = 0;
+    let mut said = false;
+    loop {
+        let steps = part_at(log, from);
+        let checked = part::check_part(
+            hours,
+            capacities,
+            calendars,
+            task_calendars,
+            work_times,
+            heights,
+            boxes,
+            from,
+            said,
+            steps,
+        );
+        if !checked.more {
+            return checked.answer;
+        }
+        from = checked.steps;
+        said = checked.impossible;
+    }
+}
+
+// The filter, with the log lent as its room. A refused plan changes nothing; log cells past the count are untouched.
+pub fn filter(
+    hours: u16,
+    capacities: &[u16],
+    calendars: &[u8],
+    task_calendars: &[u16],
+    work_times: &[u16],
+    heights: &[u16],
+    boxes: &mut [u16],
+    log: &mut [Step],
+) -> Filtered
+    ensures log_value { let P = old_plan hours capacities calendars task_calendars work_times heights in
+        steps_end (filter_answer result) boxes.new log.new ≡ filter_steps P boxes.old log.old }
+    ensures holds { let P = old_plan hours capacities calendars task_calendars work_times heights in
+        FilterHolds P boxes.old (check_steps P boxes.old) (length log.old) (filter_answer result) boxes.new (λ n. take n log.new) }
+{
+    let room = log.len();
+    let mut taken = 0;
+    loop {
+        let filtered = part::filter_part(
+            hours,
+            capacities,
+            calendars,
+            task_calendars,
+            work_times,
+            heights,
+            boxes,
+            taken,
+            room,
+        );
+        let steps = filtered.steps;
+        put_part(log, taken, steps);
+        if !filtered.more {
+            return filtered.answer;
+        }
+        taken = filtered.taken;
+    }
+}
