@@ -1,5 +1,6 @@
 // The plan's tests, of what a caller hands in.
 #![tactic(auto)]
+
 ghost use Rattle.std.specs.Prelude.{true, ◌≡◌, ◌*◌, ◌≤◌, ◌<◌, length};
 ghost use Rattle.units.specs.Choice.{first_of};
 ghost use Rattle.plan.specs.HourKinds.{is_symbol};

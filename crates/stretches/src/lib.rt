@@ -1,5 +1,6 @@
 // Stretches of a calendar: so many hours from one start on, and their counts.
 #![tactic(auto)]
+
 pub mod reach;
 
 ghost use Rattle.std.specs.Prelude.{◌≡◌, ◌≤◌, ◌<◌, length};

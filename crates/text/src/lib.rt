@@ -1,5 +1,6 @@
 // Text: fields and numbers, read and printed, and bytes put into lent memory.
 #![tactic(auto)]
+
 pub mod fields;
 pub mod lengths;
 pub mod put;

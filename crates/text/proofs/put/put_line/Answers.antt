@@ -1,0 +1,31 @@
+use native.Mathlib.Omega.{arith}
+use borrow.Author.Rules.{rules}
+use Rattle.text.specs.Lines.{line_of}
+use Rattle.text.proofs.Puts.{put_both}
+use Rattle.text.proofs.Lines.{line-length}
+use Rattle.text.proofs.put.put_line.Goals as goal
+
+pub put_bytes-first-requires : goal.put_bytes-first-requires
+put_bytes-first-requires c =
+    omega (arith, c.requires, line-length c.args.word.now c.args.numbers.now)
+
+pub put_fields-end-requires : goal.put_fields-end-requires
+put_fields-end-requires c =
+    omega (arith, c.requires, line-length c.args.word.now c.args.numbers.now, c.put_bytes-first.ensures.place, c.put_bytes-first.auto.0)
+
+pub put_byte-requires : goal.put_byte-requires
+put_byte-requires c =
+    omega (
+      arith,
+      c.requires,
+      line-length c.args.word.now c.args.numbers.now,
+      c.put_bytes-first.ensures.place,
+      c.put_bytes-first.kept.0,
+      c.put_fields-end.ensures.place,
+      c.put_fields-end.kept.0,
+    )
+
+pub returns : goal.returns
+unfolding line_of
+returns c =
+    put_both (omega arith) (put_both (omega arith) c.put_bytes-first.ensures c.put_fields-end.ensures) c.put_byte.ensures
