@@ -1,5 +1,4 @@
 use mathlib.Core.Path.{sym, ap, ◌∙◌}
-use borrow.Author.Rules.{rules}
 use borrow.Author.Tests.{eq-eqb, ne_eqb}
 use Rattle.units.specs.Limits.{is_calendar_count}
 use Rattle.units.proofs.Choices.{and-rest, not_left}

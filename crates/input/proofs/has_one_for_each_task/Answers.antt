@@ -1,6 +1,5 @@
 use mathlib.Core.Path.{sym, ◌∙◌}
-use borrow.Author.Tests.{eq-eqb, ne_eqb, not-true, not-false}
-use borrow.Author.Rules.{rules}
+use borrow.Author.Tests.{eq-eqb, ne_eqb}
 use Rattle.units.proofs.Choices.{not_left, not_right, and-rest}
 use Rattle.plan.specs.Faults.{one_for_each_task}
 use Rattle.input.proofs.has_one_for_each_task.Goals as goal

@@ -1,7 +1,6 @@
 use mathlib.Core.Path.{sym, ◌∙◌}
 use Rattle.units.proofs.Choices.{if-true, if-false}
 use Rattle.plan.specs.HourKinds.{is_symbol}
-use borrow.Author.Rules.{rules}
 use Rattle.input.proofs.is_symbol.Goals as goal
 
 pub returns-then-is_kind : goal.returns-then-is_kind

@@ -1,8 +1,5 @@
-use mathlib.Core.Path.{◌≡◌, sym, ap, ◌∙◌}
-use mathlib.Core.Bool.{true}
+use mathlib.Core.Path.{sym, ap, ◌∙◌}
 use native.Mathlib.Omega.{arith}
-use borrow.Author.Rules.{rules}
-use borrow.Author.Tests.{not-true, not-false}
 use Rattle.units.specs.Limits.{most_hours, is_plan_length, duration_made}
 use Rattle.units.specs.declared.Duration.{Duration}
 use Rattle.units.proofs.Choices.{if_none, if_some}

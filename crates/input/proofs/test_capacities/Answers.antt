@@ -1,10 +1,7 @@
 use mathlib.Core.Path.{sym, ap, ◌∙◌}
-use Prim.Native.Nat.{◌-◌}
-use lib.ListN.{length}
-use borrow.Author.Rules.{rules}
 use Rattle.units.specs.Limits.{height_made}
 use Rattle.units.proofs.Choices.{if_none, if_some}
-use Rattle.units.proofs.Searching.{Unfound, unfound-first, unfound-next, unfound-hit, unfound-end}
+use Rattle.units.proofs.Searching.{unfound-first, unfound-next, unfound-hit, unfound-end}
 use Rattle.plan.specs.Faults.{capacity_fault}
 use Rattle.plan.proofs.Refusals.{unless-true, unless-false}
 use Rattle.input.proofs.test_capacities.Goals as goal
@@ -23,3 +20,6 @@ loop-room-preserved c =
 
 pub returns : goal.returns
 returns c = sym (unfound-end c.loop-room.invariant c.loop-room-test.false)
+
+pub loop-room-init : goal.loop-room-init
+loop-room-init c = unfound-first

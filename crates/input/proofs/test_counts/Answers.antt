@@ -1,6 +1,4 @@
 use mathlib.Core.Path.{sym, ◌∙◌}
-use borrow.Author.Rules.{rules}
-use borrow.Author.Tests.{not-true, not-false}
 use Rattle.plan.specs.Faults.{counts_fault}
 use Rattle.plan.proofs.Refusals.{go_on, refuse}
 use Rattle.input.proofs.test_counts.Goals as goal

@@ -1,6 +1,4 @@
 use mathlib.Core.Path.{sym, ◌∙◌}
-use borrow.Author.Rules.{rules}
-use borrow.Author.Tests.{not-true, not-false}
 use Rattle.plan.specs.Faults.{input_fault}
 use Rattle.plan.proofs.Refusals.{go_on, refuse}
 use Rattle.input.proofs.test_input.Goals as goal

@@ -1,10 +1,8 @@
-use mathlib.Core.Path.{◌≡◌, sym, ap, ◌∙◌}
-use mathlib.Core.Option.{none}
-use borrow.Author.Rules.{rules}
+use mathlib.Core.Path.{sym, ap, ◌∙◌}
 use Rattle.units.proofs.Choices.{else-none, outer-ends, outer-goes-on}
 use Rattle.plan.specs.Plan.{room_count, task_count}
 use Rattle.plan.specs.Refusals.{tested_fault}
-use Rattle.plan.specs.Faults.{calendars_fault, plan_fault}
+use Rattle.plan.specs.Faults.{plan_fault}
 use Rattle.plan.proofs.Passed.{sized, calendars-passed}
 use Rattle.input.proofs.test_plan.Goals as goal
 

@@ -1,12 +1,7 @@
-use mathlib.Core.Path.{◌≡◌, sym, ap, ◌∙◌}
-use Prim.Native.Nat.{◌-◌}
-use native.Mathlib.Omega.{arith}
-use lib.ListN.{length}
-use borrow.Author.Rules.{rules}
-use Rattle.units.proofs.Searching.{Unfound, unfound-first, unfound-next, unfound-hit, unfound-end}
-use Rattle.plan.specs.Plan.{shifts}
+use mathlib.Core.Path.{sym, ap, ◌∙◌}
+use Rattle.units.proofs.Searching.{unfound-first, unfound-next, unfound-hit, unfound-end}
 use Rattle.plan.specs.Refusals.{tested_fault}
-use Rattle.plan.specs.Faults.{task_fault, tasks_fault}
+use Rattle.plan.specs.Faults.{tasks_fault}
 use Rattle.input.proofs.Faults.{task-is}
 use Rattle.input.proofs.test_tasks.Goals as goal
 
