@@ -1,5 +1,6 @@
 // The calendar rule: the least and greatest start, elapsed time and overtime over the valid triples in a box.
 #![tactic(auto)]
+
 mod widen;
 
 ghost use Rattle.std.specs.Prelude.{◌≡◌, ◌+◌, ◌≤◌, ◌<◌, length};

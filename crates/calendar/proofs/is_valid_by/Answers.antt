@@ -1,0 +1,31 @@
+use mathlib.Core.Path.{sym, ◌∙◌}
+use native.Mathlib.Omega.{arith}
+use Rattle.stretches.proofs.Counting.{regulars, overtimes}
+use Rattle.calendar.proofs.Valid.{closed-first, closed-last, other-overtime, few-overtime, by-ends}
+use Rattle.calendar.proofs.is_valid_by.Goals as goal
+
+pub returns-then-is_kind : goal.returns-then-is_kind
+returns-then-is_kind c = sym (closed-first _ _ _ _ _ (sym c.is_kind.ensures ∙ c.if-is_kind.true))
+
+pub returns-then-is_kind-2 : goal.returns-then-is_kind-2
+returns-then-is_kind-2 c = sym (closed-last _ _ _ _ _ (sym c.is_kind-2.ensures ∙ c.if-is_kind-2.true))
+
+pub returns-then-work_time-o : goal.returns-then-work_time-o
+returns-then-work_time-o c = sym (other-overtime _ _ _ _ _ (λ q. omega arith))
+
+pub returns-then-work_time-o-2 : goal.returns-then-work_time-o-2
+returns-then-work_time-o-2 c = sym (other-overtime _ _ _ _ _ (λ q. c.if-work_time-o-2.true (omega (arith, regulars _ _ _ _ c.requires.are))))
+
+pub returns-then-n-o : goal.returns-then-n-o
+returns-then-n-o c = sym (few-overtime _ _ _ _ _ (omega (arith, overtimes _ _ _ _ c.requires.are)))
+
+pub returns : goal.returns
+returns c =
+    let known = c.requires in
+    rw c.overtime_ends.ensures
+    (sym
+    (by-ends _ _ _ _ _ known.some-hours known.inside
+    (sym c.is_kind.ensures ∙ c.if-is_kind.false)
+    (sym c.is_kind-2.ensures ∙ c.if-is_kind-2.false)
+    (omega (arith, regulars _ _ _ _ known.are, c.if-work_time-o-2.false))
+    (omega (arith, overtimes _ _ _ _ known.are))))

@@ -1,0 +1,49 @@
+use mathlib.Core.Path.{refl, sym, ◌∙◌}
+use native.Mathlib.Omega.{arith}
+use Rattle.calendar.specs.Triples.{valid_triples}
+use Rattle.calendar.specs.Rule.{witnessed_rule}
+use Rattle.calendar.specs.Inner.Windows.{with_triples}
+use Rattle.calendar.proofs.Windows.{unmoved, over_none, with-step}
+use Rattle.calendar.proofs.Starts.{carried_first, shortest-stretch, longest-stretch, carried_on, carried-next}
+use Rattle.calendar.proofs.rule.Goals as goal
+
+pub loop-s-init : goal.loop-s-init
+unfolding with_triples witnessed_rule valid_triples
+loop-s-init c = (carried_first _ _ c.no_hours-shortest.ensures c.no_hours-longest.ensures, refl)
+
+pub lengthen-shortest-requires : goal.lengthen-shortest-requires
+lengthen-shortest-requires c = shortest-stretch c.requires c.loop-s-test.true c.loop-s.invariant.0
+
+pub lengthen-longest-requires : goal.lengthen-longest-requires
+lengthen-longest-requires c =
+    longest-stretch c.requires c.loop-s-test.true c.loop-s.invariant.0
+
+pub overflow_add-s : goal.overflow_add-s
+overflow_add-s c =
+    let known = c.requires in
+    omega (arith, known.latest, known.short, c.loop-s-test.true)
+
+pub loop-s-preserved : goal.loop-s-preserved
+loop-s-preserved c = (
+  carried-next (carried_on c.requires c.loop-s-test.true c.loop-s.invariant.0 _ _
+      c.lengthen-shortest.ensures c.lengthen-longest.ensures) _ _ c.without_first-shortest.ensures c.without_first-longest.ensures,
+  rw c.with_start-best.ensures (sym (with-step _ _ _ _ c.loop-s-test.true) ∙ c.loop-s.invariant.1),
+)
+
+pub returns : goal.returns
+returns c = unmoved _ (over_none _ _ _ (omega arith)) ∙ c.loop-s.invariant.1
+
+pub with_start-best-requires : goal.with_start-best-requires
+with_start-best-requires c =
+    (carried_on c.requires c.loop-s-test.true c.loop-s.invariant.0 _ _
+    c.lengthen-shortest.ensures c.lengthen-longest.ensures)
+
+pub without_first-shortest-requires : goal.without_first-shortest-requires
+without_first-shortest-requires c =
+    (carried_on c.requires c.loop-s-test.true c.loop-s.invariant.0 _ _
+    c.lengthen-shortest.ensures c.lengthen-longest.ensures).is-shortest
+
+pub without_first-longest-requires : goal.without_first-longest-requires
+without_first-longest-requires c =
+    (carried_on c.requires c.loop-s-test.true c.loop-s.invariant.0 _ _
+    c.lengthen-shortest.ensures c.lengthen-longest.ensures).is-longest

@@ -1,0 +1,30 @@
+use mathlib.Core.Path.{sym, ◌∙◌}
+use Rattle.stretches.proofs.Stretches.{counts-small}
+use Rattle.calendar.proofs.Windows.{unmoved, with-window-of}
+use Rattle.calendar.proofs.Starts.{none-closed, none_between, none-ends, window-ready, window-is}
+use Rattle.calendar.proofs.with_start.Goals as goal
+
+pub returns-then-is_kind : goal.returns-then-is_kind
+returns-then-is_kind c = unmoved _ (none-closed _ _ _ _ (sym c.is_kind.ensures ∙ c.if-is_kind.true))
+
+pub returns-then-longest-shortest : goal.returns-then-longest-shortest
+returns-then-longest-shortest c = unmoved _ (none_between c.requires c.if-longest-shortest.true)
+
+pub returns-then-not-may_end : goal.returns-then-not-may_end
+returns-then-not-may_end c =
+    let known = c.requires in
+    unmoved _ (none-ends known (sym c.may_end.ensures ∙ c.if-not-may_end.true))
+
+pub returns : goal.returns
+returns c =
+    let window = window-is c.requires (sym c.is_kind.ensures ∙ c.if-is_kind.false) (sym c.may_end.ensures ∙ c.if-not-may_end.false) c.if-longest-shortest.false in
+    rw (c.with_window.ensures, c.window_from-window.ensures, c.witnesses_from-witnesses.ensures) (sym (with-window-of _ _ _ _ window))
+
+pub may_end-requires : goal.may_end-requires
+may_end-requires c = counts-small c.requires.is-shortest
+
+pub window_from-window-requires : goal.window_from-window-requires
+window_from-window-requires c = (window-ready c.requires (sym c.is_kind.ensures ∙ c.if-is_kind.false) (sym c.may_end.ensures ∙ c.if-not-may_end.false) c.if-longest-shortest.false)
+
+pub witnesses_from-witnesses-requires : goal.witnesses_from-witnesses-requires
+witnesses_from-witnesses-requires c = (window-ready c.requires (sym c.is_kind.ensures ∙ c.if-is_kind.false) (sym c.may_end.ensures ∙ c.if-not-may_end.false) c.if-longest-shortest.false)
