@@ -1,6 +1,5 @@
 // Windows and their witnesses: of the valid triples from one start, and of those from several.
-ghost use Rattle.std.specs.Prelude.{◌≡◌, min, max};
-ghost use Rattle.units.specs.Choice.{if◌then◌else◌};
+ghost use Rattle.std.specs.Prelude.{◌≡◌, min, max, if◌then◌else◌};
 ghost use Rattle.calendar.specs.Inner.Windows.{WindowReady, window_from, witnesses_from, wider, first_of_both, with_window};
 
 use crate::{Triple, Window, Witnessed, Witnesses};

@@ -1,6 +1,5 @@
 -- The kinds of the hours of a calendar, by their symbols (01, "A plan"): `r` regular, `c` closed, `o` overtime.
-use Rattle.std.specs.Prelude.{Bool, true, List, ℕ, ◌+◌, eqb, get_or}
-use Rattle.units.specs.Choice.{if◌then◌else◌}
+use Rattle.std.specs.Prelude.{Bool, true, List, ℕ, ◌+◌, eqb, get_or, if◌then◌else◌}
 use Rattle.units.specs.Sums.{count_where}
 
 abbrev pub regular : ℕ

@@ -1,4 +1,5 @@
 -- A record's line is one line, and is read as that record. Assumes nothing.
+use Rattle.std.specs.Prelude.{if◌then◌else◌}
 use mathlib.Core.Path.{◌≡◌, refl}
 use mathlib.Core.Option.{some}
 use mathlib.Core.List.{List, ◌∷◌, ◌++◌}
@@ -6,7 +7,7 @@ use Prim.Native.Nat.{ℕ, suc, ◌≤◌}
 use native.Mathlib.Omega.{arith}
 use lib.ListN.{length}
 use borrow.Author.Tests.{le-leb}
-use Rattle.units.specs.Choice.{◌and◌, if◌then◌else◌, some_if, on_option}
+use Rattle.units.specs.Choice.{◌and◌, some_if, on_option}
 use Rattle.text.specs.Words.{word_plan, word_cal, word_task}
 use Rattle.text.specs.Fields.{tab, lf, first_at, same}
 use Rattle.text.specs.Numbers.{most_number}
@@ -24,7 +25,7 @@ Readable (cal_record symbols) = (1 ≤ length symbols) × (first_at tab symbols 
 Readable (task_record numbers) = (2 ≤ length numbers) × Below (suc most_number) numbers
 
 pub line_read : (x : Record) → Readable x → record_of (record_line x) ≡ some x
-unfolding Readable record_of record_line by_word plan_of cal_of task_of numbers_if same first_at on_option some_if if◌then◌else◌ ◌and◌
+unfolding Readable record_of record_line by_word plan_of cal_of task_of numbers_if same first_at on_option some_if ◌and◌
 line_read (plan_record h cs) b = rw (parts-numbers word_plan (h ∷ cs) refl, numbers-read (h ∷ cs) b, le-leb 1 (suc (length cs)) (omega arith))
 line_read (cal_record symbols) (some-symbol, no-tab, no-lf) =
     rw (parts_next tab word_cal symbols refl, parts_last tab symbols no-tab, le-leb 1 (length symbols) some-symbol)
@@ -36,7 +37,7 @@ numbers-whole : (word ns : List ℕ) → first_at lf word ≡ length word → fi
 numbers-whole word ns h = without-both lf word (number_fields ns) h (fields-without lf (omega arith) (λ e. omega arith) ns)
 
 pub line-whole : (x : Record) → Readable x → first_at lf (record_line x) ≡ length (record_line x)
-unfolding Readable record_line first_at if◌then◌else◌
+unfolding Readable record_line first_at
 line-whole (plan_record h cs) b = numbers-whole word_plan (h ∷ cs) refl
 line-whole (cal_record symbols) (some-symbol, no-tab, no-lf) =
     without-both lf word_cal (tab ∷ symbols) refl (without_more lf tab symbols (λ e. omega arith) no-lf)

@@ -1,4 +1,5 @@
 -- A plan's text, read again, holds the plan's records. Assumes nothing.
+use Rattle.std.specs.Prelude.{if◌then◌else◌}
 use mathlib.Core.Path.{◌≡◌, refl, ap, ◌∙◌}
 use mathlib.Core.Bool.{true, false}
 use mathlib.Core.Option.{some}
@@ -9,7 +10,7 @@ use lib.Dec.{eqb}
 use lib.ListN.{length, get_or}
 use lib.Seq.{take_all}
 use borrow.Author.Tests.{le-leb, eq-eqb, eqb-true, ne_eqb}
-use Rattle.units.specs.Choice.{◌and◌, if◌then◌else◌, some_if, on_option}
+use Rattle.units.specs.Choice.{◌and◌, some_if, on_option}
 use Rattle.units.specs.Limits.{within}
 use Rattle.units.specs.Lists.{list_to}
 use Rattle.units.proofs.Choices.{if-case, if-all}
@@ -117,7 +118,7 @@ module _ (P : Plan) (boxes : List ℕ) where
       }
 
   calendar-taken : (k : ℕ) → with_record (after_calendars k) (cal_record (calendar_at P.shifts k)) ≡ some (after_calendars (suc k))
-  unfolding with_record comes within some_if if◌then◌else◌ ◌and◌ list_to
+  unfolding with_record comes within some_if ◌and◌ list_to
   calendar-taken zero = refl
   calendar-taken (suc k) = rw (not_none k, not_none (suc k))
 
@@ -127,17 +128,17 @@ module _ (P : Plan) (boxes : List ℕ) where
   is-line i = if-all (λ b. b ≡ true) _ _ _ (λ q. refl) (λ q. eq-eqb _ _ (line-count i))
 
   task-taken : (i : ℕ) → with_record (after_tasks i) (task_record (numbers i)) ≡ some (after_tasks (suc i))
-  unfolding with_record comes within some_if if◌then◌else◌ ◌and◌ list_to
+  unfolding with_record comes within some_if ◌and◌ list_to
   task-taken zero = rw (is-line zero)
   task-taken (suc i) = rw (not_none i, not_none (suc i), is-line (suc i))
 
   plan-taken : with_records nothing (records_of P boxes) ≡ with_records (after_calendars 0) (calendars ++ tasks)
-  unfolding records_of with_records with_record comes some_if on_option if◌then◌else◌ list_to
+  unfolding records_of with_records with_record comes some_if on_option list_to
   plan-taken = refl
 
   -- there is a calendar, so that the tasks may follow
   calendars-taken : 1 ≤ calendar_count P.shifts → after_calendars (calendar_count P.shifts) ≡ after_tasks 0
-  unfolding if◌then◌else◌ list_to
+  unfolding list_to
   calendars-taken l = rw (ne_eqb (calendar_count P.shifts) 0 (λ e. omega arith))
 
   records-taken : 1 ≤ calendar_count P.shifts → with_records nothing (records_of P boxes) ≡ some (read_of P boxes)

@@ -1,4 +1,5 @@
 -- A text of several records, one after the other: its lines are read as those records. Assumes nothing.
+use Rattle.std.specs.Prelude.{if◌then◌else◌}
 use mathlib.Core.Path.{◌≡◌, refl, sym, ap, ◌∙◌}
 use mathlib.Core.Bool.{Bool, true}
 use mathlib.Core.Option.{Option, none, some}
@@ -6,7 +7,7 @@ use mathlib.Core.List.{List, [], ◌∷◌, ◌++◌, append_assoc}
 use Prim.Native.Nat.{ℕ, zero, suc, ◌+◌, ◌≤◌, ◌<◌}
 use native.Mathlib.Omega.{arith}
 use borrow.Author.Tests.{le-leb}
-use Rattle.units.specs.Choice.{◌and◌, if◌then◌else◌, on_option}
+use Rattle.units.specs.Choice.{◌and◌, on_option}
 use Rattle.units.specs.Lists.{list_to}
 use Rattle.units.proofs.Choices.{none≢some}
 use Rattle.plan.specs.Refusals.{fault, refused, answered}
@@ -86,7 +87,7 @@ pub lines-read : (xs : List Record) → Each Readable xs → (k : ℕ) (r q : Re
     → read_lines true k r (parts lf (text_of xs)) ≡ answered q
 unfolding Each with_records text_of
 lines-read [] b k r q e h =
-    unfold parts read_lines if◌then◌else◌ ◌and◌ in let p : r ≡ q = cc in rw (p, le-leb plan_section q.reached h)
+    unfold parts read_lines ◌and◌ in let p : r ≡ q = cc in rw (p, le-leb plan_section q.reached h)
 lines-read (x ∷ xs) b k r q e h =
     ap (λ t. read_lines true k r (parts lf t)) (append_assoc (record_line x) (lf ∷ []) (text_of xs))
     ∙ ap (read_lines true k r) (parts_next lf (record_line x) (text_of xs) (line-whole x b.0))

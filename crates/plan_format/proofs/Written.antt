@@ -1,4 +1,5 @@
 -- What the text of a plan that passed holds: the plan, its boxes, and lines that no test refuses. Assumes nothing.
+use Rattle.std.specs.Prelude.{if◌then◌else◌}
 use mathlib.Core.Path.{◌≡◌, refl, sym, ap, ◌∙◌}
 use mathlib.Core.Option.{none}
 use mathlib.Core.List.{List, map}
@@ -9,7 +10,6 @@ use native.Mathlib.Omega.{arith}
 use lib.Dec.{eqb}
 use lib.ListN.{length, get_or, take, drop, length-append, length-drop, get_or-append}
 use lib.Seq.{get_or-drop, drop_at}
-use Rattle.units.specs.Choice.{if◌then◌else◌}
 use Rattle.units.specs.Limits.{most_hours, most_calendars, most_capacity, box_numbers, is_plan_length, is_calendar_count}
 use Rattle.units.specs.Lists.{list_to}
 use Rattle.units.proofs.Choices.{and_both}

@@ -1,7 +1,7 @@
 -- The records of plan text, one a line (01, "Plan text and listing"; rooms: 02, W-202).
 use Rattle.std.proofs.Math.Option.{Option, none, some}
-use Rattle.std.specs.Prelude.{List, [], ◌∷◌, ◌++◌, ℕ, leb, eqb, length, get_or, drop}
-use Rattle.units.specs.Choice.{◌and◌, if◌then◌else◌, some_if, on_option}
+use Rattle.std.specs.Prelude.{List, [], ◌∷◌, ◌++◌, ℕ, leb, eqb, length, get_or, drop, if◌then◌else◌}
+use Rattle.units.specs.Choice.{◌and◌, some_if, on_option}
 use Rattle.text.specs.Words.{word_plan, word_cal, word_task}
 use Rattle.text.specs.Fields.{tab, parts, same}
 use Rattle.text.specs.Numbers.{numbers_of}

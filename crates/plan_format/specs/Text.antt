@@ -1,8 +1,8 @@
 -- Plan text, line by line (01, "Plan text and listing"; rooms: 02, W-202). Read: the first line that breaks the rules, or the plan's records.
 -- Written: each record's line.
-use Rattle.std.specs.Prelude.{Bool, true, List, [], ◌∷◌, ◌++◌, ℕ, ◌+◌, leb, eqb, length, take}
+use Rattle.std.specs.Prelude.{Bool, true, List, [], ◌∷◌, ◌++◌, ℕ, ◌+◌, leb, eqb, length, take, if◌then◌else◌}
 use Rattle.std.proofs.Math.Option.{Option, none}
-use Rattle.units.specs.Choice.{◌and◌, if◌then◌else◌, some_if, on_option}
+use Rattle.units.specs.Choice.{◌and◌, some_if, on_option}
 use Rattle.units.specs.Limits.{within}
 use Rattle.plan.specs.Refusals.{fault, Answer, refused, answered}
 use Rattle.text.specs.Fields.{lf, parts}

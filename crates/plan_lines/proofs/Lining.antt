@@ -1,4 +1,5 @@
 -- Laws of a text's lines, as a loop over them reads them. Assumes nothing.
+use Rattle.std.specs.Prelude.{if◌then◌else◌}
 use mathlib.Core.Path.{◌≡◌, refl, ◌∙◌}
 use mathlib.Core.Bool.{Bool, true, false}
 use mathlib.Core.Option.{none}
@@ -9,7 +10,7 @@ use lib.Dec.{leb, eqb}
 use lib.ListN.{length, take, drop}
 use lib.Seq.{take_all}
 use borrow.Author.Tests.{le-leb, lt-leb}
-use Rattle.units.specs.Choice.{◌and◌, if◌then◌else◌, on_option}
+use Rattle.units.specs.Choice.{◌and◌, on_option}
 use Rattle.units.specs.Limits.{most_rooms}
 use Rattle.units.proofs.Choices.{if-true, if-false}
 use Rattle.plan.specs.Refusals.{fault, Answer, refused, answered}

@@ -1,4 +1,5 @@
 -- Laws of a line's record: its numbers, what the fields after its first word come to, and what code finds in it. Assumes nothing.
+use Rattle.std.specs.Prelude.{if◌then◌else◌}
 use mathlib.Core.Path.{◌≡◌, refl, ap, ◌∙◌}
 use mathlib.Core.Bool.{true, false}
 use mathlib.Core.Option.{Option, none, some}
@@ -9,7 +10,7 @@ use native.Mathlib.Omega.{arith}
 use lib.Dec.{leb}
 use lib.ListN.{length, get_or, take, drop}
 use borrow.Author.Tests.{lt-leb, le-leb, leb-true, ne_eqb}
-use Rattle.units.specs.Choice.{if◌then◌else◌, some_if, on_option}
+use Rattle.units.specs.Choice.{some_if, on_option}
 use Rattle.units.proofs.Choices.{and_both, not_left, not_right, none-if, some-if, if_some, none≢some, if-true, if-false, if-all}
 use Rattle.text.specs.Words.{word_plan, word_cal, word_task}
 use Rattle.text.specs.Fields.{tab, parts, first_at, same}
@@ -101,9 +102,9 @@ module _ (bytes : List ℕ) where
   unfolding record_of by_word
   record-one h =
       rw (parts_last tab bytes h)
-      (if-all (λ (o : Option Record). o ≡ none) _ _ _ (λ e. unfold plan_of numbers_if numbers_of on_option some_if if◌then◌else◌ in refl)
+      (if-all (λ (o : Option Record). o ≡ none) _ _ _ (λ e. unfold plan_of numbers_if numbers_of on_option some_if in refl)
       (λ e. if-all (λ (o : Option Record). o ≡ none) _ _ _ (λ e. unfold cal_of in none-if _ _ (not_left _ _ refl))
-      (λ e. if-all (λ (o : Option Record). o ≡ none) _ _ _ (λ e. unfold task_of numbers_if numbers_of on_option some_if if◌then◌else◌ in refl) (λ e. refl))))
+      (λ e. if-all (λ (o : Option Record). o ≡ none) _ _ _ (λ e. unfold task_of numbers_if numbers_of on_option some_if in refl) (λ e. refl))))
 
   module _ (end : ℕ) (p : end ≡ first_at tab bytes) (h : end < length bytes) where
     split : record_of bytes ≡ by_word (take end bytes ∷ parts tab (drop (end + 1) bytes))

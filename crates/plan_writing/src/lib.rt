@@ -290,7 +290,7 @@ pub fn write_plan(
     boxes: &[u16],
     out: &mut [u8],
 ) -> PlanWriting
-    ensures out_value { let P = old_plan hours capacities calendars task_calendars work_times heights in
+    ensures answer { let P = old_plan hours capacities calendars task_calendars work_times heights in
         write_end (writing_answer result) out.new ≡ write_plan P boxes.now out.old }
     ensures back { let P = old_plan hours capacities calendars task_calendars work_times heights in
         ((n : ℕ) → writing_answer result ≡ answered n → ReadsBack P boxes.now (take n out.new)) }

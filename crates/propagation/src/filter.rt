@@ -138,7 +138,7 @@ pub fn filter(
     log_tasks: &mut [u16],
     log_hours: &mut [u16],
 ) -> Filtered
-    ensures log_hours_value { let P = old_plan hours capacities calendars task_calendars work_times heights in
+    ensures answer { let P = old_plan hours capacities calendars task_calendars work_times heights in
         filter_end (filter_answer result) boxes.new log_kinds.new log_tasks.new log_hours.new
         ≡ filter_plan P boxes.old log_kinds.old log_tasks.old log_hours.old }
     ensures holds { let P = old_plan hours capacities calendars task_calendars work_times heights in

@@ -1,5 +1,6 @@
 // The schedule checker: whether a schedule is feasible, and its makespan.
 #![tactic(auto)]
+
 ghost use Rattle.std.specs.Prelude.{◌≡◌, ◌+◌, ◌*◌, ◌≤◌, max, length};
 ghost use Rattle.units.specs.Choice.{◌and◌, first_of};
 ghost use Rattle.units.specs.Limits.{most_hours, within};
@@ -280,7 +281,7 @@ pub fn check_schedule(
     boxes: &[u16],
     schedule: &[u16],
 ) -> ScheduleChecked
-    ensures result_value { let P = old_plan hours capacities calendars task_calendars work_times heights in
+    ensures answer { let P = old_plan hours capacities calendars task_calendars work_times heights in
         schedule_answer result ≡ check_schedule P boxes.now schedule.now }
     ensures exactly { let P = old_plan hours capacities calendars task_calendars work_times heights in
         Decides P boxes.now schedule.now (schedule_answer result) }

@@ -70,7 +70,7 @@ pub fn check_log(
     boxes: &mut [u16],
     log: &[Step],
 ) -> LogChecked
-    ensures fact { let P = old_plan hours capacities calendars task_calendars work_times heights in
+    ensures answer { let P = old_plan hours capacities calendars task_calendars work_times heights in
         let e = check_steps P boxes.old log.now in
         (log_answer result ≡ check_answer e) × (boxes.new ≡ e.boxes) }
     ensures holds { let P = old_plan hours capacities calendars task_calendars work_times heights in
@@ -111,7 +111,7 @@ pub fn filter(
     boxes: &mut [u16],
     log: &mut [Step],
 ) -> Filtered
-    ensures log_value { let P = old_plan hours capacities calendars task_calendars work_times heights in
+    ensures answer { let P = old_plan hours capacities calendars task_calendars work_times heights in
         steps_end (filter_answer result) boxes.new log.new ≡ filter_steps P boxes.old log.old }
     ensures holds { let P = old_plan hours capacities calendars task_calendars work_times heights in
         FilterHolds P boxes.old (check_steps P boxes.old) (length log.old) (filter_answer result) boxes.new (λ n. take n log.new) }

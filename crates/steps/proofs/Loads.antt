@@ -1,4 +1,5 @@
 -- Laws of sums over the tasks that pass a test, and of the load against the heights of a feasible schedule's running tasks. Assumes nothing.
+use Rattle.std.specs.Prelude.{if◌then◌else◌}
 use mathlib.Core.Path.{◌≡◌, refl}
 use mathlib.Core.Bool.{Bool, true, false, not, false≢true}
 use mathlib.Core.List.{List}
@@ -6,7 +7,7 @@ use Prim.Native.Nat.{ℕ, ◌+◌, ◌≤◌, ◌<◌}
 use native.Mathlib.Omega.{arith}
 use lib.Dec.{eqb}
 use borrow.Author.Tests.{leb-true, ltb-true, le-leb, lt-ltb, eq-eqb}
-use Rattle.units.specs.Choice.{◌and◌, if◌then◌else◌}
+use Rattle.units.specs.Choice.{◌and◌}
 use Rattle.units.specs.Sums.{sum_where}
 use Rattle.units.proofs.Choices.{and_both, and_left, and_right, not_left, if-true, if-false}
 use Rattle.units.proofs.Summing.{sum-le, sum-gap}
@@ -25,7 +26,6 @@ use Rattle.steps.specs.Load.{fit_at, must_run, load, others_load}
 -- ---- for any heights, any number of tasks and any two tests, of which the first holds only where the second does
 
 if-le : (a b : Bool) (k : ℕ) → (a ≡ true → b ≡ true) → (if a then k else 0) ≤ (if b then k else 0)
-unfolding if◌then◌else◌
 if-le true true k h = omega arith
 if-le true false k h = absurd (false≢true (h refl))
 if-le false b k h = omega arith

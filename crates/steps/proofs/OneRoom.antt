@@ -1,4 +1,5 @@
 -- Plans of one room answer as before W-202. Assumes nothing.
+use Rattle.std.specs.Prelude.{if◌then◌else◌}
 use mathlib.Core.Path.{◌≡◌, refl, sym, ap, ap₂, ◌∙◌}
 use mathlib.Core.Logic.{◌≢◌}
 use mathlib.Core.Bool.{Bool, true, false, not}
@@ -10,7 +11,7 @@ use native.Mathlib.Omega.{arith}
 use lib.Dec.{leb, ltb, eqb}
 use lib.Seq.{get_or-take}
 use borrow.Author.Tests.{ltb-true, lt-ltb, le-ltb, eqb-true, eqb-false}
-use Rattle.units.specs.Choice.{◌and◌, if◌then◌else◌, some_of, ◌or_else◌, first_of}
+use Rattle.units.specs.Choice.{◌and◌, some_of, ◌or_else◌, first_of}
 use Rattle.units.specs.Limits.{is_hour, is_room_number}
 use Rattle.units.specs.Sums.{sum_where}
 use Rattle.units.proofs.Choices.{and_left, first-eq}
@@ -91,7 +92,7 @@ module _ (P : Plan) (one : room_count P ≡ 1) where
   -- ---- steps
 
   excess-is : (boxes : List ℕ) (i t : ℕ) → i < task_count P → excess P boxes i t ≡ before.excess P boxes i t
-  unfolding excess room_excess some_of others_load if◌then◌else◌ before.excess before.others_load
+  unfolding excess room_excess some_of others_load before.excess before.others_load
   excess-is boxes i t l =
       rw one (ap₂ ltb capacity-is (ap₂ ◌+◌ (height-is i l) (heights-are (λ j. not (eqb j i) and must_run (fit_at P.shifts boxes j) t))))
 
@@ -132,7 +133,7 @@ module _ (P : Plan) (one : room_count P ≡ 1) where
           → (if b then judge_kind P boxes (kind_of x.kind) x.task x.hour else unknown)
           ≡ (if b then before.judge_kind P boxes (kind_of x.kind) x.task x.hour else unknown)
       go true e = ap (λ (j : Judgement). if true then j else unknown) (kind-is boxes (kind_of x.kind) x.task x.hour e)
-      go false e = unfold if◌then◌else◌ in refl
+      go false e =  refl
 
   -- ---- the filter and the log checker
 

@@ -1,8 +1,8 @@
 -- A plan of one room as 01 speaks of it: what 02, W-202, gave each room, in 01's words, of the capacity and of one height a task. That a plan of one
 -- room answers by these as before is proved.
-use Rattle.std.specs.Prelude.{Bool, true, false, not, List, ◌↔◌, ◌≡◌, ℕ, ◌+◌, ◌-◌, ◌≤◌, ◌<◌, leb, ltb, eqb, get_or}
+use Rattle.std.specs.Prelude.{Bool, true, false, not, List, ◌↔◌, ◌≡◌, ℕ, ◌+◌, ◌-◌, ◌≤◌, ◌<◌, leb, ltb, eqb, get_or, if◌then◌else◌}
 use Rattle.std.proofs.Math.Option.{Option, none, some}
-use Rattle.units.specs.Choice.{◌and◌, if◌then◌else◌, ◌or_else◌, first_of}
+use Rattle.units.specs.Choice.{◌and◌, ◌or_else◌, first_of}
 use Rattle.units.specs.Limits.{is_hour, with_earliest, with_latest}
 use Rattle.units.specs.Sums.{sum_where}
 use Rattle.plan.specs.Plan.{Plan, task_count, calendar_of, work_time_of}

@@ -1,6 +1,6 @@
 -- Steps, each with its admission and its effect (01, "Steps"; rooms: 02, W-202).
-use Rattle.std.specs.Prelude.{Bool, false, List, ℕ, ◌+◌, ◌-◌, leb, ltb, eqb}
-use Rattle.units.specs.Choice.{◌and◌, if◌then◌else◌}
+use Rattle.std.specs.Prelude.{Bool, false, List, ℕ, ◌+◌, ◌-◌, leb, ltb, eqb, if◌then◌else◌}
+use Rattle.units.specs.Choice.{◌and◌}
 use Rattle.units.specs.Limits.{is_hour, is_room_number, with_earliest, with_latest}
 use Rattle.units.specs.declared.Bounds.{Bounds}
 use Rattle.plan.specs.Plan.{Plan, room_count, task_count, capacity_of}

@@ -1,7 +1,6 @@
 -- The starred weeks of 01's "Worked weeks", those of calendar A with their witnesses (02, W-204): a list of weeks and their outcomes, of the
 -- calendar rule and the filter as they are called. That the definitions give each outcome is proved.
-use Rattle.std.specs.Prelude.{Bool, true, false, List, [], ◌∷◌, ◌++◌, map, ℕ, zero, suc, length, replicate}
-use Rattle.units.specs.Choice.{if◌then◌else◌}
+use Rattle.std.specs.Prelude.{Bool, true, false, List, [], ◌∷◌, ◌++◌, map, ℕ, zero, suc, length, replicate, if◌then◌else◌}
 use Rattle.units.specs.Limits.{hour, duration}
 use Rattle.units.specs.declared.Bounds.{Bounds}
 use Rattle.plan.specs.Plan.{Plan, plan}

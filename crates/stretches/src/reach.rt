@@ -1,6 +1,5 @@
 // Stretches of hours from one start on, and how long a task that starts there may last.
-ghost use Rattle.std.specs.Prelude.{◌≡◌, ◌+◌, ◌-◌, ◌≤◌, ◌<◌};
-ghost use Rattle.units.specs.Choice.{if◌then◌else◌};
+ghost use Rattle.std.specs.Prelude.{◌≡◌, ◌+◌, ◌-◌, ◌≤◌, ◌<◌, if◌then◌else◌};
 ghost use Rattle.units.specs.Limits.{most_hours, duration};
 ghost use Rattle.stretches.specs.Inner.Stretches.{HasHour, IsStretch, HasRoom, without_hour, no_hours, stretch_of, may_end, may_last, stops_at, lengthened};
 

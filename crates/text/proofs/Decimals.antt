@@ -1,4 +1,5 @@
 -- Laws of numbers as they are printed: digit by digit, read back as the same number, and how long they are. Assumes nothing.
+use Rattle.std.specs.Prelude.{if◌then◌else◌}
 use mathlib.Core.Path.{◌≡◌, refl, ap, ◌∙◌}
 use mathlib.Core.Bool.{Bool, true, false, not}
 use mathlib.Core.Option.{some}
@@ -8,7 +9,7 @@ use native.Mathlib.Omega.{arith}
 use lib.Dec.{ltb, eqb}
 use lib.ListN.{length, get_or, length-append, get_or-append}
 use borrow.Author.Tests.{lt-ltb, le-ltb, ltb-true, ltb-false, eq-eqb, ne_eqb}
-use Rattle.units.specs.Choice.{◌and◌, if◌then◌else◌}
+use Rattle.units.specs.Choice.{◌and◌}
 use Rattle.units.specs.Limits.{within}
 use Rattle.units.proofs.Choices.{if-true, if-false, if-all, and_both, and_left, and_right}
 use Rattle.units.proofs.Ranges.{is_within}
@@ -19,7 +20,7 @@ use Rattle.text.proofs.Numbers.{number_is}
 
 -- more divisions than are needed change nothing
 digits-agree : (j k n : ℕ) → n ≤ j → n ≤ k → digits_by j n ≡ digits_by k n
-unfolding digits_by if◌then◌else◌
+unfolding digits_by
 digits-agree zero zero n p q = refl
 digits-agree zero (suc k) n p q = let z : n ≡ 0 = omega arith in rw z
 digits-agree (suc j) zero n p q = let z : n ≡ 0 = omega arith in rw z

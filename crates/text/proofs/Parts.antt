@@ -1,4 +1,5 @@
 -- Laws of parts: a text's first part and the parts after it, and what is left of a text from an index on. Assumes nothing.
+use Rattle.std.specs.Prelude.{if◌then◌else◌}
 use mathlib.Core.Path.{◌≡◌, refl, sym, ap, ◌∙◌}
 use mathlib.Core.Bool.{Bool, true, false}
 use mathlib.Core.List.{List, [], ◌∷◌}
@@ -9,13 +10,12 @@ use lib.Dec.{eqb, ltb}
 use lib.ListN.{length, get_or, take, drop, length-drop, drop_of_length-le}
 use lib.Seq.{drop-cons, drop-drop, take_all, length-take-le}
 use borrow.Author.Tests.{eq-eqb, ne_eqb, ltb-true, ltb-false}
-use Rattle.units.specs.Choice.{if◌then◌else◌}
 use Rattle.units.proofs.Choices.{if-true, if-false}
 use Rattle.text.specs.Fields.{into_first, parts, first_at}
 
 module _ (separator : ℕ) where
   pub first-within : (l : List ℕ) → first_at separator l ≤ length l
-  unfolding first_at if◌then◌else◌
+  unfolding first_at
   first-within [] = omega arith
   first-within (b ∷ bs) = go (first-within bs) (eqb b separator)
     where
@@ -26,7 +26,7 @@ module _ (separator : ℕ) where
   -- there is one: the part before it, and the parts after it
   pub parts_more : (l : List ℕ) → first_at separator l < length l
       → parts separator l ≡ take (first_at separator l) l ∷ parts separator (drop (suc (first_at separator l)) l)
-  unfolding first_at if◌then◌else◌ parts into_first
+  unfolding first_at parts into_first
   parts_more [] h = absurd (omega arith)
   parts_more (b ∷ bs) h = go (λ k. parts_more bs k) (eqb b separator) h
     where
@@ -41,7 +41,7 @@ module _ (separator : ℕ) where
 
   -- there is none: the whole
   pub parts_last : (l : List ℕ) → first_at separator l ≡ length l → parts separator l ≡ l ∷ []
-  unfolding first_at if◌then◌else◌ parts into_first
+  unfolding first_at parts into_first
   parts_last [] h = refl
   parts_last (b ∷ bs) h = go (λ k. parts_last bs k) (eqb b separator) h
     where

@@ -1,6 +1,6 @@
 -- Lines and fields (01, "Plan text and listing": fields parted by one tab, each line ended by LF). A text is the list of its bytes.
-use Rattle.std.specs.Prelude.{Bool, true, false, List, [], ◌∷◌, ℕ, suc, eqb}
-use Rattle.units.specs.Choice.{◌and◌, if◌then◌else◌}
+use Rattle.std.specs.Prelude.{Bool, true, false, List, [], ◌∷◌, ℕ, suc, eqb, if◌then◌else◌}
+use Rattle.units.specs.Choice.{◌and◌}
 
 -- the bytes that part fields and end lines
 abbrev pub tab : ℕ

@@ -1,7 +1,7 @@
 -- Numbers as text (01, "Plan text and listing": decimal, up to 65,535, without sign or leading zero).
-use Rattle.std.specs.Prelude.{Bool, true, not, List, [], ◌∷◌, ◌++◌, ℕ, zero, suc, ◌+◌, ◌-◌, ◌*◌, ◌/◌, ◌%◌, leb, ltb, eqb, length, get_or}
+use Rattle.std.specs.Prelude.{Bool, true, not, List, [], ◌∷◌, ◌++◌, ℕ, zero, suc, ◌+◌, ◌-◌, ◌*◌, ◌/◌, ◌%◌, leb, ltb, eqb, length, get_or, if◌then◌else◌}
 use Rattle.std.proofs.Math.Option.{Option, none, some}
-use Rattle.units.specs.Choice.{◌and◌, if◌then◌else◌, some_if, on_option}
+use Rattle.units.specs.Choice.{◌and◌, some_if, on_option}
 use Rattle.units.specs.Limits.{within}
 
 -- ---- read

@@ -1,6 +1,7 @@
 -- The week that 01 prints: its text gives its listing, by computation. Assumes nothing.
+use Rattle.std.specs.Prelude.{if◌then◌else◌}
 use mathlib.Core.Path.{◌≡◌, refl}
-use Rattle.units.specs.Choice.{◌and◌, if◌then◌else◌, some_if, on_option, ◌or_else◌, some_of, first_of}
+use Rattle.units.specs.Choice.{◌and◌, some_if, on_option, ◌or_else◌, some_of, first_of}
 use Rattle.units.specs.Sums.{sum_to, sum_where, count_where}
 use Rattle.units.specs.Limits.{within, is_plan_length, is_hour, is_work_time, is_height, is_capacity, is_calendar_count, is_calendar_number}
 use Rattle.units.specs.Limits.{is_room_count, is_room_number, is_task_count, is_overtime, is_range, is_box, with_earliest, with_latest}
@@ -32,7 +33,7 @@ use Rattle.text_listing.specs.Program.{zeros, plan_listing, read_end, read_listi
 use Rattle.text_listing.specs.Printed.{bytes, printed_text, printed_listing}
 
 pub printed-week : listing_of_text printed_text ≡ printed_listing
-unfolding ◌and◌ if◌then◌else◌ some_if on_option ◌or_else◌ some_of first_of sum_to sum_where count_where within is_plan_length is_hour is_work_time is_height
+unfolding ◌and◌ some_if on_option ◌or_else◌ some_of first_of sum_to sum_where count_where within is_plan_length is_hour is_work_time is_height
     is_capacity is_calendar_count is_calendar_number is_room_count is_room_number is_task_count is_overtime is_range is_box least greatest written list_to room_count
     task_count calendar_count first_symbol calendar_at calendar_of work_time_of capacity_of room_part heights_of height_of heights_where bounds_at with_bounds
     is_symbol is_kind unless on_answer one_for_each_task is_calendars symbol_fault calendars_fault capacity_fault counts_fault height_fault one_task_fault task_fault

@@ -1,4 +1,5 @@
 -- What each test of a step decides, over the answers that are kept. Assumes nothing.
+use Rattle.std.specs.Prelude.{if◌then◌else◌}
 use mathlib.Core.Path.{◌≡◌, sym, ap, ◌∙◌}
 use mathlib.Core.Logic.{◌≢◌}
 use mathlib.Core.Bool.{Bool, true, false}
@@ -8,7 +9,7 @@ use native.Mathlib.Omega.{arith}
 use lib.Dec.{leb, ltb, eqb}
 use lib.ListN.{length, get_or}
 use borrow.Author.Tests.{ltb-true, lt-ltb, le-ltb, le-leb, lt-leb, leb-true, leb-false, ne_eqb}
-use Rattle.units.specs.Choice.{◌and◌, if◌then◌else◌, some_if}
+use Rattle.units.specs.Choice.{◌and◌, some_if}
 use Rattle.units.specs.Limits.{hour, height, is_hour, is_room_number, with_earliest, with_latest, hour_made, bounds_made}
 use Rattle.units.specs.declared.Hour.{Hour}
 use Rattle.units.specs.declared.Height.{Height}
@@ -183,23 +184,23 @@ module _ (hours tasks : ℕ) (capacities heights boxes : List ℕ) (fits : List 
 
 module _ (rooms tasks hours n i t : ℕ) where
   pub step-C : n ≡ letter_c → is_step rooms tasks hours (kind_of n) i t ≡ (ltb i tasks and eqb t 0)
-  unfolding is_step kind_of if◌then◌else◌
+  unfolding is_step kind_of
   step-C e = rw e
 
   pub step-O : n ≡ letter_o → is_step rooms tasks hours (kind_of n) i t ≡ (is_room_number rooms i and is_hour hours t)
-  unfolding is_step kind_of if◌then◌else◌
+  unfolding is_step kind_of
   step-O e = rw e
 
   pub step-L : n ≡ letter_l → is_step rooms tasks hours (kind_of n) i t ≡ (ltb i tasks and is_hour hours t)
-  unfolding is_step kind_of if◌then◌else◌
+  unfolding is_step kind_of
   step-L e = rw e
 
   pub step-U : n ≡ letter_u → is_step rooms tasks hours (kind_of n) i t ≡ (ltb i tasks and is_hour hours t)
-  unfolding is_step kind_of if◌then◌else◌
+  unfolding is_step kind_of
   step-U e = rw e
 
   pub no_step_lem : n ≢ letter_c → n ≢ letter_o → n ≢ letter_l → n ≢ letter_u → is_step rooms tasks hours (kind_of n) i t ≡ false
-  unfolding is_step kind_of if◌then◌else◌
+  unfolding is_step kind_of
   no_step_lem c o l u = rw (ne_eqb n letter_c c, ne_eqb n letter_o o, ne_eqb n letter_l l, ne_eqb n letter_u u)
 
   module _ (is : is_step rooms tasks hours (kind_of n) i t ≡ true) where
@@ -227,24 +228,24 @@ module _ (hours tasks : ℕ) (capacities heights boxes : List ℕ) (fits : List 
   module _ (is : is_step (length capacities) tasks hours (kind_of x.kind) x.task x.hour ≡ true) (r : Judged) where
     pub by-C : (b : Bounds) → x.kind ≡ letter_c → b ≡ bounds_at boxes x.task → r ≡ calendar_by (get_or fits x.task Never) x.task b
         → r ≡ judge_by hours tasks capacities heights boxes fits x
-    unfolding judge_by judge_kind_by kind_of if◌then◌else◌
+    unfolding judge_by judge_kind_by kind_of
     by-C b k e q = rw e at q ∙ sym (if-true _ _ _ is ∙ rw k)
 
     pub by-O : (load : ℕ) {capacity : Height} {own : List ℕ} → x.kind ≡ letter_o → capacity ≡ height (get_or capacities x.task 0)
         → own ≡ room_part tasks heights x.task → load ≡ load_of fits own x.hour
         → r ≡ (if ltb capacity.0 load then Impossible else NotAdmitted)
         → r ≡ judge_by hours tasks capacities heights boxes fits x
-    unfolding judge_by judge_kind_by kind_of if◌then◌else◌
+    unfolding judge_by judge_kind_by kind_of
     by-O load k limit room e q = rw (e, limit, room) at q ∙ sym (if-true _ _ _ is ∙ rw k)
 
     pub by-L : x.kind ≡ letter_l → r ≡ bound_by hours tasks capacities heights boxes fits true x.task x.hour
         → r ≡ judge_by hours tasks capacities heights boxes fits x
-    unfolding judge_by judge_kind_by kind_of if◌then◌else◌
+    unfolding judge_by judge_kind_by kind_of
     by-L k q = q ∙ sym (if-true _ _ _ is ∙ rw k)
 
     pub by-U : x.kind ≡ letter_u → r ≡ bound_by hours tasks capacities heights boxes fits false x.task x.hour
         → r ≡ judge_by hours tasks capacities heights boxes fits x
-    unfolding judge_by judge_kind_by kind_of if◌then◌else◌
+    unfolding judge_by judge_kind_by kind_of
     by-U k q = q ∙ sym (if-true _ _ _ is ∙ rw k)
 
 -- the sum of U's test fits a number of the code

@@ -1,5 +1,6 @@
 -- What is worked out from the answers kept is what the definitions say, for the boxes that the answers are kept for. Assumes
 -- nothing.
+use Rattle.std.specs.Prelude.{if◌then◌else◌}
 use mathlib.Core.Path.{◌≡◌, refl, sym, ap, ◌∙◌}
 use mathlib.Core.Bool.{Bool, true, false, false≢true}
 use mathlib.Core.Option.{none, some}
@@ -9,7 +10,7 @@ use native.Mathlib.Omega.{arith}
 use lib.Dec.{leb, ltb}
 use lib.ListN.{length, get_or}
 use borrow.Author.Tests.{ltb-true}
-use Rattle.units.specs.Choice.{◌and◌, if◌then◌else◌, on_option}
+use Rattle.units.specs.Choice.{◌and◌, on_option}
 use Rattle.units.specs.Limits.{is_room_number, with_earliest, with_latest}
 use Rattle.units.specs.declared.Bounds.{Bounds}
 use Rattle.units.proofs.Choices.{and_left, if-true, if-false, if-case, if-all, if-ap, some-eq}
@@ -67,7 +68,7 @@ module _ (boxes : List ℕ) (i : ℕ) where
   test-judged : (p q : Bool) (b : Bounds)
       → judgement_of boxes (if p then (if q then Impossible else Moved i b) else NotAdmitted)
       ≡ (if p then (if q then impossible else moved (with_bounds boxes i b)) else not_admitted)
-  unfolding judgement_of on_judged if◌then◌else◌
+  unfolding judgement_of on_judged
   test-judged true true b = refl
   test-judged true false b = refl
   test-judged false q b = refl

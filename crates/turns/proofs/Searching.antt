@@ -1,5 +1,6 @@
 -- Laws of the search for the first admitted step, over the answers that are kept: where a step of each kind is admitted, and what the search finds
 -- once it has passed over the tasks and the hours in which none is. Assumes nothing.
+use Rattle.std.specs.Prelude.{if◌then◌else◌}
 use mathlib.Core.Path.{◌≡◌, refl, sym, ap, ap₂, ◌∙◌}
 use mathlib.Core.Bool.{Bool, true, false, not}
 use mathlib.Core.Option.{Option, none, some}
@@ -9,7 +10,7 @@ use native.Mathlib.Omega.{arith}
 use lib.Dec.{leb, ltb}
 use lib.ListN.{length, get_or}
 use borrow.Author.Tests.{lt-ltb, le-ltb, le-leb, lt-leb}
-use Rattle.units.specs.Choice.{◌and◌, if◌then◌else◌, some_if, ◌or_else◌, first_of}
+use Rattle.units.specs.Choice.{◌and◌, some_if, ◌or_else◌, first_of}
 use Rattle.units.specs.Limits.{hour, is_hour, is_room_number}
 use Rattle.units.specs.declared.Hour.{Hour}
 use Rattle.units.specs.declared.Bounds.{Bounds}
@@ -58,36 +59,36 @@ unfolding calendar_by on_fit
 narrowed fit i w b e = rw e (go (same_bounds w.bounds b))
   where
     go : (same : Bool) → admits (if same then NotAdmitted else Moved i w.bounds) ≡ not same
-    go true = unfold admits on_judged if◌then◌else◌ in refl
-    go false = unfold admits on_judged if◌then◌else◌ in refl
+    go true = unfold admits on_judged in refl
+    go false = unfold admits on_judged in refl
 
 -- O, L and U
 stops-is : (p : Bool) → admits (if p then Impossible else NotAdmitted) ≡ p
-unfolding admits on_judged if◌then◌else◌
+unfolding admits on_judged
 stops-is true = refl
 stops-is false = refl
 
 moves-is : (p q : Bool) (i : ℕ) (b : Bounds) → admits (if p then (if q then Impossible else Moved i b) else NotAdmitted) ≡ p
-unfolding admits on_judged if◌then◌else◌
+unfolding admits on_judged
 moves-is true true i b = refl
 moves-is true false i b = refl
 moves-is false q i b = refl
 
 -- the kind of each letter
 is-C : kind_of letter_c ≡ kind_c
-unfolding kind_of if◌then◌else◌
+unfolding kind_of
 is-C = refl
 
 is-O : kind_of letter_o ≡ kind_o
-unfolding kind_of if◌then◌else◌
+unfolding kind_of
 is-O = refl
 
 is-L : kind_of (letter_of true) ≡ kind_l
-unfolding kind_of letter_of if◌then◌else◌
+unfolding kind_of letter_of
 is-L = refl
 
 is-U : kind_of (letter_of false) ≡ kind_u
-unfolding kind_of letter_of if◌then◌else◌
+unfolding kind_of letter_of
 is-U = refl
 
 module _ (hours tasks : ℕ) (capacities heights boxes : List ℕ) (fits : List Fit) where
@@ -147,12 +148,12 @@ module _ (hours tasks : ℕ) (capacities heights boxes : List ℕ) (fits : List 
 
       -- before its first hour, from its end on, and between
       pub none_before : (lower : Bool) → t < first_hour lower w b → admitted_by hours tasks capacities heights boxes fits (step (letter_of lower) i t) ≡ none
-      unfolding first_hour if◌then◌else◌
+      unfolding first_hour
       none_before true l = not-admitted (letter_of true) i t kind_l is-L (lower-is ∙ not_right _ _ (not_left _ _ (lt-leb b.earliest.0 t l)))
       none_before false l = not-admitted (letter_of false) i t kind_u is-U (upper_is ∙ not_left _ _ (lt-leb (lst w) t l))
 
       pub none_after : (lower : Bool) → end_hour lower w b ≤ t → admitted_by hours tasks capacities heights boxes fits (step (letter_of lower) i t) ≡ none
-      unfolding end_hour if◌then◌else◌
+      unfolding end_hour
       none_after true l = not-admitted (letter_of true) i t kind_l is-L (lower-is ∙ not_left _ _ (le-ltb t (ect w) l))
       none_after false l =
           not-admitted (letter_of false) i t kind_u is-U (upper_is ∙ not_right _ _ (not_left _ _ (le-ltb t (b.latest.0 + b.shortest.0) l)))
@@ -160,7 +161,7 @@ module _ (hours tasks : ℕ) (capacities heights boxes : List ℕ) (fits : List 
       pub excess-is : (lower : Bool) → i < tasks → t < hours → first_hour lower w b ≤ t → t < end_hour lower w b
           → admitted_by hours tasks capacities heights boxes fits (step (letter_of lower) i t)
           ≡ some_if (excess_by tasks capacities heights fits w i t) (step (letter_of lower) i t)
-      unfolding first_hour end_hour if◌then◌else◌ is_step is_hour excess
+      unfolding first_hour end_hour is_step is_hour excess
       excess-is true l m n o =
           admitted-is (letter_of true) i t kind_l is-L (and_both _ _ (lt-ltb i tasks l) (lt-ltb t hours m))
           ∙ ap (λ (p : Bool). some_if p (step (letter_of true) i t))
@@ -248,7 +249,7 @@ module _ (hours tasks : ℕ) (capacities heights boxes : List ℕ) (fits : List 
         or_else first_excess hours tasks capacities heights boxes fits true
         or_else first_excess hours tasks capacities heights boxes fits false)
         → r ≡ first_by (length capacities) tasks hours (admitted_by hours tasks capacities heights boxes fits) load_order
-    unfolding first_by first_excess first_of_kind letter_of if◌then◌else◌
+    unfolding first_by first_excess first_of_kind letter_of
     by-load e = e ∙ ap₂ ◌or_else◌ overload-first (ap (◌or_else◌ _) (sym (else-last _)))
 
   module _ {r : Option Step} (e : r ≡ first_calendar boxes fits tasks) where

@@ -1,6 +1,6 @@
 // What a step comes to at its turn, from the boxes and the answers of the calendar rule that are kept.
-ghost use Rattle.std.specs.Prelude.{◌≡◌, ℕ, ◌+◌, ◌≤◌, ◌<◌, ltb, length};
-ghost use Rattle.units.specs.Choice.{◌and◌, if◌then◌else◌};
+ghost use Rattle.std.specs.Prelude.{◌≡◌, ℕ, ◌+◌, ◌≤◌, ◌<◌, ltb, length, if◌then◌else◌};
+ghost use Rattle.units.specs.Choice.{◌and◌};
 ghost use Rattle.units.specs.Limits.{most_hours, is_hour, is_room_number};
 ghost use Rattle.steps.specs.Steps.{kind_of, is_step, same_bounds};
 ghost use Rattle.turns.specs.Inner.Ready.{RoomsReady, Ready};

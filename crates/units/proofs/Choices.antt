@@ -1,4 +1,5 @@
 -- Laws of tests and choices: what each comes to, and what is known once it has come to that. Assumes nothing.
+use Rattle.std.specs.Prelude.{if◌then◌else◌}
 use mathlib.Core.Path.{◌≡◌, refl, sym, ap₂, ◌∙◌, subst}
 use mathlib.Core.Logic.{◌≢◌}
 use mathlib.Core.Bool.{Bool, true, false, false≢true}
@@ -9,7 +10,7 @@ use native.Mathlib.Omega.{arith}
 use native.Mathlib.Decide.{dec_le}
 use lib.Dec.{eqb, leb, ltb}
 use borrow.Author.Tests.{eqb-true, eqb-false, le-leb, lt-leb, leb-true, ltb-true, ltb-false}
-use Rattle.units.specs.Choice.{◌and◌, if◌then◌else◌, some_if, on_option, ◌or_else◌, some_of, first_of}
+use Rattle.units.specs.Choice.{◌and◌, some_if, on_option, ◌or_else◌, some_of, first_of}
 
 -- ---- what a test comes to
 
@@ -71,27 +72,22 @@ module _ (a b : Bool) where
 
 module _ {A : Type 0} (b : Bool) (x y : A) where
   pub if-true : b ≡ true → (if b then x else y) ≡ x
-  unfolding if◌then◌else◌
   if-true e = rw e
 
   pub if-false : b ≡ false → (if b then x else y) ≡ y
-  unfolding if◌then◌else◌
   if-false e = rw e
 
 pub if-case : {A C : Type 0} (b : Bool) (x y z : A) → (if b then x else y) ≡ z → (b ≡ true → x ≡ z → C) → (b ≡ false → y ≡ z → C) → C
-unfolding if◌then◌else◌
 if-case true x y z e f g = f refl e
 if-case false x y z e f g = g refl e
 
 -- a fact of a choice's value, from the fact of each branch
 pub if-all : {A : Type 0} (C : A → Type 0) (b : Bool) (x y : A) → (b ≡ true → C x) → (b ≡ false → C y) → C (if b then x else y)
-unfolding if◌then◌else◌
 if-all C true x y f g = f refl
 if-all C false x y f g = g refl
 
 -- what is made of a choice's value is a choice of what is made of each branch
 pub if-ap : {A B : Type 0} (f : A → B) (b : Bool) (x y : A) → f (if b then x else y) ≡ (if b then f x else f y)
-unfolding if◌then◌else◌
 if-ap f true x y = refl
 if-ap f false x y = refl
 

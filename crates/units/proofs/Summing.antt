@@ -1,4 +1,5 @@
 -- Laws of sums, counts and maxima over the numbers 0, 1, .., n - 1. Assumes nothing.
+use Rattle.std.specs.Prelude.{if◌then◌else◌}
 use mathlib.Core.Path.{◌≡◌, refl, ap, ap₂}
 use mathlib.Core.Logic.{◌≢◌}
 use mathlib.Core.Bool.{Bool, true, false, not}
@@ -8,7 +9,7 @@ use native.Mathlib.Numerals.{add-one}
 use native.Mathlib.Omega.{arith}
 use lib.Dec.{eqb}
 use borrow.Author.Tests.{eqb-true, eqb-false, eq-eqb, ne_eqb}
-use Rattle.units.specs.Choice.{◌and◌, if◌then◌else◌}
+use Rattle.units.specs.Choice.{◌and◌}
 use Rattle.units.specs.Sums.{sum_to, sum_where, one_if, max_to}
 use Rattle.units.proofs.Choices.{if-true, if-false, if-all, not_left}
 

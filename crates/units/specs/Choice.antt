@@ -1,5 +1,5 @@
 -- Tests and choices: the words in which the definitions of the product are written.
-use Rattle.std.specs.Prelude.{Bool, true, false, ℕ, zero, suc}
+use Rattle.std.specs.Prelude.{Bool, true, false, ℕ, zero, suc, if◌then◌else◌}
 use Rattle.std.proofs.Math.Option.{Option, none, some}
 
 -- both hold
@@ -7,11 +7,6 @@ infixr 35 ◌and◌
 unfoldable pub ◌and◌ : Bool → Bool → Bool
 true and b = b
 false and b = false
-
-infix 10 if◌then◌else◌
-unfoldable pub if◌then◌else◌ : {A : Type 0} → Bool → A → A → A
-if true then x else y = x
-if false then x else y = y
 
 -- the value, where the test holds
 unfoldable pub some_if : {A : Type 0} → Bool → A → Option A

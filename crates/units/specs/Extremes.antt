@@ -1,6 +1,5 @@
 -- The least and the greatest (01, "When a task fits its calendar"), for any list and any key, and the first that attains it (02, W-204).
-use Rattle.std.specs.Prelude.{Bool, List, [], ◌∷◌, ℕ, min, max, ltb}
-use Rattle.units.specs.Choice.{if◌then◌else◌}
+use Rattle.std.specs.Prelude.{Bool, List, [], ◌∷◌, ℕ, min, max, ltb, if◌then◌else◌}
 
 -- the least, and the greatest, of m and the values of a key over a list
 unfoldable pub least : {A : Type 0} → (A → ℕ) → ℕ → List A → ℕ

@@ -1,6 +1,5 @@
 -- Sums, counts and maxima over the numbers 0, 1, .., n - 1, as a loop that counts up makes them.
-use Rattle.std.specs.Prelude.{Bool, true, false, ℕ, zero, suc, ◌+◌, max}
-use Rattle.units.specs.Choice.{if◌then◌else◌}
+use Rattle.std.specs.Prelude.{Bool, true, false, ℕ, zero, suc, ◌+◌, max, if◌then◌else◌}
 
 unfoldable pub sum_to : (ℕ → ℕ) → ℕ → ℕ
 sum_to f zero = 0

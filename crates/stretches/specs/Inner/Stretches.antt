@@ -1,6 +1,6 @@
 -- Stretches of hours from one start on: their counts, their last open hour, and how long a task that starts there may last.
-use Rattle.std.specs.Prelude.{Bool, true, false, not, ◌≡◌, List, ℕ, zero, suc, ◌+◌, ◌-◌, ◌≤◌, ◌<◌, min, leb, eqb, length}
-use Rattle.units.specs.Choice.{◌and◌, if◌then◌else◌}
+use Rattle.std.specs.Prelude.{Bool, true, false, not, ◌≡◌, List, ℕ, zero, suc, ◌+◌, ◌-◌, ◌≤◌, ◌<◌, min, leb, eqb, length, if◌then◌else◌}
+use Rattle.units.specs.Choice.{◌and◌}
 use Rattle.units.specs.Limits.{most_hours, duration}
 use Rattle.units.specs.Sums.{one_if}
 use Rattle.units.specs.Inner.First.{first_from}

@@ -1,7 +1,7 @@
 -- The words of the search for the first admitted step. Only contracts of private functions cite this; 01 has no such terms.
-use Rattle.std.specs.Prelude.{Bool, true, false, ◌≡◌, List, [], ◌∷◌, ℕ, ◌+◌, ◌*◌, ◌≤◌, ◌<◌, ltb, length, get_or}
+use Rattle.std.specs.Prelude.{Bool, true, false, ◌≡◌, List, [], ◌∷◌, ℕ, ◌+◌, ◌*◌, ◌≤◌, ◌<◌, ltb, length, get_or, if◌then◌else◌}
 use Rattle.std.proofs.Math.Option.{Option}
-use Rattle.units.specs.Choice.{if◌then◌else◌, some_if, first_of}
+use Rattle.units.specs.Choice.{some_if, first_of}
 use Rattle.units.specs.declared.Bounds.{Bounds}
 use Rattle.plan.specs.Plan.{room_part}
 use Rattle.plan.specs.Boxes.{bounds_at}

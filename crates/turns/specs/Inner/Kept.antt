@@ -1,8 +1,8 @@
 -- What the filter and the log checker keep beside the boxes, and what they work out from it. Only contracts of private functions
 -- and those between the crates cite this; 01 has no such terms.
-use Rattle.std.specs.Prelude.{Bool, true, false, List, ◌≡◌, ℕ, ◌+◌, ◌-◌, ◌<◌, leb, ltb, length, get_or}
+use Rattle.std.specs.Prelude.{Bool, true, false, List, ◌≡◌, ℕ, ◌+◌, ◌-◌, ◌<◌, leb, ltb, length, get_or, if◌then◌else◌}
 use Rattle.std.proofs.Math.Option.{Option, none, some}
-use Rattle.units.specs.Choice.{◌and◌, if◌then◌else◌, some_of}
+use Rattle.units.specs.Choice.{◌and◌, some_of}
 use Rattle.units.specs.Limits.{most_tasks, with_earliest, with_latest}
 use Rattle.units.specs.Sums.{sum_where}
 use Rattle.units.specs.declared.Bounds.{Bounds}

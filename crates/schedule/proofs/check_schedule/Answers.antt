@@ -1,0 +1,27 @@
+use mathlib.Core.Path.{sym, ap, ◌∙◌}
+use borrow.Author.Rules.{rules}
+use Rattle.plan.specs.Plan.{task_count}
+use Rattle.plan.specs.Refusals.{tested_fault, answered}
+use Rattle.schedule.specs.Schedule.{makespan}
+use Rattle.schedule.proofs.Readiness.{ends-ready}
+use Rattle.schedule.proofs.Decision.{faultless, accepts, refuses, decides-as}
+use Rattle.schedule.proofs.check_schedule.Goals as goal
+
+pub latest_end-requires : goal.latest_end-requires
+unfolding task_count
+latest_end-requires c =
+    let known = faultless _ _ _ (sym c.test_schedule-tested.ensures ∙ ap tested_fault c.in-Passed.is) in
+    ends-ready known.input known.feasible
+
+pub returns-in-Refused : goal.returns-in-Refused
+returns-in-Refused c =
+    let fault = sym c.test_schedule-tested.ensures ∙ ap tested_fault c.in-Refused.is in
+    let answer = sym (refuses _ _ _ _ fault) in
+    record { answer = answer; exactly = decides-as _ _ _ _ answer }
+
+pub returns-in-Passed : goal.returns-in-Passed
+unfolding makespan task_count
+returns-in-Passed c =
+    let none = sym c.test_schedule-tested.ensures ∙ ap tested_fault c.in-Passed.is in
+    let answer = ap answered c.latest_end.ensures ∙ sym (accepts _ _ _ none) in
+    record { answer = answer; exactly = decides-as _ _ _ _ answer }

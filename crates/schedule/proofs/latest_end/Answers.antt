@@ -1,0 +1,29 @@
+use mathlib.Core.Path.{◌≡◌, refl}
+use Prim.Native.Nat.{◌-◌, ◌≤◌}
+use native.Mathlib.Omega.{arith}
+use borrow.Author.Rules.{rules}
+use Rattle.units.specs.Sums.{max_to}
+use Rattle.units.proofs.Summing.{max-with}
+use Rattle.calendar.specs.Triples.{end_of}
+use Rattle.schedule.specs.Schedule.{triple_at}
+use Rattle.schedule.proofs.Entry.{ends_as, end-as}
+use Rattle.schedule.proofs.latest_end.Goals as goal
+
+pub loop-i-init : goal.loop-i-init
+unfolding max_to
+loop-i-init c = (omega arith, refl)
+
+pub plus-requires : goal.plus-requires
+plus-requires c =
+    let end = c.requires.ends _ c.loop-i-test.true in
+    ends_as _ _ c.triple_at-t.ensures (omega (arith, end))
+
+pub loop-i-preserved : goal.loop-i-preserved
+loop-i-preserved c =
+    let end = end-as _ _ c.triple_at-t.ensures _ c.plus.ensures in
+    (omega arith, max-with _ _ _ _ _ c.loop-i.invariant.1 end c.later-latest.ensures)
+
+pub returns : goal.returns
+returns c =
+    let all : c.loop-i.i ≡ c.args.tasks = omega arith in
+    rw all at c.loop-i.invariant.1
