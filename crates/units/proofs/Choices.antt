@@ -179,8 +179,8 @@ module _ (test : ℕ → Bool) where
   some-hit (suc n) i l h = go (λ (m : i < n). some-hit n i m h) (eqb i n) refl
     where
       go : (i < n → some_of test n ≡ true) → (b : Bool) → eqb i n ≡ b → some_of test (suc n) ≡ true
-      go below true q = let s : i ≡ n = eqb-true i n q in if-all (λ b. b ≡ true) _ _ _ (λ k. refl) (λ k. rw (← s) h)
-      go below false q = let ne : i ≢ n = eqb-false i n q in if-true _ _ _ (below (omega arith))
+      go below true q = let s : i ≡ n = eqb-true i n q in if-all (λ b. b ≡ true) (some_of test n) true (test n) (λ k. refl) (λ k. rw (← s) h)
+      go below false q = let ne : i ≢ n = eqb-false i n q in if-true (some_of test n) true (test n) (below (omega arith))
 
 pub some-eq : (f g : ℕ → Bool) (n : ℕ) → ((i : ℕ) → i < n → f i ≡ g i) → some_of f n ≡ some_of g n
 unfolding some_of

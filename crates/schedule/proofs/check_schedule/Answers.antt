@@ -1,5 +1,4 @@
 use mathlib.Core.Path.{sym, ap, ◌∙◌}
-use borrow.Author.Rules.{rules}
 use Rattle.plan.specs.Plan.{task_count}
 use Rattle.plan.specs.Refusals.{tested_fault, answered}
 use Rattle.schedule.specs.Schedule.{makespan}

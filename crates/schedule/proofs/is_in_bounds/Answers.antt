@@ -1,5 +1,4 @@
 use mathlib.Core.Path.{sym, ◌∙◌}
-use borrow.Author.Tests.{not-true, not-false}
 use Rattle.units.proofs.Choices.{not_left, not_right, and-rest}
 use Rattle.calendar.specs.Triples.{in_bounds}
 use borrow.Author.Rules.{rules}

@@ -1,6 +1,4 @@
 use mathlib.Core.Path.{sym, ◌∙◌}
-use borrow.Author.Rules.{rules}
-use borrow.Author.Tests.{not-true, not-false}
 use Rattle.units.proofs.Choices.{and-rest, not_left}
 use Rattle.schedule.specs.Entry.{is_sized}
 use Rattle.schedule.proofs.is_right_size.Goals as goal

@@ -1,11 +1,7 @@
 use mathlib.Core.Path.{◌≡◌, refl}
-use Prim.Native.Nat.{◌-◌, ◌≤◌}
 use native.Mathlib.Omega.{arith}
-use borrow.Author.Rules.{rules}
 use Rattle.units.specs.Sums.{max_to}
 use Rattle.units.proofs.Summing.{max-with}
-use Rattle.calendar.specs.Triples.{end_of}
-use Rattle.schedule.specs.Schedule.{triple_at}
 use Rattle.schedule.proofs.Entry.{ends_as, end-as}
 use Rattle.schedule.proofs.latest_end.Goals as goal
 

@@ -1,12 +1,8 @@
-use mathlib.Core.Path.{◌≡◌, refl}
+use mathlib.Core.Path.{◌≡◌}
 use Prim.Native.Nat.{◌-◌, ◌≤◌}
-use native.Mathlib.Omega.{arith}
-use borrow.Author.Rules.{rules}
 use Rattle.units.specs.Sums.{max_to}
-use Rattle.units.proofs.Summing.{max-with}
 use Rattle.calendar.specs.Triples.{end_of}
 use Rattle.schedule.specs.Schedule.{triple_at}
-use Rattle.schedule.proofs.Entry.{ends_as, end-as}
 use Rattle.schedule.proofs.latest_end.Given as goal
 
 abbrev pub invariant-loop-i : goal.invariant-loop-i

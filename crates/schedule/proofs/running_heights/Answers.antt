@@ -1,14 +1,10 @@
 use mathlib.Core.Path.{◌≡◌, refl, ◌∙◌}
-use mathlib.Core.Logic.{⊎_elim}
-use Prim.Native.Nat.{◌-◌, ◌≤◌}
 use native.Mathlib.Omega.{arith}
-use lib.ListN.{length, get_or}
-use borrow.Author.Rules.{rules}
+use lib.ListN.{length}
 use Rattle.units.specs.Limits.{most_height}
 use Rattle.units.specs.Sums.{sum_to, sum_where}
 use Rattle.units.proofs.Heights.{number_of, added}
 use Rattle.units.proofs.Summing.{where-more, where-skip, where-most}
-use Rattle.schedule.specs.Schedule.{triple_at, runs}
 use Rattle.schedule.proofs.Entry.{runs_as}
 use Rattle.schedule.proofs.running_heights.Goals as goal
 use Rattle.schedule.proofs.running_heights.Goals.{then-is_running, else-is_running}

@@ -1,9 +1,6 @@
 use mathlib.Core.Path.{sym, ap, ◌∙◌}
-use Prim.Native.Nat.{◌-◌}
-use borrow.Author.Rules.{rules}
-use Rattle.units.proofs.Searching.{Unfound, unfound-first, unfound-next, unfound-hit, unfound-end}
+use Rattle.units.proofs.Searching.{unfound-first, unfound-next, unfound-hit, unfound-end}
 use Rattle.plan.specs.Refusals.{tested_fault}
-use Rattle.schedule.specs.Inner.Ready.{heights_fault}
 use Rattle.schedule.proofs.test_hours.Goals as goal
 
 pub returns-in_default : goal.returns-in_default

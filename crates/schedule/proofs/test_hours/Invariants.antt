@@ -1,8 +1,4 @@
-use mathlib.Core.Path.{sym, ap, ◌∙◌}
-use Prim.Native.Nat.{◌-◌}
-use borrow.Author.Rules.{rules}
-use Rattle.units.proofs.Searching.{Unfound, unfound-first, unfound-next, unfound-hit, unfound-end}
-use Rattle.plan.specs.Refusals.{tested_fault}
+use Rattle.units.proofs.Searching.{Unfound}
 use Rattle.schedule.specs.Inner.Ready.{heights_fault}
 use Rattle.schedule.proofs.test_hours.Given as goal
 

@@ -1,6 +1,4 @@
 use mathlib.Core.Path.{◌≡◌, sym, ap, ◌∙◌}
-use borrow.Author.Rules.{rules}
-use borrow.Author.Tests.{not-true, not-false}
 use Rattle.units.proofs.Choices.{and_left, else-none, outer-ends, outer-goes-on}
 use Rattle.plan.specs.Plan.{Plan, plan, room_count, task_count}
 use Rattle.plan.specs.Refusals.{tested_fault}

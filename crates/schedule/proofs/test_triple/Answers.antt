@@ -1,6 +1,4 @@
 use mathlib.Core.Path.{sym, ◌∙◌}
-use borrow.Author.Rules.{rules}
-use borrow.Author.Tests.{not-true, not-false}
 use Rattle.plan.proofs.Refusals.{go_on, refuse, unless-true, unless-false}
 use Rattle.schedule.specs.Entry.{one_triple_fault}
 use Rattle.schedule.proofs.test_triple.Goals as goal

@@ -1,15 +1,8 @@
-use mathlib.Core.Path.{◌≡◌, sym, ap, ◌∙◌}
-use Prim.Native.Nat.{◌-◌}
-use native.Mathlib.Omega.{arith}
 use lib.ListN.{length}
-use borrow.Author.Rules.{rules}
-use Rattle.units.specs.Limits.{most_hours}
-use Rattle.units.proofs.Searching.{Unfound, unfound-first, unfound-next, unfound-hit, unfound-end}
+use Rattle.units.proofs.Searching.{Unfound}
 use Rattle.plan.specs.Plan.{shifts}
-use Rattle.plan.specs.Refusals.{tested_fault}
 use Rattle.schedule.specs.Schedule.{triple_at}
 use Rattle.schedule.specs.Entry.{triple_fault}
-use Rattle.schedule.proofs.Entry.{triple-is, taken-small}
 use Rattle.schedule.proofs.test_triples.Given as goal
 
 abbrev pub invariant-loop-i : goal.invariant-loop-i

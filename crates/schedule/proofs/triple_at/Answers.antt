@@ -1,5 +1,4 @@
 use mathlib.Core.Path.{refl}
-use borrow.Author.Rules.{rules}
 use Rattle.schedule.specs.Schedule.{triple_at}
 use Rattle.schedule.proofs.triple_at.Goals as goal
 
