@@ -3,6 +3,8 @@ use mathlib.Core.Path.{◌≡◌, refl, subst}
 use mathlib.Core.Bool.{true, false}
 use mathlib.Core.List.{List}
 use Prim.Native.Nat.{ℕ, ◌+◌, ◌-◌, ◌≤◌, ◌<◌}
+use Rattle.std.specs.Prelude.{leb, ltb, if◌then◌else◌}
+use Rattle.units.specs.Choice.{◌and◌}
 use borrow.Author.Tests.{leb-true, leb-false, ltb-true, ltb-false}
 use Rattle.units.specs.Limits.{is_hour, is_room_number, with_earliest, with_latest}
 use Rattle.units.proofs.Choices.{and_left, and_right, if-all, some_at}
@@ -87,7 +89,10 @@ module _ (P : Plan) (boxes : List ℕ) (i t : ℕ) where
   unfolding judge_l Known
   known-L l m =
       fit_all (Known kind_l) (fit_at P.shifts boxes i) _ _ (λ q. tt)
-      (λ w q. if-all (Known kind_l) _ _ _
+      (λ w q.
+      let moving = moved (with_bounds boxes i (with_earliest (bounds_at boxes i) (t + 1))) in
+      if-all (Known kind_l) (ltb t (ect w) and leb (bounds_at boxes i).earliest.0 t and excess P boxes i t)
+      (if leb (bounds_at boxes i).latest.0 t then impossible else moving) not_admitted
       (λ a.
       let c = crowded w l m q (and_right _ _ (and_right _ _ a)) in
       let ends : t < ect w = ltb-true _ _ (and_left _ _ a) in
@@ -99,7 +104,11 @@ module _ (P : Plan) (boxes : List ℕ) (i t : ℕ) where
   unfolding judge_u Known
   known-U l m =
       fit_all (Known kind_u) (fit_at P.shifts boxes i) _ _ (λ q. tt)
-      (λ w q. if-all (Known kind_u) _ _ _
+      (λ w q.
+      let b = bounds_at boxes i in
+      let moving = moved (with_bounds boxes i (with_latest b (t - b.shortest.0))) in
+      if-all (Known kind_u) (leb (lst w) t and ltb t (b.latest.0 + b.shortest.0) and excess P boxes i t)
+      (if ltb t (b.earliest.0 + b.shortest.0) then impossible else moving) not_admitted
       (λ a.
       let c = crowded w l m q (and_right _ _ (and_right _ _ a)) in
       let starts : lst w ≤ t = leb-true _ _ (and_left _ _ a) in

@@ -133,7 +133,7 @@ module _ (P : Plan) (one : room_count P ≡ 1) where
           → (if b then judge_kind P boxes (kind_of x.kind) x.task x.hour else unknown)
           ≡ (if b then before.judge_kind P boxes (kind_of x.kind) x.task x.hour else unknown)
       go true e = ap (λ (j : Judgement). if true then j else unknown) (kind-is boxes (kind_of x.kind) x.task x.hour e)
-      go false e =  refl
+      go false e = refl
 
   -- ---- the filter and the log checker
 

@@ -105,7 +105,7 @@ module _ {A : Type 0} (rooms tasks hours : ℕ) (f : Step → Option A) where
   none-of-kind kind_u e n i t q w = rw q (first-none _ _ (first-none _ _ e i (ltb-true _ _ (and_left _ _ w))) t (ltb-true _ _ (and_right _ _ w)))
   none-of-kind unknown_kind e n i t q w = absurd (false≢true w)
 
-  none_in : {order : List Kind} {k : Kind} → In k order → first_by rooms tasks hours f order ≡ none → first_of_kind rooms tasks hours f k ≡ none
+  none_in : {k : Kind} {order : List Kind} → In k order → first_by rooms tasks hours f order ≡ none → first_of_kind rooms tasks hours f k ≡ none
   unfolding first_by
   none_in here e = (neither _ _ e).0
   none_in (there p) e = none_in p (neither _ _ e).1

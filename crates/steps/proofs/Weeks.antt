@@ -1,5 +1,4 @@
 -- The starred weeks of 01: the definitions give each outcome, by computation. Assumes nothing.
-use Rattle.std.specs.Prelude.{if◌then◌else◌}
 use mathlib.Core.Path.{◌≡◌, refl}
 use mathlib.Core.List.{map}
 use Rattle.units.specs.Choice.{◌and◌, some_if, on_option, ◌or_else◌, some_of, first_of}

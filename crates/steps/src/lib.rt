@@ -1,6 +1,7 @@
 // Steps, logs and runs: the kinds of value that the log checker and the filter speak of. The definitions are in specs/, the laws about them in
 // proofs/; the code is in `turns` and `propagation`.
 #![tactic(auto)]
+
 use plan::Refusal;
 use units::Bounds;
 
