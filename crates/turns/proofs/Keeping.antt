@@ -15,7 +15,7 @@ use Rattle.units.specs.Limits.{is_room_number, with_earliest, with_latest}
 use Rattle.units.specs.declared.Bounds.{Bounds}
 use Rattle.units.proofs.Choices.{and_left, if-true, if-false, if-case, if-all, if-ap, some-eq}
 use Rattle.units.proofs.Summing.{where-eq, where-split}
-use Rattle.plan.specs.Plan.{Plan, room_count, task_count, capacity_of, heights_of, height_of, heights_where}
+use Rattle.plan.specs.Plan.{Plan, room_part, room_count, task_count, capacity_of, heights_of, height_of, heights_where}
 use Rattle.plan.specs.Boxes.{bounds_at, with_bounds}
 use Rattle.plan.proofs.Passed.{room-heights}
 use Rattle.calendar.specs.declared.Window.{Window}
@@ -235,7 +235,8 @@ module _ (i : ℕ) (b : Bounds) (n : ℕ) where
   names-kind hours tasks capacities heights boxes fits kind_c t is e =
       (names-calendar (get_or fits n Never) (bounds_at boxes n) e, ltb-true _ _ (and_left _ _ is))
   names-kind hours tasks capacities heights boxes fits kind_o t is e =
-      absurd (if-case _ _ _ _ e (λ p q. let z : ◌≡◌ {A = ℕ} 0 1 = cc in omega arith) (λ p q. let z : ◌≡◌ {A = ℕ} 0 1 = cc in omega arith))
+      absurd (if-case (ltb (get_or capacities n 0) (load_of fits (room_part tasks heights n) t)) Impossible NotAdmitted (Moved i b) e
+      (λ p q. let z : ◌≡◌ {A = ℕ} 0 1 = cc in omega arith) (λ p q. let z : ◌≡◌ {A = ℕ} 0 1 = cc in omega arith))
   names-kind hours tasks capacities heights boxes fits kind_l t is e =
       (names-bound hours tasks capacities heights boxes fits true t e, ltb-true _ _ (and_left _ _ is))
   names-kind hours tasks capacities heights boxes fits kind_u t is e =

@@ -109,7 +109,7 @@ module _ (w : Window) (height t : ℕ) where
 
 pub part-never : (height t : ℕ) → part_at Never height t ≡ 0
 unfolding part_at must_run
-part-never height t = if-false _ _ _ refl
+part-never height t = refl
 
 -- the numbers from the first up to before t, all before the end, are raised, and the others are as they were
 pub record Raised (first end height : ℕ) (old new : List ℕ) (t : ℕ) : Type 0 where

@@ -102,7 +102,9 @@ module _ (hours tasks : ℕ) (capacities heights boxes : List ℕ) (fits : List 
       → admitted_by hours tasks capacities heights boxes fits (step letter i t) ≡ none
   unfolding admitted_by judge_by
   not-admitted letter i t k q e =
-      if-all (λ (j : Judged). on_judged j none none (some (step letter i t)) (λ k b. some (step letter i t)) ≡ none) _ _ _
+      if-all (λ (j : Judged). on_judged j none none (some (step letter i t)) (λ k b. some (step letter i t)) ≡ none)
+      (is_step (length capacities) tasks hours (kind_of letter) i t)
+      (judge_kind_by hours tasks capacities heights boxes fits (kind_of letter) i t) Unknown
       (λ known. rw q (judged-is _ _ ∙ none-if _ _ e))
       (λ unknown. unfold on_judged in refl)
 

@@ -1,0 +1,10 @@
+use mathlib.Core.Path.{sym, ap, ◌∙◌}
+use Rattle.units.specs.Limits.{hour_made}
+use Rattle.units.proofs.Choices.{if_none, if_some}
+use Rattle.turns.proofs.judge.is_hour.Goals as goal
+
+pub returns-in_default : goal.returns-in_default
+returns-in_default c = sym (if_none _ _ (sym c.of_plan.ensures ∙ ap hour_made c.in_default.is))
+
+pub returns : goal.returns
+returns c = sym (if_some _ _ _ (sym c.of_plan.ensures ∙ ap hour_made c.in-Within.is)).0
