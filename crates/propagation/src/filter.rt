@@ -31,7 +31,7 @@ fn run_filter(
 ) -> Filtered
     requires passed { Passed (plan_of hours.0 capacities calendars task_calendars work_times heights) boxes.old
         × (one_for_each_step log_kinds.old log_tasks.old log_hours.old ≡ true) }
-    requires log_kinds_bound { taken + length log_kinds.old < 2 ^ 64 }
+    requires count_fits { taken + length log_kinds.old < 2 ^ 64 }
     ensures { let P = old_plan hours.0 capacities calendars task_calendars work_times heights in
         let run = run P boxes.old (length log_kinds.old) in
         filter_end (filter_answer result) boxes.new log_kinds.new log_tasks.new log_hours.new

@@ -31,7 +31,7 @@ fn replay_log(
 ) -> LogChecked
     requires passed { Passed (plan_of hours.0 capacities calendars task_calendars work_times heights) boxes.old
         × (one_for_each_step log_kinds.now log_tasks.now log_hours.now ≡ true) }
-    requires log_kinds_bound { from + length log_kinds.now < 2 ^ 64 }
+    requires count_fits { from + length log_kinds.now < 2 ^ 64 }
     ensures { let P = old_plan hours.0 capacities calendars task_calendars work_times heights in
         let e = replay_from P from said boxes.old (steps_in log_kinds.now log_tasks.now log_hours.now) in
         (log_answer result ≡ check_answer e) × (boxes.new ≡ e.boxes) }
@@ -153,13 +153,10 @@ pub fn check_log(
     log_tasks: &[u16],
     log_hours: &[u16],
 ) -> LogChecked
-    ensures fact_1 { let P = old_plan hours capacities calendars task_calendars work_times heights in
+    ensures answer { let P = old_plan hours capacities calendars task_calendars work_times heights in
         let e = check_log P boxes.old log_kinds.now log_tasks.now log_hours.now in
-        let refusal = entry_fault P boxes.old log_kinds.now log_tasks.now log_hours.now in
-        let steps = steps_in log_kinds.now log_tasks.now log_hours.now in
         (log_answer result ≡ check_answer e) × (boxes.new ≡ e.boxes) }
-    ensures fact_2 { let P = old_plan hours capacities calendars task_calendars work_times heights in
-        let e = check_log P boxes.old log_kinds.now log_tasks.now log_hours.now in
+    ensures holds { let P = old_plan hours capacities calendars task_calendars work_times heights in
         let refusal = entry_fault P boxes.old log_kinds.now log_tasks.now log_hours.now in
         let steps = steps_in log_kinds.now log_tasks.now log_hours.now in
         CheckedHolds P boxes.old refusal steps (log_answer result) boxes.new }

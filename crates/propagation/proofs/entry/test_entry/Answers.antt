@@ -1,0 +1,20 @@
+use mathlib.Core.Path.{sym, ◌∙◌}
+use borrow.Author.Tests.{not-false}
+use Rattle.steps.proofs.Entry.{other-tasks, other-steps, right-size}
+use Rattle.propagation.proofs.entry.test_entry.Goals as goal
+
+pub returns-then-not-has_one_for_each_task : goal.returns-then-not-has_one_for_each_task
+returns-then-not-has_one_for_each_task c = sym (other-tasks _ _ _ _ _ (sym c.has_one_for_each_task.ensures ∙ c.if-not-has_one_for_each_task.true))
+
+pub returns-then-not-has_one_for_each_step : goal.returns-then-not-has_one_for_each_step
+returns-then-not-has_one_for_each_step c = sym (other-steps _ _ _ _ _ (sym c.has_one_for_each_step.ensures ∙ c.if-not-has_one_for_each_step.true))
+
+pub test_plan-requires : goal.test_plan-requires
+test_plan-requires c = sym c.has_one_for_each_task.ensures ∙ c.if-not-has_one_for_each_task.false
+
+pub returns : goal.returns
+returns c =
+    c.test_plan.ensures
+    ∙ sym
+    (right-size _ _ _ _ _ (sym c.has_one_for_each_task.ensures ∙ not-false _
+    c.if-not-has_one_for_each_task.false-raw) (sym c.has_one_for_each_step.ensures ∙ c.if-not-has_one_for_each_step.false))

@@ -1,0 +1,20 @@
+use mathlib.Core.Path.{sym, ap, ◌∙◌}
+use Rattle.plan.specs.Refusals.{tested_fault}
+use Rattle.steps.proofs.Entry.{passes, from-refuses, from-replays}
+use Rattle.propagation.proofs.replay.check_from.Goals as goal
+
+pub returns-in-Refused : goal.returns-in-Refused
+returns-in-Refused c =
+    from-refuses _ _ _ _ _ _ _ _ (sym c.test_entry-tested.ensures ∙ ap tested_fault c.in-Refused.is)
+
+pub replay_log-requires : goal.replay_log-requires
+replay_log-requires c =
+    record {
+      passed = passes _ _ _ _ _ (sym c.test_entry-tested.ensures ∙ ap tested_fault c.in_default.is);
+      count_fits = c.requires;
+    }
+
+pub returns : goal.returns
+returns c =
+    from-replays _ _ _ _ _ _ _ (sym c.test_entry-tested.ensures ∙ ap tested_fault c.in_default.is) _ _
+    c.replay_log.ensures
