@@ -1,5 +1,4 @@
 -- A record's line is one line, and is read as that record. Assumes nothing.
-use Rattle.std.specs.Prelude.{if◌then◌else◌}
 use mathlib.Core.Path.{◌≡◌, refl}
 use mathlib.Core.Option.{some}
 use mathlib.Core.List.{List, ◌∷◌, ◌++◌}

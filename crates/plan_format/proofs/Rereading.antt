@@ -153,7 +153,7 @@ module _ (P : Plan) (boxes : List ℕ) where
   -- the text has begun
   begun : plan_section ≤ (read_of P boxes).reached
   unfolding read_of
-  begun = if-all (λ (n : ℕ). plan_section ≤ n) _ _ _ (λ q. omega arith) (λ q. omega arith)
+  begun = if-all (λ (n : ℕ). plan_section ≤ n) (eqb (task_count P) 0) cal_section task_section (λ q. omega arith) (λ q. omega arith)
 
   pub text-read : Passed P boxes → length (text_of_plan P boxes) ≤ most_bytes → read_text (text_of_plan P boxes) ≡ answered (read_of P boxes)
   unfolding read_text text_of_plan

@@ -1,5 +1,6 @@
 // A plan text read line by line. What it holds is stored as far as there is room; what it counts goes on.
 #![tactic(auto)]
+
 ghost use Rattle.std.specs.Prelude.{true, List, ◌∷◌, [], ◌++◌, ◌≡◌, ℕ, ◌+◌, ◌-◌, ◌*◌, ◌≤◌, ◌<◌, leb, eqb, length, get_or, drop};
 ghost use Rattle.units.specs.Choice.{◌and◌};
 ghost use Rattle.units.specs.Cells.{written_at};

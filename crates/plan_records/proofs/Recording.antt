@@ -3,7 +3,7 @@ use Rattle.std.specs.Prelude.{if◌then◌else◌}
 use mathlib.Core.Path.{◌≡◌, refl, ap, ◌∙◌}
 use mathlib.Core.Bool.{true, false}
 use mathlib.Core.Option.{Option, none, some}
-use mathlib.Core.List.{List, ◌∷◌}
+use mathlib.Core.List.{List, [], ◌∷◌}
 use Prim.Native.Nat.{ℕ, suc, ◌+◌, ◌≤◌, ◌<◌}
 use native.Mathlib.Numerals.{add-one}
 use native.Mathlib.Omega.{arith}
@@ -96,15 +96,30 @@ module _ (fields : List (List ℕ)) where
 
 -- ---- by the first field
 
+-- no field follows the first
+plan-bare : plan_of [] ≡ none
+unfolding plan_of numbers_if numbers_of on_option some_if
+plan-bare = refl
+
+cal-bare : cal_of [] ≡ none
+unfolding cal_of
+cal-bare = none-if _ _ (not_left _ _ refl)
+
+task-bare : task_of [] ≡ none
+unfolding task_of numbers_if numbers_of on_option some_if
+task-bare = refl
+
 module _ (bytes : List ℕ) where
   -- a line of one field
   pub record-one : first_at tab bytes ≡ length bytes → record_of bytes ≡ none
   unfolding record_of by_word
   record-one h =
       rw (parts_last tab bytes h)
-      (if-all (λ (o : Option Record). o ≡ none) _ _ _ (λ e. unfold plan_of numbers_if numbers_of on_option some_if in refl)
-      (λ e. if-all (λ (o : Option Record). o ≡ none) _ _ _ (λ e. unfold cal_of in none-if _ _ (not_left _ _ refl))
-      (λ e. if-all (λ (o : Option Record). o ≡ none) _ _ _ (λ e. unfold task_of numbers_if numbers_of on_option some_if in refl) (λ e. refl))))
+      (if-all (λ (o : Option Record). o ≡ none) (same bytes word_plan) (plan_of []) (if same bytes word_cal then cal_of [] else (if same bytes word_task then task_of [] else none))
+      (λ e. plan-bare)
+      (λ e. if-all (λ (o : Option Record). o ≡ none) (same bytes word_cal) (cal_of []) (if same bytes word_task then task_of [] else none)
+      (λ e. cal-bare)
+      (λ e. if-all (λ (o : Option Record). o ≡ none) (same bytes word_task) (task_of []) none (λ e. task-bare) (λ e. refl))))
 
   module _ (end : ℕ) (p : end ≡ first_at tab bytes) (h : end < length bytes) where
     split : record_of bytes ≡ by_word (take end bytes ∷ parts tab (drop (end + 1) bytes))

@@ -1,5 +1,6 @@
 // The records of plan text, one a line.
 #![tactic(auto)]
+
 ghost use Rattle.std.specs.Prelude.{List, ℕ, ◌≤◌, length, drop};
 ghost use Rattle.text.specs.Fields.{tab, parts};
 ghost use Rattle.text.specs.Reading.{NumbersMade};

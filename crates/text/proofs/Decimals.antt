@@ -9,7 +9,6 @@ use native.Mathlib.Omega.{arith}
 use lib.Dec.{ltb, eqb}
 use lib.ListN.{length, get_or, length-append, get_or-append}
 use borrow.Author.Tests.{lt-ltb, le-ltb, ltb-true, ltb-false, eq-eqb, ne_eqb}
-use Rattle.units.specs.Choice.{◌and◌}
 use Rattle.units.specs.Limits.{within}
 use Rattle.units.proofs.Choices.{if-true, if-false, if-all, and_both, and_left, and_right}
 use Rattle.units.proofs.Ranges.{is_within}

@@ -1,8 +1,4 @@
-use mathlib.Core.Path.{◌≡◌}
-use Prim.Native.Nat.{◌+◌, ◌-◌, ◌≤◌}
 use native.Mathlib.Omega.{arith}
-use lib.ListN.{length, drop}
-use Rattle.text.specs.Fields.{first_at}
 use Rattle.text.proofs.Parts.{first-here, first-later, first-end}
 use Rattle.text.proofs.fields.end_of.Goals as goal
 

@@ -1,9 +1,7 @@
 use mathlib.Core.Path.{◌≡◌}
-use Prim.Native.Nat.{◌+◌, ◌-◌, ◌≤◌}
-use native.Mathlib.Omega.{arith}
+use Prim.Native.Nat.{◌+◌, ◌≤◌}
 use lib.ListN.{length, drop}
 use Rattle.text.specs.Fields.{first_at}
-use Rattle.text.proofs.Parts.{first-here, first-later, first-end}
 use Rattle.text.proofs.fields.end_of.Given as goal
 
 abbrev pub invariant-loop-i : goal.invariant-loop-i

@@ -1,8 +1,5 @@
-use mathlib.Core.Path.{◌≡◌, refl, sym, ◌∙◌}
-use Prim.Native.Nat.{◌-◌, ◌≤◌}
+use mathlib.Core.Path.{refl, sym, ◌∙◌}
 use native.Mathlib.Omega.{arith}
-use lib.ListN.{length, drop}
-use Rattle.text.specs.Fields.{same}
 use Rattle.text.proofs.Words.{same-unequal, same_next, same_not, same_end}
 use Rattle.text.proofs.fields.is_word.Goals as goal
 

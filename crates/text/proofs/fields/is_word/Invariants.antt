@@ -1,9 +1,7 @@
-use mathlib.Core.Path.{◌≡◌, refl, sym, ◌∙◌}
-use Prim.Native.Nat.{◌-◌, ◌≤◌}
-use native.Mathlib.Omega.{arith}
+use mathlib.Core.Path.{◌≡◌}
+use Prim.Native.Nat.{◌≤◌}
 use lib.ListN.{length, drop}
 use Rattle.text.specs.Fields.{same}
-use Rattle.text.proofs.Words.{same-unequal, same_next, same_not, same_end}
 use Rattle.text.proofs.fields.is_word.Given as goal
 
 abbrev pub invariant-loop-i : goal.invariant-loop-i

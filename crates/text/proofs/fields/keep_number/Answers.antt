@@ -1,6 +1,5 @@
 use mathlib.Core.Path.{sym}
 use Rattle.text.proofs.Gathering.{set_past}
-use borrow.Author.Rules.{rules}
 use Rattle.text.proofs.fields.keep_number.Goals as goal
 
 pub returns-else-at-cells : goal.returns-else-at-cells

@@ -1,19 +1,12 @@
-use mathlib.Core.Path.{◌≡◌, refl, sym, ap, ◌∙◌}
+use mathlib.Core.Path.{refl, sym, ap, ◌∙◌}
 use mathlib.Core.Option.{some}
-use mathlib.Core.List.{List}
-use Prim.Native.Nat.{ℕ, ◌+◌, ◌-◌, ◌*◌, ◌≤◌}
+use Prim.Native.Nat.{◌+◌, ◌-◌, ◌*◌}
 use native.Mathlib.Omega.{arith}
-use lib.ListN.{length, get_or, drop}
-use borrow.Author.Tests.{not-true, not-false}
+use lib.ListN.{get_or, drop}
 use Rattle.units.proofs.Ranges.{is_within, too_small, too_large}
-use Rattle.text.specs.Numbers.{is_digits, decimal, most_number}
 use Rattle.text.proofs.Numbers.{number-empty, number_digits, number-plain, number-large, number_is, digits-next, digits-not, digits-end}
 use Rattle.text.proofs.Numbers.{decimal_step, decimal-end, decimal-least}
 use Rattle.text.proofs.fields.number_of.Goals as goal
-
--- The places that answers look back to: the field as it was lent; a turn's head, from where its digit was read.
-abbrev field : tie.At-loop invariant-loop decreases-loop → List ℕ
-field c = c.before.before.before.before.before.args.field.now
 
 pub returns-then-digit-lt48 : goal.returns-then-digit-lt48
 returns-then-digit-lt48 c =
@@ -26,7 +19,7 @@ returns-then-digit-gt57 c =
 -- the number with its next digit, and more digits make no smaller number
 pub returns-then-number-gt-MOST_NUMBER : goal.returns-then-number-gt-MOST_NUMBER
 returns-then-number-gt-MOST_NUMBER c =
-    let l = field c in
+    let l = c.args.field.now in
     let i = c.loop-i.i in
     let n = c.loop-i.number in
     let more = decimal-least (n * 10 + (get_or l i 0 - 48)) (drop (i + 1) l) in
@@ -64,13 +57,13 @@ pub bounds-field-i : goal.bounds-field-i
 bounds-field-i c = omega arith
 
 pub overflow_mul-number : goal.overflow_mul-number
-overflow_mul-number c = omega (arith, (omega (arith, c.shared_slice_known-in-loop-i-1.given c.loop-i.i)))
+overflow_mul-number c = omega arith
 
 pub overflow_cast-number : goal.overflow_cast-number
-overflow_cast-number c = omega (arith, (omega (arith, c.shared_slice_known-in-loop-i-1.given c.loop-i.i)))
+overflow_cast-number c = omega arith
 
 pub overflow_add-number : goal.overflow_add-number
-overflow_add-number c = omega (arith, (omega (arith, c.shared_slice_known-in-loop-i-1.given c.loop-i.i)))
+overflow_add-number c = omega arith
 
 pub overflow_cast-result : goal.overflow_cast-result
 overflow_cast-result c = omega arith

@@ -1,14 +1,7 @@
-use mathlib.Core.Path.{◌≡◌, refl, sym, ap, ◌∙◌}
-use mathlib.Core.Option.{some}
-use mathlib.Core.List.{List}
-use Prim.Native.Nat.{ℕ, ◌+◌, ◌-◌, ◌*◌, ◌≤◌}
-use native.Mathlib.Omega.{arith}
-use lib.ListN.{length, get_or, drop}
-use borrow.Author.Tests.{not-true, not-false}
-use Rattle.units.proofs.Ranges.{is_within, too_small, too_large}
+use mathlib.Core.Path.{◌≡◌}
+use Prim.Native.Nat.{◌≤◌}
+use lib.ListN.{length, drop}
 use Rattle.text.specs.Numbers.{is_digits, decimal, most_number}
-use Rattle.text.proofs.Numbers.{number-empty, number_digits, number-plain, number-large, number_is, digits-next, digits-not, digits-end}
-use Rattle.text.proofs.Numbers.{decimal_step, decimal-end, decimal-least}
 use Rattle.text.proofs.fields.number_of.Given as goal
 
 abbrev pub invariant-loop-i : goal.invariant-loop-i

@@ -1,12 +1,9 @@
-use mathlib.Core.Path.{◌≡◌, refl, sym, ap, ◌∙◌}
-use Prim.Native.Nat.{◌+◌, ◌-◌}
+use mathlib.Core.Path.{refl, sym, ap, ◌∙◌}
 use native.Mathlib.Omega.{arith}
-use lib.ListN.{length}
-use borrow.Author.Rules.{rules}
 use Rattle.text.specs.Fields.{tab}
 use Rattle.text.specs.Reading.{number_made, NumbersMade}
 use Rattle.text.proofs.Parts.{part_length}
-use Rattle.text.proofs.Gathering.{Gathered, gathered_none, gathered-not, gathered-few, gathered-last, gathered-more}
+use Rattle.text.proofs.Gathering.{gathered_none, gathered-not, gathered-few, gathered-last, gathered-more}
 use Rattle.text.proofs.fields.numbers_of.Goals as goal
 
 pub loop-number-init : goal.loop-number-init
@@ -38,7 +35,7 @@ returns-then-end-rest c =
 
 pub loop-number-preserved : goal.loop-number-preserved
 loop-number-preserved c = (
-  c.keep_number.auto.0 ∙ c.loop-number.invariant.0,
+  c.keep_number.auto.cells ∙ c.loop-number.invariant.0,
   (gathered-more c.loop-number.invariant.1 c.end_of-end.ensures
       (sym c.number_of.ensures ∙ ap number_made c.in-Number.is)
       c.if-end-rest.false

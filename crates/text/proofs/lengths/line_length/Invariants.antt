@@ -1,10 +1,7 @@
 use mathlib.Core.Path.{◌≡◌}
-use Prim.Native.Nat.{◌+◌, ◌-◌, ◌*◌, ◌≤◌}
-use native.Mathlib.Omega.{arith}
+use Prim.Native.Nat.{◌+◌, ◌*◌, ◌≤◌}
 use lib.ListN.{length, take}
-use lib.Seq.{take-length}
 use Rattle.text.specs.Lines.{number_fields}
-use Rattle.text.proofs.Lines.{fields-longer, line-length}
 use Rattle.text.proofs.lengths.line_length.Given as goal
 
 abbrev pub invariant-loop-i : goal.invariant-loop-i

@@ -1,10 +1,8 @@
 use mathlib.Core.Path.{◌≡◌, refl, ◌∙◌}
-use Prim.Native.Nat.{◌-◌, ◌≤◌}
 use native.Mathlib.Omega.{arith}
-use lib.ListN.{length, take}
+use lib.ListN.{length}
 use lib.Seq.{take-length}
 use Rattle.text.specs.Lines.{number_fields}
-use Rattle.text.specs.Putting.{Put}
 use Rattle.text.proofs.Puts.{put-none}
 use Rattle.text.proofs.Lines.{fields-room, put-field-next}
 use Rattle.text.proofs.put.put_fields.Goals as goal
@@ -24,14 +22,14 @@ put_decimal-end-requires c =
       c.requires,
       c.loop-i.invariant.2.place,
       c.put_byte-digits.ensures.place,
-      c.put_byte-digits.kept.0,
+      c.put_byte-digits.auto.out,
       fields-room c.args.numbers.now c.loop-i.i c.loop-i-test.true,
     )
 
 pub loop-i-preserved : goal.loop-i-preserved
 loop-i-preserved c = (
   omega arith,
-  c.put_decimal-end.kept.0 ∙ c.put_byte-digits.kept.0 ∙ c.loop-i.invariant.1,
+  c.put_decimal-end.auto.out ∙ c.put_byte-digits.auto.out ∙ c.loop-i.invariant.1,
   put-field-next c.args.numbers.now c.loop-i.i c.loop-i-test.true (omega (arith, c.requires))
       c.loop-i.invariant.2
       c.put_byte-digits.ensures

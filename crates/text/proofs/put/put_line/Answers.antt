@@ -1,5 +1,4 @@
 use native.Mathlib.Omega.{arith}
-use borrow.Author.Rules.{rules}
 use Rattle.text.specs.Lines.{line_of}
 use Rattle.text.proofs.Puts.{put_both}
 use Rattle.text.proofs.Lines.{line-length}
@@ -11,7 +10,7 @@ put_bytes-first-requires c =
 
 pub put_fields-end-requires : goal.put_fields-end-requires
 put_fields-end-requires c =
-    omega (arith, c.requires, line-length c.args.word.now c.args.numbers.now, c.put_bytes-first.ensures.place, c.put_bytes-first.auto.0)
+    omega (arith, c.requires, line-length c.args.word.now c.args.numbers.now, c.put_bytes-first.ensures.place, c.put_bytes-first.auto.out)
 
 pub put_byte-requires : goal.put_byte-requires
 put_byte-requires c =
@@ -20,9 +19,9 @@ put_byte-requires c =
       c.requires,
       line-length c.args.word.now c.args.numbers.now,
       c.put_bytes-first.ensures.place,
-      c.put_bytes-first.kept.0,
+      c.put_bytes-first.auto.out,
       c.put_fields-end.ensures.place,
-      c.put_fields-end.kept.0,
+      c.put_fields-end.auto.out,
     )
 
 pub returns : goal.returns

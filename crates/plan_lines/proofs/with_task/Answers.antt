@@ -1,0 +1,21 @@
+use mathlib.Core.Path.{sym, ◌∙◌}
+use Rattle.plan_lines.proofs.Following.{task-broken, task-not, task-next}
+use Rattle.plan_lines.proofs.with_task.Goals as goal
+
+pub returns-then-not-may_come : goal.returns-then-not-may_come
+returns-then-not-may_come c = λ r n symbols ns begin held. task-broken held ns c.may_come.ensures _ _ c.if-not-may_come.true
+
+pub returns-then-not-is_task_line : goal.returns-then-not-is_task_line
+returns-then-not-is_task_line c =
+    λ r n symbols ns begin held.
+    task-not held ns c.may_come.ensures begin.counted c.is_task_line.ensures _ _ c.if-not-is_task_line.true
+
+pub store_task-requires : goal.store_task-requires
+store_task-requires c =
+    (c.requires.2, c.requires.1, sym c.is_task_line.ensures ∙ c.if-not-is_task_line.false)
+
+pub returns : goal.returns
+returns c =
+    λ r n symbols ns begin held.
+    task-next held ns c.may_come.ensures begin.counted c.is_task_line.ensures _ c.if-not-may_come.false
+    c.if-not-is_task_line.false (c.store_task.ensures r.capacities ns r.tasks held.rooms held.tasks begin)
