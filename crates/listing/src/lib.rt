@@ -1,5 +1,6 @@
 // The listing that the program prints.
 #![tactic(auto)]
+
 ghost use Rattle.std.specs.Prelude.{◌≡◌, [], ◌∷◌, ◌++◌, ◌+◌, ◌*◌, ◌≤◌, ◌<◌, length};
 ghost use Rattle.units.specs.Limits.{most_tasks, box_numbers};
 ghost use Rattle.units.specs.Cells.{written};
