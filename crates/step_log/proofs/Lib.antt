@@ -4,4 +4,3 @@ pub mod Copying
 pub mod Checking
 pub mod Filtering
 pub mod Claiming
-pub mod lent

@@ -1,6 +1,7 @@
 // The log checker and the filter over a log that is a lent slice of step records, of any length: thin functions over `propagation`, which works
 // on three slices of numbers. The steps go there part by part, each part on the boxes that the one before it left.
 #![tactic(auto)]
+
 ghost use Rattle.std.specs.Prelude.{◌≡◌, ◌++◌, ◌+◌, ◌≤◌, ◌<◌, length, get_or, set, take, drop};
 ghost use Rattle.units.specs.Cells.{written};
 ghost use Rattle.plan.specs.Faults.{input_fault};

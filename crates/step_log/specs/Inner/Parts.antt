@@ -13,7 +13,7 @@ use Rattle.steps.specs.declared.Filtered.{Filtered}
 use Rattle.steps.specs.Steps as steps
 use Rattle.steps.specs.Log.{LogEnd, log_end, replay_from}
 use Rattle.steps.specs.Filter.{Run, no_room, count, run}
-use Rattle.steps.specs.Entry.{steps_from, Accepted, check_answer, log_answer, FilterAnswer, refused_by}
+use Rattle.steps.specs.Entry.{steps_from, check_answer, log_answer, FilterAnswer, refused_by}
 use Rattle.steps.specs.Entry.{count_of, no_room_for, settled_after, impossible_after, ending_answer, filter_answer}
 use Rattle.step_log.specs.declared.part.Part.{Part}
 use Rattle.step_log.specs.declared.part.PartChecked.{PartChecked}
