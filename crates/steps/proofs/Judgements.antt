@@ -3,7 +3,7 @@ use mathlib.Core.Path.{◌≡◌, refl, subst}
 use mathlib.Core.Bool.{true, false}
 use mathlib.Core.List.{List}
 use Prim.Native.Nat.{ℕ, ◌+◌, ◌-◌, ◌≤◌, ◌<◌}
-use Rattle.std.specs.Prelude.{leb, ltb, if◌then◌else◌}
+use Rattle.std.specs.Prelude.{if◌then◌else◌}
 use Rattle.units.specs.Choice.{◌and◌}
 use borrow.Author.Tests.{leb-true, leb-false, ltb-true, ltb-false}
 use Rattle.units.specs.Limits.{is_hour, is_room_number, with_earliest, with_latest}
@@ -89,14 +89,11 @@ module _ (P : Plan) (boxes : List ℕ) (i t : ℕ) where
   unfolding judge_l Known
   known-L l m =
       fit_all (Known kind_l) (fit_at P.shifts boxes i) _ _ (λ q. tt)
-      (λ w q.
-      let moving = moved (with_bounds boxes i (with_earliest (bounds_at boxes i) (t + 1))) in
-      if-all (Known kind_l) (ltb t (ect w) and leb (bounds_at boxes i).earliest.0 t and excess P boxes i t)
-      (if leb (bounds_at boxes i).latest.0 t then impossible else moving) not_admitted
+      (λ w q. if-all (Known kind_l) (_ and _ and _) (if _ then impossible else moved _) not_admitted
       (λ a.
       let c = crowded w l m q (and_right _ _ (and_right _ _ a)) in
       let ends : t < ect w = ltb-true _ _ (and_left _ _ a) in
-      if-all (Known kind_l) _ _ _ (λ last. stops_l w c ends (leb-true _ _ last))
+      if-all (Known kind_l) _ impossible (moved _) (λ last. stops_l w c ends (leb-true _ _ last))
       (λ more. moves_l w c ends (leb-true _ _ (and_left _ _ (and_right _ _ a))) (leb-false _ _ more) refl))
       (λ a. tt))
 
@@ -104,15 +101,11 @@ module _ (P : Plan) (boxes : List ℕ) (i t : ℕ) where
   unfolding judge_u Known
   known-U l m =
       fit_all (Known kind_u) (fit_at P.shifts boxes i) _ _ (λ q. tt)
-      (λ w q.
-      let b = bounds_at boxes i in
-      let moving = moved (with_bounds boxes i (with_latest b (t - b.shortest.0))) in
-      if-all (Known kind_u) (leb (lst w) t and ltb t (b.latest.0 + b.shortest.0) and excess P boxes i t)
-      (if ltb t (b.earliest.0 + b.shortest.0) then impossible else moving) not_admitted
+      (λ w q. if-all (Known kind_u) (_ and _ and _) (if _ then impossible else moved _) not_admitted
       (λ a.
       let c = crowded w l m q (and_right _ _ (and_right _ _ a)) in
       let starts : lst w ≤ t = leb-true _ _ (and_left _ _ a) in
-      if-all (Known kind_u) _ _ _ (λ first. stops_u w c starts (ltb-true _ _ first))
+      if-all (Known kind_u) _ impossible (moved _) (λ first. stops_u w c starts (ltb-true _ _ first))
       (λ more. moves_u w c starts (ltb-true _ _ (and_left _ _ (and_right _ _ a))) (ltb-false _ _ more) refl))
       (λ a. tt))
 
