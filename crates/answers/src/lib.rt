@@ -1,5 +1,6 @@
 // The numbers that a caller in C is handed for each answer: a refusal's number and place, then the values; 0 where there is none.
 #![tactic(auto)]
+
 ghost use Rattle.std.specs.Prelude.{◌≡◌, ◌≤◌};
 ghost use Rattle.calendar.specs.Entry.{rule_answer};
 ghost use Rattle.schedule.specs.Entry.{schedule_answer};

@@ -1,5 +1,6 @@
 // Plan text: reading a plan.
 #![tactic(auto)]
+
 ghost use Rattle.std.specs.Prelude.{true, List, [], ◌∷◌, ◌≡◌, ℕ, ◌*◌, ◌≤◌, length, take};
 ghost use Rattle.std.proofs.Math.Option.{some};
 ghost use Rattle.units.specs.Cells.{written};

@@ -1,5 +1,6 @@
 // Plan text: writing a plan.
 #![tactic(auto)]
+
 ghost use Rattle.std.specs.Prelude.{true, [], ◌∷◌, ◌++◌, ◌≡◌, ℕ, ◌+◌, ◌*◌, ◌≤◌, ◌<◌, length, get_or, take};
 ghost use Rattle.std.proofs.Math.Option.{none};
 ghost use Rattle.units.specs.Limits.{most_calendars, most_rooms, most_tasks, box_numbers};

@@ -1,0 +1,22 @@
+use mathlib.Core.Path.{sym, ap, ◌∙◌}
+use borrow.Author.Tests.{not-true, not-false}
+use Rattle.units.specs.Limits.{duration_made}
+use Rattle.units.proofs.Choices.{if_none, if_some}
+use Rattle.plan_text.proofs.Judging.{no-hours, no-calendars, uneven, lines-pass}
+use Rattle.plan_text.proofs.test_lines.Goals as goal
+
+pub returns-in_default : goal.returns-in_default
+returns-in_default c = λ r symbols cells held. no-hours held (if_none _ _ (sym c.of_plan.ensures ∙ ap duration_made c.in_default.is))
+
+pub returns-then-not-is_count : goal.returns-then-not-is_count
+returns-then-not-is_count c =
+    λ r symbols cells held.
+    no-calendars held ((if_some _ _ _ (sym c.of_plan.ensures ∙ ap duration_made c.in-Within.is)).0) (sym c.is_count.ensures ∙ c.if-not-is_count.true)
+
+pub returns-then-not-scan : goal.returns-then-not-scan
+returns-then-not-scan c = λ r symbols cells held. uneven held ((if_some _ _ _ (sym c.of_plan.ensures ∙ ap duration_made c.in-Within.is)).0) (not-true _ c.if-not-scan.true)
+
+pub returns : goal.returns
+returns c =
+    λ r symbols cells held.
+    lines-pass held ((if_some _ _ _ (sym c.of_plan.ensures ∙ ap duration_made c.in-Within.is)).0) (sym c.is_count.ensures ∙ c.if-not-is_count.false) (not-false _ c.if-not-scan.false)
