@@ -1,5 +1,4 @@
 -- The week that 01 prints: its text gives its listing, by computation. Assumes nothing.
-use Rattle.std.specs.Prelude.{if◌then◌else◌}
 use mathlib.Core.Path.{◌≡◌, refl}
 use Rattle.units.specs.Choice.{◌and◌, some_if, on_option, ◌or_else◌, some_of, first_of}
 use Rattle.units.specs.Sums.{sum_to, sum_where, count_where}

@@ -1,5 +1,6 @@
 // From plan text to the listing: reads the plan, filters it with room for 2,048 steps, and lists the run.
 #![tactic(auto)]
+
 ghost use Rattle.std.specs.Prelude.{◌≡◌, ◌*◌, ◌≤◌, length};
 ghost use Rattle.units.specs.Limits.{most_tasks, box_numbers};
 ghost use Rattle.units.specs.Cells.{written};

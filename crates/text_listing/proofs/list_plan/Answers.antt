@@ -1,0 +1,9 @@
+use Rattle.text_listing.proofs.Programs.{put_as, plan-listed}
+use Rattle.plan.specs.Plan.{task_count}
+use Rattle.text_listing.specs.Program.{zeros}
+use Rattle.text_listing.proofs.list_plan.Goals as goal
+
+pub returns : goal.returns
+unfolding task_count zeros
+returns c =
+    put_as _ (plan-listed _ _ _ _ _ _ _ c.filter-answer.ensures.answer) c.list_run.ensures.0 c.list_run.ensures.1
