@@ -1,4 +1,4 @@
-/* Shimlantern for callers in C: the archive that `rt staticlib capi` writes, target/staticlib/libcapi.a (x86-64 Linux).
+/* Shimlantern for callers in C: the archive crates/capi/out/libcapi.a, which `rt lib` writes in crates/capi (x86-64 Linux).
 
    Every function takes any input; what it cannot take it refuses by a number. What the caller owes is the memory: a pointer with a length
    points to so many cells, an array to as many as its declaration says. No pointer is null, not even of length 0. Memory that a function

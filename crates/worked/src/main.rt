@@ -1,47 +1,50 @@
 // 01's worked weeks without a star, weeks of two rooms, logs of step records, and plans written back as text: each is run, and its answer printed on
 // a line.
 #![tactic(auto)]
-ghost use Rattle.std.specs.Prelude.{◌≡◌, ◌≤◌, length};
+
+ghost use Rattle.std.specs.Prelude.{◌≡◌, ◌≤◌, IfOk, length};
 ghost use Rattle.plan_format.specs.Text.{most_bytes};
 ghost use Rattle.worked.specs.Logs.{cells};
 
-use libc::STDOUT_FILENO;
 use plan::{Refusal, fault_of, first_symbol};
 use plan_text::{MOST_BOUNDS, MOST_BYTES, MOST_HEIGHTS, MOST_SYMBOLS, PlanReading};
 use plan_writing::PlanWriting;
 use schedule::ScheduleChecked;
+use std::fs::File;
+use std::io;
+use std::io::Read;
+use std::rt::Files;
 use steps::{Filtered, LogChecked, Step};
 use text::fields::end_of;
 use units::{Bounds, Duration, RoomNumber};
 
-fn print_word(word: &[u8]) {
-    io::write_all(STDOUT_FILENO, word);
+fn print_word(rt: &impl Print, word: &[u8]) -> io::Result<()> {
+    rt.write_all(word)
 }
 
-fn print_field(number: u64) {
-    io::write_all(STDOUT_FILENO, b"\t");
-    io::print_decimal(STDOUT_FILENO, number);
+fn print_field(rt: &impl Print, number: u64) -> io::Result<()> {
+    print!(rt; "\t{number}")
 }
 
-fn end_line() {
-    io::write_all(STDOUT_FILENO, b"\n");
+fn end_line(rt: &impl Print) -> io::Result<()> {
+    print_word(rt, b"\n")
 }
 
-fn report_refusal(refusal: Refusal) {
+fn report_refusal(rt: &impl Print, refusal: Refusal) -> io::Result<()> {
     let fault = fault_of(refusal);
-    print_word(b"refused");
-    print_field(fault.0 as u64);
-    print_field(fault.1 as u64);
-    end_line();
+    print_word(rt, b"refused")?;
+    print_field(rt, fault.0 as u64)?;
+    print_field(rt, fault.1 as u64)?;
+    end_line(rt)
 }
 
-fn report(answer: ScheduleChecked) {
+fn report(rt: &impl Print, answer: ScheduleChecked) -> io::Result<()> {
     match answer {
-        ScheduleChecked::Refused(refusal) => report_refusal(refusal),
+        ScheduleChecked::Refused(refusal) => report_refusal(rt, refusal),
         ScheduleChecked::Feasible(end) => {
-            print_word(b"feasible");
-            print_field(end.0 as u64);
-            end_line();
+            print_word(rt, b"feasible")?;
+            print_field(rt, end.0 as u64)?;
+            end_line(rt)
         }
     }
 }
@@ -77,32 +80,32 @@ fn printed_week(schedule: &[u16]) -> ScheduleChecked {
     )
 }
 
-fn feasible_schedule() {
+fn feasible_schedule(rt: &impl Print) -> io::Result<()> {
     let schedule: [u16; 6] = [3, 2, 0, 0, 3, 0];
-    report(printed_week(&schedule));
+    report(rt, printed_week(&schedule))
 }
 
 // Both tasks run in hour 2.
-fn schedule_over_capacity() {
+fn schedule_over_capacity(rt: &impl Print) -> io::Result<()> {
     let schedule: [u16; 6] = [2, 2, 0, 0, 3, 0];
-    report(printed_week(&schedule));
+    report(rt, printed_week(&schedule))
 }
 
 // Task 0 would end on a closed hour.
-fn schedule_that_ends_closed() {
+fn schedule_that_ends_closed(rt: &impl Print) -> io::Result<()> {
     let schedule: [u16; 6] = [0, 2, 0, 0, 3, 0];
-    report(printed_week(&schedule));
+    report(rt, printed_week(&schedule))
 }
 
 // Both tasks run in hour 1: the first room has racks for both, the second has not.
-fn schedule_over_the_second_capacity() {
+fn schedule_over_the_second_capacity(rt: &impl Print) -> io::Result<()> {
     let task_calendars = TASK_CALENDARS;
     let work_times = WORK_TIMES;
     let heights = HEIGHTS_IN_TWO_ROOMS;
     let capacities: [u16; 2] = [2, 1];
     let boxes: [u16; 12] = [0, 1, 2, 2, 0, 0, 0, 1, 2, 2, 0, 0];
     let schedule: [u16; 6] = [0, 2, 0, 1, 2, 0];
-    report(schedule::check_schedule(
+    let answer = schedule::check_schedule(
         3,
         &capacities,
         b"rrr",
@@ -111,127 +114,136 @@ fn schedule_over_the_second_capacity() {
         &heights,
         &boxes,
         &schedule,
-    ));
+    );
+    report(rt, answer)
 }
 
 // Memory for a plan text.
 const BYTES: usize = plan_text::TEXT_ROOM;
 
-// Prints the name of a plan text of data/, and reads it.
-fn read_data(name: &[u8], text: &mut [u8; BYTES]) -> usize
-    ensures { result ≤ length text.new }
+// Reads until the input ends or the memory is full.
+fn read_full<R: Read>(input: &mut R, text: &mut [u8]) -> io::Result<usize>
+    ensures { IfOk result (λ n. n ≤ length text.new) }
 {
-    io::write_all(STDOUT_FILENO, name);
-    end_line();
-    let file = os::open_read(name);
-    let n = io::read_full(file, text);
-    libc::close(file);
-    n
+    let mut n = 0;
+    while n < text.len() {
+        let more = input.read(&mut text[n..])?;
+        if more == 0 {
+            return Ok(n);
+        }
+        n += more;
+    }
+    Ok(n)
+}
+
+// Prints the name of a plan text of data/, and reads it.
+fn read_data(rt: &(impl Files + Print), name: &str, text: &mut [u8; BYTES]) -> io::Result<usize>
+    ensures { IfOk result (λ n. n ≤ length text.new) }
+{
+    println!(rt; "{name}")?;
+    let mut file = File::open(rt, name)?;
+    read_full(&mut file, text)
 }
 
 // What the program prints for a plan text.
-fn print_listing(name: &[u8]) {
+fn print_listing(rt: &(impl Files + Print), name: &str) -> io::Result<()> {
     let mut text = [0u8; BYTES];
     let mut out = [0u8; listing::ROOM];
-    let n = read_data(name, &mut text);
+    let n = read_data(rt, name, &mut text)?;
     let k = text_listing::list_text(&text[..n], &mut out);
-    io::write_all(STDOUT_FILENO, &out[..k]);
+    rt.write_all(&out[..k])
 }
 
 // What a plan may have at most, and one more.
-fn print_limits() {
-    print_listing(b"no-tasks.plan");
-    print_listing(b"hours-1008.plan");
-    print_listing(b"hours-1009.plan");
-    print_listing(b"tasks-64.plan");
-    print_listing(b"tasks-65.plan");
+fn print_limits(rt: &(impl Files + Print)) -> io::Result<()> {
+    print_listing(rt, "no-tasks.plan")?;
+    print_listing(rt, "hours-1008.plan")?;
+    print_listing(rt, "hours-1009.plan")?;
+    print_listing(rt, "tasks-64.plan")?;
+    print_listing(rt, "tasks-65.plan")
 }
 
 // 01's weeks and its traps, and overtime asked for and not.
-fn print_weeks() {
-    print_listing(b"printed-week.plan");
-    print_listing(b"height-above-capacity.plan");
-    print_listing(b"calendar-a.plan");
-    print_listing(b"rests-before-closing.plan");
-    print_listing(b"one-hour-of-overtime.plan");
-    print_listing(b"overtime-not-asked-for.plan");
-    print_listing(b"two-hours-of-overtime.plan");
-    print_listing(b"own-part-is-no-excess.plan");
+fn print_weeks(rt: &(impl Files + Print)) -> io::Result<()> {
+    print_listing(rt, "printed-week.plan")?;
+    print_listing(rt, "height-above-capacity.plan")?;
+    print_listing(rt, "calendar-a.plan")?;
+    print_listing(rt, "rests-before-closing.plan")?;
+    print_listing(rt, "one-hour-of-overtime.plan")?;
+    print_listing(rt, "overtime-not-asked-for.plan")?;
+    print_listing(rt, "two-hours-of-overtime.plan")?;
+    print_listing(rt, "own-part-is-no-excess.plan")
 }
 
 // Every refusal of a plan text but 5, which is among the limits.
-fn print_refusals() {
-    print_listing(b"refused-1.plan");
-    print_listing(b"refused-1-no-lf.plan");
-    print_listing(b"refused-2.plan");
-    print_listing(b"refused-3.plan");
-    print_listing(b"refused-4.plan");
-    print_listing(b"refused-6.plan");
-    print_listing(b"refused-7.plan");
-    print_listing(b"refused-8.plan");
-    print_listing(b"refused-9.plan");
-    print_listing(b"refused-10.plan");
-    print_listing(b"refused-17.plan");
-    print_listing(b"refused-17-no-room.plan");
-    print_listing(b"refused-1-heights.plan");
+fn print_refusals(rt: &(impl Files + Print)) -> io::Result<()> {
+    print_listing(rt, "refused-1.plan")?;
+    print_listing(rt, "refused-1-no-lf.plan")?;
+    print_listing(rt, "refused-2.plan")?;
+    print_listing(rt, "refused-3.plan")?;
+    print_listing(rt, "refused-4.plan")?;
+    print_listing(rt, "refused-6.plan")?;
+    print_listing(rt, "refused-7.plan")?;
+    print_listing(rt, "refused-8.plan")?;
+    print_listing(rt, "refused-9.plan")?;
+    print_listing(rt, "refused-10.plan")?;
+    print_listing(rt, "refused-17.plan")?;
+    print_listing(rt, "refused-17-no-room.plan")?;
+    print_listing(rt, "refused-1-heights.plan")
 }
 
 // Weeks of two rooms, and one of 40 tasks.
-fn print_larger_weeks() {
-    print_listing(b"two-rooms.plan");
-    print_listing(b"overload-in-the-second-room.plan");
-    print_listing(b"bakery-week.plan");
+fn print_larger_weeks(rt: &(impl Files + Print)) -> io::Result<()> {
+    print_listing(rt, "two-rooms.plan")?;
+    print_listing(rt, "overload-in-the-second-room.plan")?;
+    print_listing(rt, "bakery-week.plan")
 }
 
-fn print_step(x: Step) {
+fn print_step(rt: &impl Print, x: Step) -> io::Result<()> {
     let kind = [x.kind];
-    print_word(&kind);
-    print_field(x.task as u64);
-    print_field(x.hour as u64);
-    end_line();
+    print_word(rt, &kind)?;
+    print_field(rt, x.task as u64)?;
+    print_field(rt, x.hour as u64)?;
+    end_line(rt)
 }
 
-fn print_bound(bound: u16) {
-    print_field(bound as u64);
+fn print_bound(rt: &impl Print, bound: u16) -> io::Result<()> {
+    print_field(rt, bound as u64)
 }
 
-fn print_boxes(boxes: &[u16]) {
-    print_word(b"boxes");
-    for i in 0..boxes.len() {
-        print_bound(boxes[i]);
+fn print_boxes(rt: &impl Print, boxes: &[u16]) -> io::Result<()> {
+    print_word(rt, b"boxes")?;
+    for bound in boxes {
+        print_bound(rt, *bound)?;
     }
-    end_line();
+    end_line(rt)
 }
 
-fn print_count(word: &[u8], count: usize) {
-    print_word(word);
-    print_field(count as u64);
-    end_line();
+fn print_count(rt: &impl Print, word: &[u8], count: usize) -> io::Result<()> {
+    print_word(rt, word)?;
+    print_field(rt, count as u64)?;
+    end_line(rt)
 }
 
-fn report_filtered(answer: Filtered) {
+fn report_filtered(rt: &impl Print, answer: Filtered) -> io::Result<()> {
     match answer {
-        Filtered::Refused(refusal) => report_refusal(refusal),
-        Filtered::NoRoom(count) => print_count(b"room", count),
-        Filtered::Settled(count) => print_count(b"settled", count),
-        Filtered::Impossible(count) => print_count(b"impossible", count),
+        Filtered::Refused(refusal) => report_refusal(rt, refusal),
+        Filtered::NoRoom(count) => print_count(rt, b"room", count),
+        Filtered::Settled(count) => print_count(rt, b"settled", count),
+        Filtered::Impossible(count) => print_count(rt, b"impossible", count),
     }
 }
 
-fn report_checked(answer: LogChecked) {
+fn report_checked(rt: &impl Print, answer: LogChecked) -> io::Result<()> {
     match answer {
-        LogChecked::Refused(refusal) => report_refusal(refusal),
+        LogChecked::Refused(refusal) => report_refusal(rt, refusal),
         LogChecked::Accepted { steps, impossible } => {
-            print_word(b"accepted") {
-    match answer {
-        LogChecked::Refused(refusal) => report_refusal(refusal),
-        LogChecked::Accepted { steps, impossible } => {
-            print_word(b"accepted");
-            print_field(steps as u64);
+            print_word(rt, b"accepted")?;
+            print_field(rt, steps as u64)?;
             if impossible {
-                print_word(b"\timpossible");
+                print_word(rt, b"\timpossible")?;
             }
-            end_line();
+            end_line(rt)
         }
     }
 }
@@ -251,21 +263,22 @@ fn empty_log() -> [Step; CELLS]
 }
 
 // Prints the steps before the first empty cell, and answers how many they are.
-fn print_steps(log: [Step; CELLS]) -> usize
-    ensures { result ≤ cells }
+fn print_steps(rt: &impl Print, log: [Step; CELLS]) -> io::Result<usize>
+    ensures { IfOk result (λ count. count ≤ cells) }
 {
     for i in 0..CELLS {
         let x = log[i];
         if x.kind == 0 {
-            return i;
+            return Ok(i);
         }
-        print_step(x);
+        print_step(rt, x)?;
     }
-    CELLS
+    Ok(CELLS)
 }
 
-// The filter of crate `log`, with room for so many steps: prints the answer, and gives the log.
+// The filter of crate `step_log`, with room for so many steps: prints the answer, and gives the log.
 fn filter_log(
+    rt: &impl Print,
     hours: u16,
     capacities: &[u16],
     calendars: &[u8],
@@ -274,9 +287,9 @@ fn filter_log(
     heights: &[u16],
     boxes: &mut [u16],
     room: usize,
-) -> [Step; CELLS]
+) -> io::Result<[Step; CELLS]>
     requires { room ≤ cells }
-    ensures { length result ≡ cells }
+    ensures { IfOk result (λ log. length log ≡ cells) }
 {
     let mut log = empty_log();
     let answer = step_log::filter(
@@ -289,11 +302,11 @@ fn filter_log(
         boxes,
         &mut log[..room],
     );
-    report_filtered(answer);
-    log
+    report_filtered(rt, answer)?;
+    Ok(log)
 }
 
-// The log checker of crate `log` on so many steps.
+// The log checker of crate `step_log` on so many steps.
 fn check_log(
     hours: u16,
     capacities: &[u16],
@@ -321,20 +334,22 @@ fn check_log(
 
 // The filter on a week of the two tasks, with room for so many steps: prints the answer and the boxes left, and gives the log.
 fn filter_week(
+    rt: &impl Print,
     hours: u16,
     capacities: &[u16],
     calendar: &[u8],
     heights: &[u16],
     opening: [u16; 12],
     room: usize,
-) -> [Step; CELLS]
+) -> io::Result<[Step; CELLS]>
     requires { room ≤ cells }
-    ensures { length result ≡ cells }
+    ensures { IfOk result (λ log. length log ≡ cells) }
 {
     let task_calendars = TASK_CALENDARS;
     let work_times = WORK_TIMES;
     let mut boxes = opening;
     let log = filter_log(
+        rt,
         hours,
         capacities,
         calendar,
@@ -343,13 +358,14 @@ fn filter_week(
         heights,
         &mut boxes,
         room,
-    );
-    print_boxes(&boxes);
-    log
+    )?;
+    print_boxes(rt, &boxes)?;
+    Ok(log)
 }
 
 // The log checker on so many steps of a log of a week of the two tasks: prints the answer and the boxes left.
 fn check_week(
+    rt: &impl Print,
     hours: u16,
     capacities: &[u16],
     calendar: &[u8],
@@ -357,7 +373,7 @@ fn check_week(
     opening: [u16; 12],
     log: [Step; CELLS],
     count: usize,
-)
+) -> io::Result<()>
     requires { (count ≤ cells) × (length log ≡ cells) }
 {
     let task_calendars = TASK_CALENDARS;
@@ -374,69 +390,71 @@ fn check_week(
         log,
         count,
     );
-    report_checked(checked);
-    print_boxes(&boxes);
+    report_checked(rt, checked)?;
+    print_boxes(rt, &boxes)
 }
 
 // A week with room for so many steps, and its log printed, and checked from the opening boxes.
 fn week_log(
+    rt: &impl Print,
     hours: u16,
     capacities: &[u16],
     calendar: &[u8],
     heights: &[u16],
     opening: [u16; 12],
     room: usize,
-)
+) -> io::Result<()>
     requires { room ≤ cells }
 {
-    let log = filter_week(hours, capacities, calendar, heights, opening, room);
-    let count = print_steps(log);
-    check_week(hours, capacities, calendar, heights, opening, log, count);
+    let log = filter_week(rt, hours, capacities, calendar, heights, opening, room)?;
+    let count = print_steps(rt, log)?;
+    check_week(
+        rt, hours, capacities, calendar, heights, opening, log, count,
+    )
 }
 
 // The printed week.
-fn printed_week_log(room: usize)
+fn printed_week_log(rt: &impl Print, room: usize) -> io::Result<()>
     requires { room ≤ cells }
 {
     let capacities = [1u16];
     let heights = HEIGHTS;
-    week_log(6, &capacities, b"rcrrrr", &heights, OPENING, room);
+    week_log(rt, 6, &capacities, b"rcrrrr", &heights, OPENING, room)
 }
 
 // Weeks of two rooms: task 0 fills the second in hours 0 and 1, so that task 1 starts in hour 2; both must run in hour 1.
-fn two_rooms_logs() {
+fn two_rooms_logs(rt: &impl Print) -> io::Result<()> {
     let capacities: [u16; 2] = [2, 1];
     let heights = HEIGHTS_IN_TWO_ROOMS;
     let later: [u16; 12] = [0, 0, 2, 2, 0, 0, 0, 3, 2, 4, 0, 0];
-    week_log(4, &capacities, b"rrrr", &heights, later, CELLS);
+    week_log(rt, 4, &capacities, b"rrrr", &heights, later, CELLS)?;
     let together: [u16; 12] = [0, 1, 2, 2, 0, 0, 0, 1, 2, 2, 0, 0];
-    week_log(3, &capacities, b"rrr", &heights, together, CELLS);
+    week_log(rt, 3, &capacities, b"rrr", &heights, together, CELLS)
 }
 
 // 130 regular hours without capacity: the filter raises the earliest start of task 0 hour by hour, until its step 127, the last of the log's second
 // part of 64, says impossible. The log is checked as it is, and with a record after that step.
-fn log_of_two_parts() {
+fn log_of_two_parts(rt: &impl Print) -> io::Result<()> {
     let calendar = [b'r'; 130];
     let opening: [u16; 12] = [0, 128, 2, 2, 0, 0, 0, 128, 2, 2, 0, 0];
     let capacities = [0u16];
     let heights = HEIGHTS;
-    let mut log = filter_week(130, &capacities, &calendar, &heights, opening, CELLS);
-    check_week(130, &capacities, &calendar, &heights, opening, log, 128);
+    let mut log = filter_week(rt, 130, &capacities, &calendar, &heights, opening, CELLS)?;
+    check_week(rt, 130, &capacities, &calendar, &heights, opening, log, 128)?;
     let first = log[0];
     log[128] = first;
-    check_week(130, &capacities, &calendar, &heights, opening, log, 129);
+    check_week(rt, 130, &capacities, &calendar, &heights, opening, log, 129)
 }
 
-fn report_writing(answer: PlanWriting) {
+fn report_writing(rt: &impl Print, answer: PlanWriting) -> io::Result<()> {
     match answer {
-        PlanWriting::Refused(refusal) => report_refusal(refusal),
-        PlanWriting::Written(length) => print_count(b"written", length),
+        PlanWriting::Refused(refusal) => report_refusal(rt, refusal),
+        PlanWriting::Written(length) => print_count(rt, b"written", length),
     }
 }
 
 // Reads a plan text and writes the plan back.
 fn rewrite(text: &[u8], out: &mut [u8]) -> PlanWriting {
-    let mut capacities = [0u16; RoomNumber::MOST] -> PlanWriting {
     let mut capacities = [0u16; RoomNumber::MOST];
     let mut symbols = [0u8; MOST_SYMBOLS];
     let mut task_calendars = [0u16; Bounds::MOST];
@@ -487,61 +505,61 @@ fn marks() -> [u8; MOST_BYTES]
 }
 
 // A plan text of data/ read, and written back into the memory lent: prints the answer, and says how many bytes were written.
-fn rewrite_data(name: &[u8], out: &mut [u8]) -> usize
-    ensures { result ≤ length out.new }
+fn rewrite_data(rt: &(impl Files + Print), name: &str, out: &mut [u8]) -> io::Result<usize>
+    ensures { IfOk result (λ end. end ≤ length out.new) }
 {
     let mut text = [0u8; BYTES];
-    let n = read_data(name, &mut text);
+    let n = read_data(rt, name, &mut text)?;
     let answer = rewrite(&text[..n], out);
-    report_writing(answer);
-    end_of(out, MARK)
+    report_writing(rt, answer)?;
+    Ok(end_of(out, MARK))
 }
 
 // A plan text written back: the text.
-fn print_rewritten(name: &[u8]) {
+fn print_rewritten(rt: &(impl Files + Print), name: &str) -> io::Result<()> {
     let mut out = marks();
-    let end = rewrite_data(name, &mut out);
-    io::write_all(STDOUT_FILENO, &out[..end]);
+    let end = rewrite_data(rt, name, &mut out)?;
+    rt.write_all(&out[..end])
 }
 
 // A plan text written back into so many bytes: how many were written.
-fn count_rewritten(name: &[u8], room: usize)
+fn count_rewritten(rt: &(impl Files + Print), name: &str, room: usize) -> io::Result<()>
     requires { room ≤ most_bytes }
 {
     let mut out = marks();
-    let end = rewrite_data(name, &mut out[..room]);
-    print_count(b"bytes", end);
+    let end = rewrite_data(rt, name, &mut out[..room])?;
+    print_count(rt, b"bytes", end)
 }
 
 // Plans written back: with bounds and without, of two rooms, without tasks, one that is refused, the printed week of 66 bytes, and the longest text.
-fn print_rewritings() {
-    print_rewritten(b"printed-week.plan");
-    print_rewritten(b"overtime-not-asked-for.plan");
-    print_rewritten(b"two-rooms.plan");
-    print_rewritten(b"no-tasks.plan");
-    print_rewritten(b"bakery-week.plan");
-    print_rewritten(b"refused-9.plan");
-    count_rewritten(b"printed-week.plan", 0);
-    count_rewritten(b"printed-week.plan", 65);
-    count_rewritten(b"printed-week.plan", 66);
-    count_rewritten(b"printed-week.plan", 67);
-    count_rewritten(b"longest.plan", 21577);
-    count_rewritten(b"longest.plan", 21578);
-    count_rewritten(b"longest.plan", 21579);
+fn print_rewritings(rt: &(impl Files + Print)) -> io::Result<()> {
+    print_rewritten(rt, "printed-week.plan")?;
+    print_rewritten(rt, "overtime-not-asked-for.plan")?;
+    print_rewritten(rt, "two-rooms.plan")?;
+    print_rewritten(rt, "no-tasks.plan")?;
+    print_rewritten(rt, "bakery-week.plan")?;
+    print_rewritten(rt, "refused-9.plan")?;
+    count_rewritten(rt, "printed-week.plan", 0)?;
+    count_rewritten(rt, "printed-week.plan", 65)?;
+    count_rewritten(rt, "printed-week.plan", 66)?;
+    count_rewritten(rt, "printed-week.plan", 67)?;
+    count_rewritten(rt, "longest.plan", 21577)?;
+    count_rewritten(rt, "longest.plan", 21578)?;
+    count_rewritten(rt, "longest.plan", 21579)
 }
 
-fn main() {
-    feasible_schedule();
-    schedule_over_capacity();
-    schedule_that_ends_closed();
-    schedule_over_the_second_capacity();
-    print_limits();
-    print_weeks();
-    print_refusals();
-    print_larger_weeks();
-    printed_week_log(CELLS);
-    printed_week_log(2);
-    two_rooms_logs();
-    log_of_two_parts();
-    print_rewritings();
+fn main(rt: HostRuntime) -> io::Result<()> {
+    feasible_schedule(&rt)?;
+    schedule_over_capacity(&rt)?;
+    schedule_that_ends_closed(&rt)?;
+    schedule_over_the_second_capacity(&rt)?;
+    print_limits(&rt)?;
+    print_weeks(&rt)?;
+    print_refusals(&rt)?;
+    print_larger_weeks(&rt)?;
+    printed_week_log(&rt, CELLS)?;
+    printed_week_log(&rt, 2)?;
+    two_rooms_logs(&rt)?;
+    log_of_two_parts(&rt)?;
+    print_rewritings(&rt)
 }
