@@ -11,12 +11,17 @@ returns-in_default c = λ r symbols cells held. no-hours held (if_none _ _ (sym 
 pub returns-then-not-is_count : goal.returns-then-not-is_count
 returns-then-not-is_count c =
     λ r symbols cells held.
-    no-calendars held ((if_some _ _ _ (sym c.of_plan.ensures ∙ ap duration_made c.in-Within.is)).0) (sym c.is_count.ensures ∙ c.if-not-is_count.true)
+    let hours = if_some _ _ _ (sym c.of_plan.ensures ∙ ap duration_made c.in-Within.is) in
+    no-calendars held hours.0 (sym c.is_count.ensures ∙ c.if-not-is_count.true)
 
 pub returns-then-not-scan : goal.returns-then-not-scan
-returns-then-not-scan c = λ r symbols cells held. uneven held ((if_some _ _ _ (sym c.of_plan.ensures ∙ ap duration_made c.in-Within.is)).0) (not-true _ c.if-not-scan.true)
+returns-then-not-scan c =
+    λ r symbols cells held.
+    let hours = if_some _ _ _ (sym c.of_plan.ensures ∙ ap duration_made c.in-Within.is) in
+    uneven held hours.0 (not-true _ c.if-not-scan.true)
 
 pub returns : goal.returns
 returns c =
     λ r symbols cells held.
-    lines-pass held ((if_some _ _ _ (sym c.of_plan.ensures ∙ ap duration_made c.in-Within.is)).0) (sym c.is_count.ensures ∙ c.if-not-is_count.false) (not-false _ c.if-not-scan.false)
+    let hours = if_some _ _ _ (sym c.of_plan.ensures ∙ ap duration_made c.in-Within.is) in
+    lines-pass held hours.0 (sym c.is_count.ensures ∙ c.if-not-is_count.false) (not-false _ c.if-not-scan.false)

@@ -18,22 +18,23 @@ returns-in_default c =
 pub slice_bounds-calendars-end : goal.slice_bounds-calendars-end
 slice_bounds-calendars-end c =
     let text = c.requires.0 in
-    sym (length-take-le c.args.scan.symbols c.args.symbols.now
-    (omega (arith, text.sized.of-symbols, symbols-fit text.held (sym (ap tested_fault c.in-Passed.is) ∙ c.test_lines-lines.ensures text.text _ _ text.held))))
+    let pass = sym (ap tested_fault c.in-Passed.is) ∙ c.test_lines-lines.ensures text.text _ _ text.held in
+    sym (length-take-le c.args.scan.symbols c.args.symbols.now (omega (arith, text.sized.of-symbols, symbols-fit text.held pass)))
 
 pub returns-then-not-is_count : goal.returns-then-not-is_count
 unfolding is_task_count
 returns-then-not-is_count c =
     λ r held.
-    c.test_symbols.ensures
-    ∙ read-too-many held (sym (ap tested_fault c.in-Passed.is) ∙ c.test_lines-lines.ensures r _ _ held) (leb-false _ _ (sym c.is_count.ensures ∙ c.if-not-is_count.true))
+    let pass = sym (ap tested_fault c.in-Passed.is) ∙ c.test_lines-lines.ensures r _ _ held in
+    c.test_symbols.ensures ∙ read-too-many held pass (leb-false _ _ (sym c.is_count.ensures ∙ c.if-not-is_count.true))
 
 pub returns-then-not-is_count-2 : goal.returns-then-not-is_count-2
 unfolding is_task_count
 returns-then-not-is_count-2 c =
     λ r held.
-    c.test_symbols-then-not-is_count-2.ensures
-    ∙ read-no-rooms held (sym (ap tested_fault c.in-Passed.is) ∙ c.test_lines-lines.ensures r _ _ held) (leb-true _ _ (sym c.is_count.ensures ∙ c.if-not-is_count.false)) (sym c.is_count-2.ensures ∙ c.if-not-is_count-2.true)
+    let pass = sym (ap tested_fault c.in-Passed.is) ∙ c.test_lines-lines.ensures r _ _ held in
+    let few = leb-true _ _ (sym c.is_count.ensures ∙ c.if-not-is_count.false) in
+    c.test_symbols-then-not-is_count-2.ensures ∙ read-no-rooms held pass few (sym c.is_count-2.ensures ∙ c.if-not-is_count-2.true)
 
 pub test_stored-requires : goal.test_stored-requires
 unfolding Gathered is_room_count is_task_count
@@ -46,4 +47,7 @@ pub returns : goal.returns
 unfolding is_room_count is_task_count
 returns c =
     λ r held.
-    c.test_stored.ensures ∙ read-plan held (sym (ap tested_fault c.in-Passed.is) ∙ c.test_lines-lines.ensures r _ _ held) (leb-true _ _ (sym c.is_count.ensures ∙ c.if-not-is_count.false)) (to-most 1 most_rooms _ (sym c.is_count-2.ensures ∙ c.if-not-is_count-2.false))
+    let pass = sym (ap tested_fault c.in-Passed.is) ∙ c.test_lines-lines.ensures r _ _ held in
+    let rooms = to-most 1 most_rooms _ (sym c.is_count-2.ensures ∙ c.if-not-is_count-2.false) in
+    let few = leb-true _ _ (sym c.is_count.ensures ∙ c.if-not-is_count.false) in
+    c.test_stored.ensures ∙ read-plan held pass few rooms

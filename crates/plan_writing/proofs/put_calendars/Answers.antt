@@ -1,5 +1,6 @@
 use mathlib.Core.List.{[]}
 use mathlib.Core.Path.{◌≡◌, refl, ◌∙◌}
+use Prim.Native.Nat.{◌<◌}
 use native.Mathlib.Omega.{arith}
 use Rattle.text.proofs.Puts.{put-none}
 use Rattle.plan.specs.Plan.{shifts, calendar_count, calendar_at}
@@ -12,35 +13,40 @@ loop-k-init c = (omega arith, refl, rw (cals-none _) (put-none _ _))
 
 pub overflow_cast-k : goal.overflow_cast-k
 unfolding calendar_count
-overflow_cast-k c = omega (arith, c.loop-k-test.true, (c.calendar_count-k-end.ensures), c.requires.1)
+overflow_cast-k c = omega (arith, c.loop-k-test.true, c.calendar_count-k-end.ensures, c.requires.1)
 
 pub calendar_at-calendar-requires : goal.calendar_at-calendar-requires
 unfolding calendar_count
-calendar_at-calendar-requires c = calendar-in (shifts c.args.hours.0 c.args.calendars.now [] []) c.loop-k.k (omega (arith, c.loop-k-test.true, (c.calendar_count-k-end.ensures)))
+calendar_at-calendar-requires c =
+    calendar-in (shifts c.args.hours.0 c.args.calendars.now [] []) c.loop-k.k (omega (arith, c.loop-k-test.true, c.calendar_count-k-end.ensures))
 
 pub put_calendar-end-requires : goal.put_calendar-end-requires
 unfolding calendar_at calendar_count
 put_calendar-end-requires c =
+    let S = shifts c.args.hours.0 c.args.calendars.now [] [] in
+    let within : c.loop-k.k < calendar_count S = omega (arith, c.loop-k-test.true, c.calendar_count-k-end.ensures) in
     omega (
       arith,
       c.requires.2,
       c.loop-k.invariant.1,
       c.loop-k.invariant.2.place,
-      cals-room (shifts c.args.hours.0 c.args.calendars.now [] []) c.loop-k.k c.calendar_at-calendar.ensures (calendar_count (shifts c.args.hours.0 c.args.calendars.now [] [])) (omega (arith, c.loop-k-test.true, (c.calendar_count-k-end.ensures))),
+      cals-room S c.loop-k.k c.calendar_at-calendar.ensures (calendar_count S) within,
     )
 
 pub loop-k-preserved : goal.loop-k-preserved
 unfolding calendar_at
-loop-k-preserved c = (
-  omega (arith, c.loop-k-test.true),
-  c.put_calendar-end.auto.out ∙ c.loop-k.invariant.1,
-  cals-put (shifts c.args.hours.0 c.args.calendars.now [] []) c.loop-k.k (c.calendar_at-calendar.ensures) (omega (arith, c.requires.2)) c.loop-k.invariant.2 c.put_calendar-end.ensures,
-)
+loop-k-preserved c =
+    let S = shifts c.args.hours.0 c.args.calendars.now [] [] in (
+      omega (arith, c.loop-k-test.true),
+      c.put_calendar-end.auto.out ∙ c.loop-k.invariant.1,
+      cals-put S c.loop-k.k c.calendar_at-calendar.ensures (omega (arith, c.requires.2)) c.loop-k.invariant.2 c.put_calendar-end.ensures,
+    )
 
 pub returns : goal.returns
 unfolding calendar_count
 returns c =
-    let all : c.loop-k.k ≡ calendar_count (shifts c.args.hours.0 c.args.calendars.now [] []) = omega (arith, c.loop-k.invariant.0, (c.calendar_count-k-end.ensures)) in
+    let S = shifts c.args.hours.0 c.args.calendars.now [] [] in
+    let all : c.loop-k.k ≡ calendar_count S = omega (arith, c.loop-k.invariant.0, c.calendar_count-k-end.ensures) in
     rw all at c.loop-k.invariant.2
 
 pub calendar_count-k-end-requires : goal.calendar_count-k-end-requires
