@@ -15,16 +15,24 @@ returns-then-not-may_end c =
     let known = c.requires in
     unmoved _ (none-ends known (sym c.may_end.ensures ∙ c.if-not-may_end.true))
 
-pub returns : goal.returns
-returns c =
-    let window = window-is c.requires (sym c.is_kind.ensures ∙ c.if-is_kind.false) (sym c.may_end.ensures ∙ c.if-not-may_end.false) c.if-longest-shortest.false in
-    rw (c.with_window.ensures, c.window_from-window.ensures, c.witnesses_from-witnesses.ensures) (sym (with-window-of _ _ _ _ window))
-
 pub may_end-requires : goal.may_end-requires
 may_end-requires c = counts-small c.requires.is-shortest
 
 pub window_from-window-requires : goal.window_from-window-requires
-window_from-window-requires c = (window-ready c.requires (sym c.is_kind.ensures ∙ c.if-is_kind.false) (sym c.may_end.ensures ∙ c.if-not-may_end.false) c.if-longest-shortest.false)
+window_from-window-requires c =
+    let starts = sym c.is_kind.ensures ∙ c.if-is_kind.false in
+    let ends = sym c.may_end.ensures ∙ c.if-not-may_end.false in
+    window-ready c.requires starts ends c.if-longest-shortest.false
 
 pub witnesses_from-witnesses-requires : goal.witnesses_from-witnesses-requires
-witnesses_from-witnesses-requires c = (window-ready c.requires (sym c.is_kind.ensures ∙ c.if-is_kind.false) (sym c.may_end.ensures ∙ c.if-not-may_end.false) c.if-longest-shortest.false)
+witnesses_from-witnesses-requires c =
+    let starts = sym c.is_kind.ensures ∙ c.if-is_kind.false in
+    let ends = sym c.may_end.ensures ∙ c.if-not-may_end.false in
+    window-ready c.requires starts ends c.if-longest-shortest.false
+
+pub returns : goal.returns
+returns c =
+    let starts = sym c.is_kind.ensures ∙ c.if-is_kind.false in
+    let ends = sym c.may_end.ensures ∙ c.if-not-may_end.false in
+    let window = window-is c.requires starts ends c.if-longest-shortest.false in
+    rw (c.with_window.ensures, c.window_from-window.ensures, c.witnesses_from-witnesses.ensures) (sym (with-window-of _ _ _ _ window))

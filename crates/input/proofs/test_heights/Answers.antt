@@ -28,14 +28,14 @@ height_at-height-requires c =
 pub returns-in_default : goal.returns-in_default
 unfolding height_fault
 returns-in_default c =
-    let made = sym c.of_task.ensures ∙ ap height_made c.in_default.is in
+    let made = sym c.in_default.ensures in
     let within = in-room _ c.room_part.ensures c.height_at-height.ensures (if_none _ _ made) in
     sym (unfound-hit c.loop-room.invariant c.loop-room-test.true (unless-false _ 8 _ within))
 
 pub loop-room-preserved : goal.loop-room-preserved
 unfolding height_fault
 loop-room-preserved c =
-    let made = sym c.of_task.ensures ∙ ap height_made c.in-Within.is in
+    let made = sym c.in-Within.ensures in
     let within = in-room _ c.room_part.ensures c.height_at-height.ensures (if_some _ _ _ made).0 in
     unfound-next c.loop-room.invariant c.loop-room-test.true (unless-true _ 8 _ within)
 

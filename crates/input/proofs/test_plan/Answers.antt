@@ -14,13 +14,13 @@ pub returns-in_default-by_counts : goal.returns-in_default-by_counts
 unfolding plan_fault room_count task_count
 returns-in_default-by_counts c =
     outer-ends _ _ c.test_counts-by_counts.ensures (ap tested_fault c.in_default-by_counts.is)
-    ∙ sym (else-none _ _ (sym c.test_calendars-by_calendars.ensures ∙ ap tested_fault c.in-Passed.is))
+    ∙ sym (else-none _ _ (sym c.in-Passed.ensures))
 
 pub test_tasks-requires : goal.test_tasks-requires
 test_tasks-requires c =
     let size = sized _ _ _ _ _ c.requires in
     record {
-      some-hours = (calendars-passed (sym c.test_calendars-by_calendars.ensures ∙ ap tested_fault c.in-Passed.is)).some-hours;
+      some-hours = (calendars-passed (sym c.in-Passed.ensures)).some-hours;
       work-times = size.work-times;
       heights = size.heights;
       boxes = size.boxes;
@@ -30,4 +30,4 @@ pub returns : goal.returns
 unfolding plan_fault room_count task_count
 returns c =
     outer-goes-on _ _ c.test_counts-by_counts.ensures (ap tested_fault c.in-Passed-by_counts.is) c.test_tasks.ensures
-    ∙ sym (else-none _ _ (sym c.test_calendars-by_calendars.ensures ∙ ap tested_fault c.in-Passed.is))
+    ∙ sym (else-none _ _ (sym c.in-Passed.ensures))

@@ -12,12 +12,14 @@ test_task-tested-requires c =
 pub returns-in_default : goal.returns-in_default
 unfolding tasks_fault
 returns-in_default c =
+    let task = task-is _ _ _ _ _ _ _ _ c.calendar_count-count.ensures c.bounds_at.ensures c.test_task-tested.ensures in
     let told = ap tested_fault c.in_default.is in
-    told ∙ sym (unfound-hit c.loop-i.invariant c.loop-i-test.true (sym (task-is _ _ _ _ _ _ _ _ c.calendar_count-count.ensures c.bounds_at.ensures c.test_task-tested.ensures) ∙ told))
+    told ∙ sym (unfound-hit c.loop-i.invariant c.loop-i-test.true (sym task ∙ told))
 
 pub loop-i-preserved : goal.loop-i-preserved
 loop-i-preserved c =
-    unfound-next c.loop-i.invariant c.loop-i-test.true (sym (task-is _ _ _ _ _ _ _ _ c.calendar_count-count.ensures c.bounds_at.ensures c.test_task-tested.ensures) ∙ ap tested_fault c.in-Passed.is)
+    let task = task-is _ _ _ _ _ _ _ _ c.calendar_count-count.ensures c.bounds_at.ensures c.test_task-tested.ensures in
+    unfound-next c.loop-i.invariant c.loop-i-test.true (sym task ∙ ap tested_fault c.in-Passed.is)
 
 pub returns : goal.returns
 unfolding tasks_fault

@@ -11,7 +11,7 @@ returns-in_default c =
 
 pub returns : goal.returns
 returns c =
-    sym (else-none _ _ (sym c.test_plan-tested.ensures ∙ ap tested_fault c.in-Passed.is))
+    sym (else-none _ _ (sym c.in-Passed.ensures))
 
 pub test_plan-tested-requires : goal.test_plan-tested-requires
 test_plan-tested-requires c = no-task-each

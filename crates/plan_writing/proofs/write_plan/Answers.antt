@@ -6,15 +6,15 @@ use Rattle.plan_writing.proofs.write_plan.Goals as goal
 
 pub returns-in-Refused-clause-answer : goal.returns-in-Refused-clause-answer
 returns-in-Refused-clause-answer c =
-    writes-refused _ _ _ (sym c.test_input-tested.ensures ∙ ap tested_fault c.in-Refused.is)
+    writes-refused _ _ _ (sym c.in-Refused.ensures)
 
 pub returns-in-Refused-clause-back : goal.returns-in-Refused-clause-back
 returns-in-Refused-clause-back c =
     (writes-hold _ _ _ _ _
-    (writes-refused _ _ _ (sym c.test_input-tested.ensures ∙ ap tested_fault c.in-Refused.is))).1
+    (writes-refused _ _ _ (sym c.in-Refused.ensures))).1
 
 pub write_passed-requires : goal.write_passed-requires
-write_passed-requires c = sym c.test_input-tested.ensures ∙ ap tested_fault c.in_default.is
+write_passed-requires c = sym c.in_default.ensures
 
 pub returns-clause-back : goal.returns-clause-back
 returns-clause-back c = (writes-hold _ _ _ _ _ c.write_passed.ensures).1

@@ -9,18 +9,18 @@ use Rattle.schedule.proofs.check_schedule.Goals as goal
 pub latest_end-requires : goal.latest_end-requires
 unfolding task_count
 latest_end-requires c =
-    let known = faultless _ _ _ (sym c.test_schedule-tested.ensures ∙ ap tested_fault c.in-Passed.is) in
+    let known = faultless _ _ _ (sym c.in-Passed.ensures) in
     ends-ready known.input known.feasible
 
 pub returns-in-Refused : goal.returns-in-Refused
 returns-in-Refused c =
-    let fault = sym c.test_schedule-tested.ensures ∙ ap tested_fault c.in-Refused.is in
+    let fault = sym c.in-Refused.ensures in
     let answer = sym (refuses _ _ _ _ fault) in
     record { answer = answer; exactly = decides-as _ _ _ _ answer }
 
 pub returns-in-Passed : goal.returns-in-Passed
 unfolding makespan task_count
 returns-in-Passed c =
-    let none = sym c.test_schedule-tested.ensures ∙ ap tested_fault c.in-Passed.is in
+    let none = sym c.in-Passed.ensures in
     let answer = ap answered c.latest_end.ensures ∙ sym (accepts _ _ _ none) in
     record { answer = answer; exactly = decides-as _ _ _ _ answer }

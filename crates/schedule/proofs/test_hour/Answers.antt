@@ -18,14 +18,16 @@ pub returns-then-exceeds : goal.returns-then-exceeds
 unfolding room_running_fault heights_fault
 returns-then-exceeds c =
     let limit = number_of c.height_at-capacity.ensures in
-    let over = unless-false _ 16 _ (exceeds _ _ _ _ (running-as _ _ _ _ _ c.room_part-in_room.ensures c.running_heights.ensures) limit _ c.exceeds.ensures c.if-exceeds.true) in
+    let sum = running-as _ _ _ _ _ c.room_part-in_room.ensures c.running_heights.ensures in
+    let over = unless-false _ 16 _ (exceeds _ _ _ _ sum limit _ c.exceeds.ensures c.if-exceeds.true) in
     sym (unfound-hit c.loop-room.invariant c.loop-room-test.true over)
 
 pub loop-room-preserved : goal.loop-room-preserved
 unfolding room_running_fault
 loop-room-preserved c =
     let limit = number_of c.height_at-capacity.ensures in
-    let allowed = unless-true _ 16 _ (allows _ _ _ _ (running-as _ _ _ _ _ c.room_part-in_room.ensures c.running_heights.ensures) limit _ c.exceeds.ensures c.if-exceeds.false) in
+    let sum = running-as _ _ _ _ _ c.room_part-in_room.ensures c.running_heights.ensures in
+    let allowed = unless-true _ 16 _ (allows _ _ _ _ sum limit _ c.exceeds.ensures c.if-exceeds.false) in
     unfound-next c.loop-room.invariant c.loop-room-test.true allowed
 
 pub returns : goal.returns

@@ -11,7 +11,7 @@ returns-in_default c =
 pub loop-hour-preserved : goal.loop-hour-preserved
 loop-hour-preserved c =
     unfound-next c.loop-hour.invariant c.loop-hour-test.true
-    (sym c.test_hour-tested.ensures ∙ ap tested_fault c.in-Passed.is)
+    (sym c.in-Passed.ensures)
 
 pub returns : goal.returns
 returns c = sym (unfound-end c.loop-hour.invariant c.loop-hour-test.false)

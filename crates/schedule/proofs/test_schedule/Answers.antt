@@ -42,7 +42,7 @@ test_triples-by_triples-requires c =
     let a = c.args in
     let P = plan a.hours a.capacities.now a.calendars.now a.task_calendars.now a.work_times.now a.heights.now in
     triples-ready
-    (passing P _ _ (sym c.is_right_size.ensures ∙ c.if-not-is_right_size.false) (sym c.test_plan-by_plan.ensures ∙ ap tested_fault c.in-Passed.is))
+    (passing P _ _ (sym c.is_right_size.ensures ∙ c.if-not-is_right_size.false) (sym c.in-Passed.ensures))
 
 pub returns-in_default-by_triples : goal.returns-in_default-by_triples
 unfolding schedule_fault task_count
@@ -50,7 +50,7 @@ returns-in_default-by_triples c =
     outer-ends _ _ c.test_triples-by_triples.ensures (ap tested_fault c.in_default-by_triples.is)
     ∙ sym
     (by-schedule _ _ _
-    (passing _ _ _ (sym c.is_right_size.ensures ∙ c.if-not-is_right_size.false) (sym c.test_plan-by_plan.ensures ∙ ap tested_fault c.in-Passed.is)))
+    (passing _ _ _ (sym c.is_right_size.ensures ∙ c.if-not-is_right_size.false) (sym c.in-Passed.ensures)))
 
 pub test_hours-requires : goal.test_hours-requires
 unfolding room_count task_count
@@ -58,7 +58,7 @@ test_hours-requires c =
     let a = c.args in
     let P = plan a.hours a.capacities.now a.calendars.now a.task_calendars.now a.work_times.now a.heights.now in
     rooms-ready
-    (passing P _ _ (sym c.is_right_size.ensures ∙ c.if-not-is_right_size.false) (sym c.test_plan-by_plan.ensures ∙ ap tested_fault c.in-Passed.is))
+    (passing P _ _ (sym c.is_right_size.ensures ∙ c.if-not-is_right_size.false) (sym c.in-Passed.ensures))
 
 pub returns : goal.returns
 unfolding schedule_fault task_count
@@ -67,7 +67,7 @@ returns c =
     let P = plan a.hours a.capacities.now a.calendars.now a.task_calendars.now a.work_times.now a.heights.now in
     let size : RightSize P a.boxes.now a.schedule.now = sym c.is_right_size.ensures ∙ c.if-not-is_right_size.false in
     let input : InputPasses P a.boxes.now a.schedule.now =
-    passing _ _ _ size (sym c.test_plan-by_plan.ensures ∙ ap tested_fault c.in-Passed.is) in
+    passing _ _ _ size (sym c.in-Passed.ensures) in
     outer-goes-on _ _ c.test_triples-by_triples.ensures (ap tested_fault c.in-Passed-by_triples.is)
     (c.test_hours.ensures ∙ hours-are _ _ (room-tasks input))
     ∙ sym (by-schedule _ _ _ input)

@@ -16,20 +16,20 @@ slice_bounds-number_of-end c =
 pub returns-in_default : goal.returns-in_default
 unfolding NumbersMade
 returns-in_default c =
-    gathered-not c.loop-number.invariant.1 c.end_of-end.ensures (sym c.number_of.ensures ∙ ap number_made c.in_default.is)
+    gathered-not c.loop-number.invariant.1 c.end_of-end.ensures (sym c.in_default.ensures)
 
 pub overflow_add-count : goal.overflow_add-count
 overflow_add-count c =
     omega (
       arith,
-      gathered-few c.loop-number.invariant.1 c.end_of-end.ensures (sym c.number_of.ensures ∙ ap number_made c.in-Number.is),
+      gathered-few c.loop-number.invariant.1 c.end_of-end.ensures (sym c.in-Number.ensures),
     )
 
 pub returns-then-end-rest : goal.returns-then-end-rest
 unfolding NumbersMade
 returns-then-end-rest c =
     gathered-last c.loop-number.invariant.1 c.end_of-end.ensures
-    (sym c.number_of.ensures ∙ ap number_made c.in-Number.is)
+    (sym c.in-Number.ensures)
     c.if-end-rest.true
     c.keep_number.ensures
 
@@ -37,7 +37,7 @@ pub loop-number-preserved : goal.loop-number-preserved
 loop-number-preserved c = (
   c.keep_number.auto.cells ∙ c.loop-number.invariant.0,
   (gathered-more c.loop-number.invariant.1 c.end_of-end.ensures
-      (sym c.number_of.ensures ∙ ap number_made c.in-Number.is)
+      (sym c.in-Number.ensures)
       c.if-end-rest.false
       c.keep_number.ensures),
 )
@@ -56,7 +56,7 @@ overflow_add-from c =
     omega (
       arith,
       (gathered-more c.loop-number.invariant.1 c.end_of-end.ensures
-          (sym c.number_of.ensures ∙ ap number_made c.in-Number.is)
+          (sym c.in-Number.ensures)
           c.if-end-rest.false
           c.keep_number.ensures).inside,
     )
@@ -66,7 +66,7 @@ overflow_add-from-in-loop-number c =
     omega (
       arith,
       (gathered-more c.loop-number.invariant.1 c.end_of-end.ensures
-          (sym c.number_of.ensures ∙ ap number_made c.in-Number.is)
+          (sym c.in-Number.ensures)
           c.if-end-rest.false
           c.keep_number.ensures).inside,
     )
@@ -76,7 +76,7 @@ loop-number-smaller c =
     omega (
       arith,
       (gathered-more c.loop-number.invariant.1 c.end_of-end.ensures
-          (sym c.number_of.ensures ∙ ap number_made c.in-Number.is)
+          (sym c.in-Number.ensures)
           c.if-end-rest.false
           c.keep_number.ensures).inside,
     )

@@ -13,7 +13,7 @@ pub room_part-in_room-requires : goal.room_part-in_room-requires
 room_part-in_room-requires c = room_in _ _ c.args.heights.now c.requires.0.each _ c.loop-room-test.true
 
 pub load_at-load-requires : goal.load_at-load-requires
-load_at-load-requires c = (rw c.room_part-in_room.ensures (c.requires.0.room _ c.loop-room-test.true))
+load_at-load-requires c = rw c.room_part-in_room.ensures (c.requires.0.room _ c.loop-room-test.true)
 
 pub height_at-height-requires : goal.height_at-height-requires
 height_at-height-requires c =
@@ -27,13 +27,17 @@ exceeds-requires c =
 pub returns-then-exceeds : goal.returns-then-exceeds
 unfolding excess_by
 returns-then-exceeds c =
-    sym (some-hit _ _ _ c.loop-room-test.true (sym (room-excess _ _ _ _ _ _ _ _ _ _ _ c.room_part-in_room.ensures c.height_at-height.ensures c.load_at-load.ensures
-    c.height_at.ensures c.exceeds.ensures) ∙ c.if-exceeds.true))
+    let tested =
+    room-excess _ _ _ _ _ _ _ _ _ _ _ c.room_part-in_room.ensures c.height_at-height.ensures c.load_at-load.ensures c.height_at.ensures
+    c.exceeds.ensures in
+    sym (some-hit _ _ _ c.loop-room-test.true (sym tested ∙ c.if-exceeds.true))
 
 pub loop-room-preserved : goal.loop-room-preserved
 loop-room-preserved c =
-    unmet-next c.loop-room.invariant c.loop-room-test.true (sym (room-excess _ _ _ _ _ _ _ _ _ _ _ c.room_part-in_room.ensures c.height_at-height.ensures c.load_at-load.ensures
-    c.height_at.ensures c.exceeds.ensures) ∙ c.if-exceeds.false)
+    let tested =
+    room-excess _ _ _ _ _ _ _ _ _ _ _ c.room_part-in_room.ensures c.height_at-height.ensures c.load_at-load.ensures c.height_at.ensures
+    c.exceeds.ensures in
+    unmet-next c.loop-room.invariant c.loop-room-test.true (sym tested ∙ c.if-exceeds.false)
 
 pub returns : goal.returns
 unfolding excess_by

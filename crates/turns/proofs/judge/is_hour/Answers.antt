@@ -4,7 +4,7 @@ use Rattle.units.proofs.Choices.{if_none, if_some}
 use Rattle.turns.proofs.judge.is_hour.Goals as goal
 
 pub returns-in_default : goal.returns-in_default
-returns-in_default c = sym (if_none _ _ (sym c.of_plan.ensures ∙ ap hour_made c.in_default.is))
+returns-in_default c = sym (if_none _ _ (sym c.in_default.ensures))
 
 pub returns : goal.returns
-returns c = sym (if_some _ _ _ (sym c.of_plan.ensures ∙ ap hour_made c.in-Within.is)).0
+returns c = sym (if_some _ _ _ (sym c.in-Within.ensures)).0

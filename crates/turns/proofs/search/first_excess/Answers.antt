@@ -42,7 +42,8 @@ loop-w-init c = (
 pub is_crowded-requires : goal.is_crowded-requires
 is_crowded-requires c =
     let pre = c.requires in
-    (pre.0.rooms-ready, (_, pre.1), pre.2, c.outer-test.true, (omega (arith, c.clipped-end.ensures, (before _ _ c.is_before.ensures c.loop-w-test.true))))
+    let before-end = before _ _ c.is_before.ensures c.loop-w-test.true in
+    (pre.0.rooms-ready, (_, pre.1), pre.2, c.outer-test.true, omega (arith, c.clipped-end.ensures, before-end))
 
 pub overflow_cast-found : goal.overflow_cast-found
 overflow_cast-found c =
@@ -54,17 +55,18 @@ plus-t-requires c =
 
 pub loop-w-smaller : goal.loop-w-smaller
 loop-w-smaller c =
-    omega (arith, (before _ _ c.is_before.ensures c.loop-w-test.true), ap (λ (h : Hour). h.0) c.plus-t.ensures)
+    omega (arith, before _ _ c.is_before.ensures c.loop-w-test.true, ap (λ (h : Hour). h.0) c.plus-t.ensures)
 
 pub loop-w-preserved : goal.loop-w-preserved
 loop-w-preserved c =
     let inv = c.loop-w.invariant in
-    let none-there = (test-hour _ _ _ _ _ _ _ _ _ _ c.in-Within.is c.bounds_at-b.ensures _ _ _ _ _
-    c.first_hour-t.ensures c.end_hour.ensures c.clipped-end.ensures c.loop-w.invariant.1
-    (before _ _ c.is_before.ensures c.loop-w-test.true) c.outer-test.true (c.is_crowded.ensures _ c.requires.1)) ∙ none-if _ _ c.if-is_crowded.false in (
+    let before-end = before _ _ c.is_before.ensures c.loop-w-test.true in
+    let tested =
+    test-hour _ _ _ _ _ _ _ _ _ _ c.in-Within.is c.bounds_at-b.ensures _ _ _ _ _ c.first_hour-t.ensures c.end_hour.ensures
+    c.clipped-end.ensures inv.1 before-end c.outer-test.true (c.is_crowded.ensures _ c.requires.1) in (
       inv.0,
       omega (arith, inv.1, ap (λ (h : Hour). h.0) c.plus-t.ensures),
-      next-hour _ _ _ _ _ _ _ _ _ c.plus-t.ensures inv.2 none-there,
+      next-hour _ _ _ _ _ _ _ _ _ c.plus-t.ensures inv.2 (tested ∙ none-if _ _ c.if-is_crowded.false),
     )
 
 pub outer-preserved : goal.outer-preserved
@@ -83,7 +85,10 @@ returns-after-outer c = ap found_step c.outer.invariant.1 ∙ sym (first-end _ _
 
 pub returns-then-is_crowded : goal.returns-then-is_crowded
 returns-then-is_crowded c =
-    found_at _ _ _ _ _ _ _ _ _ _ c.letter-kind.ensures c.outer-test.true (omega (arith, c.clipped-end.ensures, (before _ _ c.is_before.ensures c.loop-w-test.true)))
-    c.outer.invariant.2 c.loop-w.invariant.2 ((test-hour _ _ _ _ _ _ _ _ _ _ c.in-Within.is c.bounds_at-b.ensures _ _ _ _ _
-    c.first_hour-t.ensures c.end_hour.ensures c.clipped-end.ensures c.loop-w.invariant.1
-    (before _ _ c.is_before.ensures c.loop-w-test.true) c.outer-test.true (c.is_crowded.ensures _ c.requires.1)) ∙ some-if _ _ c.if-is_crowded.true)
+    let inv = c.loop-w.invariant in
+    let before-end = before _ _ c.is_before.ensures c.loop-w-test.true in
+    let tested =
+    test-hour _ _ _ _ _ _ _ _ _ _ c.in-Within.is c.bounds_at-b.ensures _ _ _ _ _ c.first_hour-t.ensures c.end_hour.ensures
+    c.clipped-end.ensures inv.1 before-end c.outer-test.true (c.is_crowded.ensures _ c.requires.1) in
+    found_at _ _ _ _ _ _ _ _ _ _ c.letter-kind.ensures c.outer-test.true (omega (arith, c.clipped-end.ensures, before-end))
+    c.outer.invariant.2 inv.2 (tested ∙ some-if _ _ c.if-is_crowded.true)

@@ -22,12 +22,14 @@ room_overload-found-requires c =
 pub returns-in_default : goal.returns-in_default
 unfolding first_overload
 returns-in_default c =
+    let room = c.room_overload-found.ensures ∙ ap₂ (room_overload _) c.room_part-in_room.ensures (number_of c.height_at.ensures) in
     let told = ap found_step c.in_default.is in
-    told ∙ sym (unfound-hit c.loop-room.invariant c.loop-room-test.true (sym (c.room_overload-found.ensures ∙ ap₂ (room_overload _) c.room_part-in_room.ensures (number_of c.height_at.ensures)) ∙ told))
+    told ∙ sym (unfound-hit c.loop-room.invariant c.loop-room-test.true (sym room ∙ told))
 
 pub loop-room-preserved : goal.loop-room-preserved
 loop-room-preserved c =
-    unfound-next c.loop-room.invariant c.loop-room-test.true (sym (c.room_overload-found.ensures ∙ ap₂ (room_overload _) c.room_part-in_room.ensures (number_of c.height_at.ensures)) ∙ ap found_step c.in-Nothing.is)
+    let room = c.room_overload-found.ensures ∙ ap₂ (room_overload _) c.room_part-in_room.ensures (number_of c.height_at.ensures) in
+    unfound-next c.loop-room.invariant c.loop-room-test.true (sym room ∙ ap found_step c.in-Nothing.is)
 
 pub returns : goal.returns
 unfolding first_overload
