@@ -1,6 +1,7 @@
 // The entry points for callers in C and Rust, each a thin function over the one that it names. A slice is a pointer and a length to them;
 // the answer is written to an array of fixed length, as numbers (shimlantern.h says which).
 #![tactic(auto)]
+
 ghost use Rattle.std.specs.Prelude.{◌≡◌, length};
 ghost use Rattle.units.specs.Cells.{written};
 ghost use Rattle.plan.specs.Boxes.{bounds_at};

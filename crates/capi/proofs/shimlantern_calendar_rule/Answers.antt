@@ -1,0 +1,13 @@
+use mathlib.Core.Path.{ap, ◌∙◌}
+use Rattle.units.specs.declared.Bounds.{Bounds}
+use Rattle.calendar.specs.Entry.{calendar_rule}
+use Rattle.answers.specs.Numbers.{rule_numbers}
+use Rattle.capi.proofs.shimlantern_calendar_rule.Goals as goal
+
+pub returns : goal.returns
+returns c =
+    let args = c.args in
+    c.rule_numbers.ensures
+    ∙ ap rule_numbers
+    (c.calendar_rule-found.ensures
+    ∙ ap (λ (b : Bounds). calendar_rule args.calendar.now args.work_time b) c.bounds_at-b.ensures)

@@ -1,0 +1,5 @@
+use Rattle.capi.proofs.Left.{left-text}
+use Rattle.capi.proofs.shimlantern_write_plan.Goals as goal
+
+pub returns : goal.returns
+returns c = left-text c.write_numbers.ensures c.write_plan-writing.ensures.answer
