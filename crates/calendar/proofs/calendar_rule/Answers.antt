@@ -1,5 +1,4 @@
 use mathlib.Core.Path.{sym, ap, ◌∙◌}
-use Rattle.units.specs.Limits.{duration_made}
 use Rattle.units.proofs.Choices.{if_none, if_some}
 use Rattle.plan.specs.Refusals.{answered, tested_fault}
 use Rattle.calendar.proofs.Entry.{one-test, refused-by, answered-by, no_length, ready}

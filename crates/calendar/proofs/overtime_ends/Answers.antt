@@ -1,4 +1,3 @@
-use Rattle.std.specs.Prelude.{if◌then◌else◌}
 use native.Mathlib.Nat.{add-zero}
 use borrow.Author.Tests.{ne_eqb}
 use Rattle.calendar.specs.Valid.{overtime_ends}

@@ -1,6 +1,6 @@
 use mathlib.Core.Path.{sym, ap, ◌∙◌}
 use native.Mathlib.Omega.{arith}
-use Rattle.units.specs.Limits.{most_hours, is_plan_length, duration_made}
+use Rattle.units.specs.Limits.{most_hours, is_plan_length}
 use Rattle.units.specs.declared.Duration.{Duration}
 use Rattle.units.proofs.Choices.{if_none, if_some}
 use Rattle.units.proofs.Ranges.{from-least}

@@ -1,5 +1,4 @@
-use mathlib.Core.Path.{sym, ap, ◌∙◌}
-use Rattle.units.specs.Limits.{height_made}
+use mathlib.Core.Path.{sym}
 use Rattle.units.proofs.Choices.{if_none, if_some}
 use Rattle.units.proofs.Searching.{unfound-first, unfound-next, unfound-hit, unfound-end}
 use Rattle.plan.specs.Faults.{capacity_fault}

@@ -4,7 +4,7 @@ use mathlib.Core.List.{List}
 use Prim.Native.Nat.{ℕ}
 use native.Mathlib.Omega.{arith}
 use lib.ListN.{length, get_or}
-use Rattle.units.specs.Limits.{height, is_height, height_made}
+use Rattle.units.specs.Limits.{height, is_height}
 use Rattle.units.specs.declared.Height.{Height}
 use Rattle.units.proofs.Choices.{if_none, if_some}
 use Rattle.units.proofs.Searching.{unfound-first, unfound-next, unfound-hit, unfound-end}

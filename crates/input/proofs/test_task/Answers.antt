@@ -1,5 +1,5 @@
 use mathlib.Core.Path.{sym, ap, ◌∙◌}
-use Rattle.units.specs.Limits.{is_box, calendar_number_made, duration_made, bounds_made}
+use Rattle.units.specs.Limits.{is_box}
 use Rattle.units.specs.declared.Duration.{Duration}
 use Rattle.units.proofs.Choices.{if_none, if_some, else-none, outer-ends}
 use Rattle.plan.specs.Refusals.{tested_fault}

@@ -1,6 +1,6 @@
 use mathlib.Core.Path.{sym, ap, ◌∙◌}
 use Rattle.plan.specs.Plan.{task_count}
-use Rattle.plan.specs.Refusals.{tested_fault, answered}
+use Rattle.plan.specs.Refusals.{answered}
 use Rattle.schedule.specs.Schedule.{makespan}
 use Rattle.schedule.proofs.Readiness.{ends-ready}
 use Rattle.schedule.proofs.Decision.{faultless, accepts, refuses, decides-as}

@@ -1,5 +1,4 @@
-use mathlib.Core.Path.{sym, ap, ◌∙◌}
-use Rattle.units.specs.Limits.{room_number_made}
+use mathlib.Core.Path.{sym}
 use Rattle.units.proofs.Choices.{if_none, if_some}
 use Rattle.turns.proofs.judge.is_room.Goals as goal
 
