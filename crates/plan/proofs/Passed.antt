@@ -64,7 +64,7 @@ calendars-passed e =
 
 pub record CountsPassed (n : ℕ) (cs : List ℕ) : Type 0 where
   pub tasks : n ≤ most_tasks
-  pub SomeRoom : 1 ≤ length cs
+  pub some-room : 1 ≤ length cs
   pub rooms : length cs ≤ most_rooms
   pub capacity : (r : ℕ) → r < length cs → get_or cs r 0 ≤ most_capacity
 
@@ -76,7 +76,7 @@ counts-passed e =
     let count = unless-none _ 17 0 seventeen in
     record {
       tasks = leb-true _ _ (unless-none _ 5 0 five);
-      SomeRoom = from-least 1 most_rooms _ count;
+      some-room = from-least 1 most_rooms _ count;
       rooms = to-most 1 most_rooms _ count;
       capacity = λ r l. leb-true _ _ (unless-none _ 10 0 (first-none _ _ ten r l));
     }
@@ -157,12 +157,12 @@ module _ (P : Plan) (boxes : List ℕ) where
       record {
         some-hours = c.some-hours;
         hours = c.short;
-        SomeCalendar = from-least 1 most_calendars _ (count c.whole);
+        some-calendar = from-least 1 most_calendars _ (count c.whole);
         calendars = to-most 1 most_calendars _ (count c.whole);
         whole = joins c.whole;
         symbols = c.symbols;
         tasks = n.tasks;
-        SomeRoom = n.SomeRoom;
+        some-room = n.some-room;
         rooms = n.rooms;
         capacity = n.capacity;
         work-times = size.work-times;

@@ -21,12 +21,12 @@ pub record PassedTask (P : Plan) (boxes : List ℕ) (i : ℕ) : Type 0 where
 pub record Passed (P : Plan) (bs : List ℕ) : Type 0 where
   pub some-hours : 1 ≤ P.shifts.hours
   pub hours : P.shifts.hours ≤ most_hours
-  pub SomeCalendar : 1 ≤ calendar_count P.shifts
+  pub some-calendar : 1 ≤ calendar_count P.shifts
   pub calendars : calendar_count P.shifts ≤ most_calendars
   pub whole : length P.shifts.calendars ≡ calendar_count P.shifts * P.shifts.hours
   pub symbols : (k : ℕ) → k < length P.shifts.calendars → is_symbol P.shifts.calendars k ≡ true
   pub tasks : task_count P ≤ most_tasks
-  pub SomeRoom : 1 ≤ room_count P
+  pub some-room : 1 ≤ room_count P
   pub rooms : room_count P ≤ most_rooms
   pub capacity : (room : ℕ) → room < room_count P → capacity_of P room ≤ most_capacity
   pub work-times : length P.shifts.work_times ≡ task_count P

@@ -155,5 +155,5 @@ module _ {P : Plan} {boxes : List ℕ} (p : Passed P boxes) where
   lines-pass =
       go_on _ 2 0 _ (is_within 1 most_hours P.shifts.hours p.some-hours p.hours)
       ∙ unless-true _ 3 0
-      (and_both _ _ (rw (calendars-count P boxes) (is_within 1 most_calendars (calendar_count P.shifts) p.SomeCalendar p.calendars))
+      (and_both _ _ (rw (calendars-count P boxes) (is_within 1 most_calendars (calendar_count P.shifts) p.some-calendar p.calendars))
       (all_list P.shifts.hours (calendar_at P.shifts) (calendar_count P.shifts) (calendar-hours P.shifts)))

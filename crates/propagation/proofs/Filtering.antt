@@ -101,8 +101,8 @@ module _ (P : Plan) (opening kinds₀ tasks₀ hours₀ : List ℕ) (count : ℕ
             (omega arith);
       }
 
-  SomeRoom : count < length kinds₀ → length kinds₀ - count ≡ suc (length kinds₀ - (count + 1))
-  SomeRoom l = omega arith
+  some-room : count < length kinds₀ → length kinds₀ - count ≡ suc (length kinds₀ - (count + 1))
+  some-room l = omega arith
 
   -- a step that moves is taken
   step-taken : (x : Step) (left : List ℕ) → next P boxes ≡ some (moves x left) → count < length kinds₀ → length tasks₀ ≡ length kinds₀
@@ -115,7 +115,7 @@ module _ (P : Plan) (opening kinds₀ tasks₀ hours₀ : List ℕ) (count : ℕ
         steps = t.steps ++ (x ∷ []);
         room = omega arith;
         goes_on = t.goes_on
-            ∙ ap (λ (k : ℕ). resumed t.steps (run P boxes k)) (SomeRoom l)
+            ∙ ap (λ (k : ℕ). resumed t.steps (run P boxes k)) (some-room l)
             ∙ ap (resumed t.steps) (run-moves (next P) boxes room x left e)
             ∙ ap (λ (log : List Step). ended (run P left room).ending log (run P left room).boxes)
             (sym (append_assoc t.steps (x ∷ []) (run P left room).log));
@@ -149,7 +149,7 @@ module _ (P : Plan) (opening kinds₀ tasks₀ hours₀ : List ℕ) (count : ℕ
     unfolding ending_answer
     ends-stopped x e l a b =
         ends_with n impossible (t.steps ++ (x ∷ [])) boxes
-        (t.goes_on ∙ ap (λ (k : ℕ). resumed t.steps (run P boxes k)) (SomeRoom l) ∙ ap (resumed t.steps) (run-stops (next P) boxes _ x e))
+        (t.goes_on ∙ ap (λ (k : ℕ). resumed t.steps (run P boxes k)) (some-room l) ∙ ap (resumed t.steps) (run-stops (next P) boxes _ x e))
         (one_more x l a b)
 
 -- ---- each turn

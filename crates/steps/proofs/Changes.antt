@@ -216,12 +216,12 @@ change-passes P boxes left c passed =
     record {
       some-hours = passed.some-hours;
       hours = passed.hours;
-      SomeCalendar = passed.SomeCalendar;
+      some-calendar = passed.some-calendar;
       calendars = passed.calendars;
       whole = passed.whole;
       symbols = passed.symbols;
       tasks = passed.tasks;
-      SomeRoom = passed.SomeRoom;
+      some-room = passed.some-room;
       rooms = passed.rooms;
       capacity = passed.capacity;
       work-times = passed.work-times;
