@@ -30,7 +30,7 @@ use Rattle.calendar.specs.declared.Witnessed.TheVariants.{Within}
 use Rattle.calendar.specs.Valid.{overtime_ends}
 use Rattle.calendar.specs.Triples.{triple, elapsed_of, overtime_of, starting}
 use Rattle.calendar.specs.Rule.{witnessed_of}
-use Rattle.calendar.specs.Witnesses.{Earlier, starts-earlier, is-shorter}
+use Rattle.calendar.specs.Witnesses.{Earlier, starts_earlier, is_shorter}
 use Rattle.calendar.specs.Inner.Ready.{AllSymbols, RuleReady, Reaches}
 use Rattle.calendar.specs.Inner.Windows.{WindowReady, window_from, shortest_from, longest_from, fewest_from, witnesses_from}
 use Rattle.calendar.proofs.Valid.{Valid, valid-facts, facts-valid}
@@ -85,8 +85,8 @@ module _ (cal : List ℕ) (p : ℕ) (b : Bounds) (s : ℕ) (symbols : AllSymbols
   valid-ends t h v =
       record {
         shortest = h.shortest;
-        works = omega (arith, v.works, v.in-overtime);
-        goes = open-itself cal s (elapsed_of t) v.lasts v.last-open;
+        works = omega (arith, v.works, v.in_overtime);
+        goes = open-itself cal s (elapsed_of t) v.lasts v.last_open;
         most = omega (arith, v.works, h.most);
       }
 
@@ -98,8 +98,8 @@ module _ (cal : List ℕ) (p : ℕ) (b : Bounds) (s : ℕ) (symbols : AllSymbols
         worked = omega (
           arith,
           v.works,
-          v.ends-worked,
-          worked-ends cal s symbols (elapsed_of t) v.lasts v.ends v.first-open v.last-open,
+          v.ends_worked,
+          worked-ends cal s symbols (elapsed_of t) v.lasts v.ends v.first_open v.last_open,
         );
       }
 
@@ -117,22 +117,22 @@ module _ (cal : List ℕ) (p : ℕ) (b : Bounds) (s : ℕ) (symbols : AllSymbols
       record {
         lasts = l;
         ends = u;
-        first-open = first;
-        last-open = last;
+        first_open = first;
+        last_open = last;
         works = omega (arith, n.fewest);
-        in-overtime = omega (arith, m.works);
-        ends-worked = omega (arith, n.worked, worked-ends cal s symbols e l u first last);
+        in_overtime = omega (arith, m.works);
+        ends_worked = omega (arith, n.worked, worked-ends cal s symbols e l u first last);
       }
 
 -- ---- from the shortest to the longest
 
 module _ (cal : List ℕ) (p : ℕ) (b : Bounds) (s : ℕ) where
   valid-start : (t : Triple) → Starting cal p b s t → Valid cal p s (elapsed_of t) (overtime_of t)
-  valid-start t h = valid-facts cal p s (elapsed_of t) (overtime_of t) (rw h.start at h.is-valid)
+  valid-start t h = valid-facts cal p s (elapsed_of t) (overtime_of t) (rw h.start at h.is_valid)
 
   -- none starts at a closed hour
   pub none-closed : is_kind closed cal s ≡ true → starting cal p b s ≡ []
-  none-closed c = no-members _ (λ t m. true≢false c (valid-start t (only-starting cal p b s t m)).first-open)
+  none-closed c = no-members _ (λ t m. true≢false c (valid-start t (only-starting cal p b s t m)).first_open)
 
 module _ {cal : List ℕ} {p : ℕ} {b : Bounds} {s : ℕ} {shortest longest : Stretch} (R : Reaches cal p b s shortest longest) where
   symbols : AllSymbols cal
@@ -151,7 +151,7 @@ module _ {cal : List ℕ} {p : ℕ} {b : Bounds} {s : ℕ} {shortest longest : S
   to-longest t h =
       let v = valid-start cal p b s t h in
       let inside = go v (dec_le (elapsed_of t) longest.hours.0) in
-      omega (arith, last-is R.is-longest, open-past cal s (elapsed_of t) longest.hours.0 v.lasts inside v.last-open)
+      omega (arith, last-is R.is_longest, open-past cal s (elapsed_of t) longest.hours.0 v.lasts inside v.last_open)
     where
       go : Valid cal p s (elapsed_of t) (overtime_of t) → Dec (elapsed_of t ≤ longest.hours.0) → elapsed_of t ≤ longest.hours.0
       go v (yes l) = l
@@ -168,31 +168,31 @@ module _ {cal : List ℕ} {p : ℕ} {b : Bounds} {s : ℕ} {shortest longest : S
       go : (t : Triple) → Starting cal p b s t → ⊥
       go t h =
           let v = valid-start cal p b s t h in
-          let q : elapsed_of t ≡ shortest.hours.0 = omega (arith, from-shortest t h, v.ends, R.at-the-end n) in
+          let q : elapsed_of t ≡ shortest.hours.0 = omega (arith, from-shortest t h, v.ends, R.at_the_end n) in
           let ends = ends-may p b (stretch_of cal s (elapsed_of t)) (valid-ends cal p b s symbols t h v) in
-          true≢false (ap (may_end p b) (R.is-shortest.is ∙ ap (stretch_of cal s) (sym q)) ∙ ends) n
+          true≢false (ap (may_end p b) (R.is_shortest.is ∙ ap (stretch_of cal s) (sym q)) ∙ ends) n
 
   -- else both are valid, and the window is theirs
   module _ (open-start : is_kind closed cal s ≡ false) (ends : may_end p b shortest ≡ true) (between : shortest.hours.0 ≤ longest.last.0) where
     is_last : longest.last.0 ≡ open_length cal s longest.hours.0
-    is_last = last-is R.is-longest
+    is_last = last-is R.is_longest
 
     longest-in : longest.last.0 ≤ longest.hours.0
     longest-in = omega (arith, is_last, open-le cal s longest.hours.0)
 
     shortest-ends : MayEnd p b (stretch_of cal s shortest.hours.0)
-    shortest-ends = may-end p b _ (ap (may_end p b) (sym R.is-shortest.is) ∙ ends)
+    shortest-ends = may-end p b _ (ap (may_end p b) (sym R.is_shortest.is) ∙ ends)
 
-    some-hours : 1 ≤ shortest.hours.0
-    some-hours = omega (arith, shortest-ends.shortest, R.ready.shortest)
+    some_hours : 1 ≤ shortest.hours.0
+    some_hours = omega (arith, shortest-ends.shortest, R.ready.shortest)
 
     -- a later open hour is an end too
     later-ends : (e : ℕ) → shortest.hours.0 ≤ e → is_kind closed cal (s + e - 1) ≡ false → MayEnd p b (stretch_of cal s e)
-    later-ends e l last-open =
+    later-ends e l last_open =
         record {
           shortest = omega (arith, shortest-ends.shortest);
           works = omega (arith, shortest-ends.works, more_of regular, more_of overtime);
-          goes = open-itself cal s e (omega (arith, some-hours)) last-open;
+          goes = open-itself cal s e (omega (arith, some_hours)) last_open;
           most = omega (arith, shortest-ends.most, more_of regular);
         }
       where
@@ -200,7 +200,7 @@ module _ {cal : List ℕ} {p : ℕ} {b : Bounds} {s : ℕ} {shortest longest : S
         more_of kind = hours-mono kind cal s shortest.hours.0 e l
 
     longest-open : is_kind closed cal (s + longest.last.0 - 1) ≡ false
-    longest-open = rw is_last (open-last cal s longest.hours.0 (omega (arith, is_last, some-hours)))
+    longest-open = rw is_last (open-last cal s longest.hours.0 (omega (arith, is_last, some_hours)))
 
     -- the triple of such an end, with n regular hours
     lasting-start : (e n : ℕ) → n ≡ hours_of regular cal s e → 1 ≤ e → e ≤ longest.hours.0 → MayEnd p b (stretch_of cal s e)
@@ -213,29 +213,29 @@ module _ {cal : List ℕ} {p : ℕ} {b : Bounds} {s : ℕ} {shortest longest : S
           longest = may.longest;
           fewest = omega (arith, q, may.fewest);
           most = omega (arith, q, m.most);
-          is-valid = rw q (facts-valid cal p s e _ (tests-valid cal p b s symbols e l (omega (arith, R.is-longest.hours.inside)) open-start m may));
+          is_valid = rw q (facts-valid cal p s e _ (tests-valid cal p b s symbols e l (omega (arith, R.is_longest.hours.inside)) open-start m may));
         }
 
     shortest-regular : shortest.counts.regular ≡ hours_of regular cal s shortest.hours.0
-    shortest-regular = regulars cal s _ _ (counts-are R.is-shortest)
+    shortest-regular = regulars cal s _ _ (counts-are R.is_shortest)
 
     all-regular : longest.counts.regular ≡ hours_of regular cal s longest.hours.0
-    all-regular = regulars cal s _ _ (counts-are R.is-longest)
+    all-regular = regulars cal s _ _ (counts-are R.is_longest)
 
     longest-regular : longest.counts.regular ≡ hours_of regular cal s longest.last.0
     longest-regular = all-regular ∙ sym (open-regular cal s longest.hours.0) ∙ ap (hours_of regular cal s) (sym is_last)
 
     shortest-start : Starting cal p b s (shortest_from p s shortest)
-    shortest-start = lasting-start shortest.hours.0 _ shortest-regular some-hours (omega (arith, longest-in)) shortest-ends
+    shortest-start = lasting-start shortest.hours.0 _ shortest-regular some_hours (omega (arith, longest-in)) shortest-ends
 
     longest-start : Starting cal p b s (longest_from p s longest)
     longest-start =
-        lasting-start longest.last.0 _ longest-regular (omega (arith, some-hours)) longest-in (later-ends longest.last.0 between longest-open)
+        lasting-start longest.last.0 _ longest-regular (omega (arith, some_hours)) longest-in (later-ends longest.last.0 between longest-open)
 
     -- ---- the least overtime: from the last regular hour of the longest on
 
     is-regular : longest.regular.0 ≡ regular_length cal s longest.hours.0
-    is-regular = regular-is R.is-longest
+    is-regular = regular-is R.is_longest
 
     regular-counts : hours_of regular cal s longest.regular.0 ≡ longest.counts.regular
     regular-counts = ap (hours_of regular cal s) is-regular ∙ last-regulars _ s cal (λ t h. h) longest.hours.0 ∙ sym all-regular
@@ -266,7 +266,7 @@ module _ {cal : List ℕ} {p : ℕ} {b : Bounds} {s : ℕ} {shortest longest : S
     enough-open = go (dec_le longest.regular.0 shortest.hours.0)
       where
         go : Dec (longest.regular.0 ≤ shortest.hours.0) → is_kind closed cal (s + enough - 1) ≡ false
-        go (yes l) = let q : enough ≡ shortest.hours.0 = omega arith in rw q (ends_open cal p b s symbols shortest.hours.0 some-hours shortest-ends)
+        go (yes l) = let q : enough ≡ shortest.hours.0 = omega arith in rw q (ends_open cal p b s symbols shortest.hours.0 some_hours shortest-ends)
         go (no l) = let q : enough ≡ longest.regular.0 = omega arith in rw q (open_at (omega arith))
 
     enough-regular : longest.counts.regular ≡ hours_of regular cal s enough
@@ -280,13 +280,13 @@ module _ {cal : List ℕ} {p : ℕ} {b : Bounds} {s : ℕ} {shortest longest : S
 
     fewest-start : Starting cal p b s (fewest_from p s shortest longest)
     fewest-start =
-        lasting-start enough _ enough-regular (omega (arith, some-hours)) (omega (arith, enough-in, longest-in)) (later-ends enough (omega arith) enough-open)
+        lasting-start enough _ enough-regular (omega (arith, some_hours)) (omega (arith, enough-in, longest-in)) (later-ends enough (omega arith) enough-open)
 
     pub window-ready : WindowReady p s shortest longest
     window-ready =
-        let short = may-last cal p b s shortest.hours.0 (R.lasts _ some-hours (omega (arith, longest-in))) in
-        let long = may-last cal p b s longest.last.0 (R.lasts _ (omega (arith, some-hours)) longest-in) in
-        let end = R.is-longest.hours in
+        let short = may-last cal p b s shortest.hours.0 (R.lasts _ some_hours (omega (arith, longest-in))) in
+        let long = may-last cal p b s longest.last.0 (R.lasts _ (omega (arith, some_hours)) longest-in) in
+        let end = R.is_longest.hours in
         record {
           ect = omega (arith, end.inside, end.short, longest-in);
           lct = omega (arith, end.inside, end.short, longest-in);
@@ -340,11 +340,11 @@ module _ {cal : List ℕ} {p : ℕ} {b : Bounds} {s : ℕ} {shortest longest : S
     first_of : {key : Triple → ℕ} {t : Triple} → Starting cal p b s t
         → ((u : Triple) → Starting cal p b s u → key u ≡ key t → elapsed_of t ≤ elapsed_of u) → First key (starting cal p b s) t
     first_of {key} {t} h shortest =
-        record { member = has-starting cal p b s t h; none-earlier = λ u m q. go u (only-starting cal p b s u m) q }
+        record { member = has-starting cal p b s t h; none_earlier = λ u m q. go u (only-starting cal p b s u m) q }
       where
         go : (u : Triple) → Starting cal p b s u → key u ≡ key t → Earlier u t → ⊥
-        go u g q (starts-earlier a) = omega (arith, g.start, h.start)
-        go u g q (is-shorter e a) = omega (arith, shortest u g q)
+        go u g q (starts_earlier a) = omega (arith, g.start, h.start)
+        go u g q (is_shorter e a) = omega (arith, shortest u g q)
 
     pub window-is : witnessed_of (starting cal p b s) ≡ Within (window_from p s shortest longest) (witnesses_from p s shortest longest)
     window-is =
@@ -374,10 +374,10 @@ module _ (cal : List ℕ) (p : ℕ) (b : Bounds) (s e : ℕ) where
 
 -- what two stretches from s on hold before they are lengthened; s may lie past the calendar's end
 pub record Carried (cal : List ℕ) (p : ℕ) (b : Bounds) (s : ℕ) (shortest longest : Stretch) : Type 0 where
-  pub is-shortest : shortest ≡ stretch_of cal s shortest.hours.0
-  pub is-longest : longest ≡ stretch_of cal s longest.hours.0
-  pub shortest-inside : shortest.hours.0 ≤ length cal - s
-  pub longest-inside : longest.hours.0 ≤ length cal - s
+  pub is_shortest : shortest ≡ stretch_of cal s shortest.hours.0
+  pub is_longest : longest ≡ stretch_of cal s longest.hours.0
+  pub shortest_inside : shortest.hours.0 ≤ length cal - s
+  pub longest_inside : longest.hours.0 ≤ length cal - s
   pub none_before : (e : ℕ) → e < shortest.hours.0 → may_end p b (stretch_of cal s e) ≡ false
   pub lasts : (e : ℕ) → 1 ≤ e → e ≤ longest.hours.0 → may_last cal p b s e ≡ true
 
@@ -386,10 +386,10 @@ pub carried_first : {cal : List ℕ} {p : ℕ} {b : Bounds} {s : ℕ} (shortest 
 carried_first {cal} {s = s} shortest longest short long =
     rw (short, long)
     (record {
-      is-shortest = no-stretch cal s;
-      is-longest = no-stretch cal s;
-      shortest-inside = omega arith;
-      longest-inside = omega arith;
+      is_shortest = no-stretch cal s;
+      is_longest = no-stretch cal s;
+      shortest_inside = omega arith;
+      longest_inside = omega arith;
       none_before = λ e l. absurd (omega arith);
       lasts = λ e l u. absurd (omega arith);
     })
@@ -401,10 +401,10 @@ module _ {cal : List ℕ} {p : ℕ} {b : Bounds} {s : ℕ} {shortest longest : S
   inside = omega (arith, ready.latest)
 
   pub shortest-stretch : IsStretch cal s shortest
-  shortest-stretch = record { hours = record { inside = omega (arith, c.shortest-inside, inside); short = ready.short }; is = c.is-shortest }
+  shortest-stretch = record { hours = record { inside = omega (arith, c.shortest_inside, inside); short = ready.short }; is = c.is_shortest }
 
   pub longest-stretch : IsStretch cal s longest
-  longest-stretch = record { hours = record { inside = omega (arith, c.longest-inside, inside); short = ready.short }; is = c.is-longest }
+  longest-stretch = record { hours = record { inside = omega (arith, c.longest_inside, inside); short = ready.short }; is = c.is_longest }
 
   -- lengthened, the one is the shortest end and the other the longest time
   module _ (short long : Stretch)
@@ -421,9 +421,9 @@ module _ {cal : List ℕ} {p : ℕ} {b : Bounds} {s : ℕ} {shortest longest : S
         at-stop-shortest cal p b s e (long-none cal s (stops_at cal p b s true) shortest.hours.0 e h (omega (arith, short-hours)))
     before e l (no h) = c.none_before e (omega arith)
 
-    at-end : may_end p b short ≡ false → Dec (length cal ≤ s + short.hours.0) → length cal ≤ s + short.hours.0
-    at-end n (yes h) = h
-    at-end n (no h) =
+    at_end : may_end p b short ≡ false → Dec (length cal ≤ s + short.hours.0) → length cal ≤ s + short.hours.0
+    at_end n (yes h) = h
+    at_end n (no h) =
         let stop = long-holds cal s (stops_at cal p b s true) shortest.hours.0 (omega (arith, short-hours)) in
         true≢false (ap (may_end p b) is-short ∙ at-stop-shortest cal p b s _ stop) n
 
@@ -446,7 +446,7 @@ module _ {cal : List ℕ} {p : ℕ} {b : Bounds} {s : ℕ} {shortest longest : S
         record {
           ready = ready;
           start = inside;
-          is-shortest =
+          is_shortest =
               record {
                 hours =
                     record {
@@ -455,7 +455,7 @@ module _ {cal : List ℕ} {p : ℕ} {b : Bounds} {s : ℕ} {shortest longest : S
                     };
                 is = own-stretch cal s _ short is-short;
               };
-          is-longest =
+          is_longest =
               record {
                 hours =
                     record {
@@ -465,7 +465,7 @@ module _ {cal : List ℕ} {p : ℕ} {b : Bounds} {s : ℕ} {shortest longest : S
                 is = own-stretch cal s _ long is-long;
               };
           none_before = λ e l. before e l (dec_le shortest.hours.0 e);
-          at-the-end = λ n. at-end n (dec_le (length cal) (s + short.hours.0));
+          at_the_end = λ n. at_end n (dec_le (length cal) (s + short.hours.0));
           lasts = λ e l u. up_to e l u (dec_le e longest.hours.0);
           none_after = past;
         }
@@ -478,10 +478,10 @@ carried-next {cal} {p} {b} {s} R short long is-short is-long =
     let short-hours = own-hours cal (s + 1) _ short is-short in
     let long-hours = own-hours cal (s + 1) _ long is-long in
     record {
-      is-shortest = own-stretch cal (s + 1) _ short is-short;
-      is-longest = own-stretch cal (s + 1) _ long is-long;
-      shortest-inside = omega (arith, short-hours, R.is-shortest.hours.inside);
-      longest-inside = omega (arith, long-hours, R.is-longest.hours.inside);
+      is_shortest = own-stretch cal (s + 1) _ short is-short;
+      is_longest = own-stretch cal (s + 1) _ long is-long;
+      shortest_inside = omega (arith, short-hours, R.is_shortest.hours.inside);
+      longest_inside = omega (arith, long-hours, R.is_longest.hours.inside);
       none_before = λ e l. end-next cal p b s e R.ready.shortest (R.none_before (e + 1) (omega (arith, short-hours)));
       lasts = λ e l u. last-next cal p b s e (R.lasts (e + 1) (omega arith) (omega (arith, long-hours)));
     }

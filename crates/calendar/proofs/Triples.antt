@@ -98,13 +98,13 @@ module _ (cal : List ℕ) (p : ℕ) (b : Bounds) where
     pub longest : elapsed_of t ≤ b.longest.0
     pub fewest : b.fewest.0 ≤ overtime_of t
     pub most : overtime_of t ≤ b.most.0
-    pub is-valid : valid_triple cal p t ≡ true
+    pub is_valid : valid_triple cal p t ≡ true
 
   pub has-starting : (s : ℕ) (t : Triple) → Starting s t → Memᴰ t (starting cal p b s)
   unfolding starting lasting
   has-starting s t h =
       into-over t _ _ _ (elapsed_of t) h.shortest h.longest
-      (into-over t _ _ _ (overtime_of t) h.fewest h.most (rw (← h.start, h.is-valid) (Memᴰ.head refl)))
+      (into-over t _ _ _ (overtime_of t) h.fewest h.most (rw (← h.start, h.is_valid) (Memᴰ.head refl)))
 
   pub only-starting : (s : ℕ) (t : Triple) → Memᴰ t (starting cal p b s) → Starting s t
   unfolding starting lasting
@@ -112,7 +112,7 @@ module _ (cal : List ℕ) (p : ℕ) (b : Bounds) where
       let (e, e1, e2, me) = from-over t _ _ _ m in
       let (o, o1, o2, mo) = from-over t _ _ _ me in
       let (v, q) = kept (valid cal p s e o) t (triple s e o) mo in
-      rw q (record { start = refl; shortest = e1; longest = e2; fewest = o1; most = o2; is-valid = v })
+      rw q (record { start = refl; shortest = e1; longest = e2; fewest = o1; most = o2; is_valid = v })
 
   -- the list has exactly the valid triples of the box
   pub has-valid : (t : Triple) → InBounds b t → valid_triple cal p t ≡ true → Memᴰ t (valid_triples cal p b)
@@ -120,7 +120,7 @@ module _ (cal : List ℕ) (p : ℕ) (b : Bounds) where
   has-valid t h v =
       into-over t _ _ _ (start_of t) h.earliest h.latest
       (has-starting (start_of t) t
-      (record { start = refl; shortest = h.shortest; longest = h.longest; fewest = h.fewest; most = h.most; is-valid = v }))
+      (record { start = refl; shortest = h.shortest; longest = h.longest; fewest = h.fewest; most = h.most; is_valid = v }))
 
   pub only-valid : (t : Triple) → Memᴰ t (valid_triples cal p b) → InBounds b t × (valid_triple cal p t ≡ true)
   unfolding valid_triples
@@ -135,7 +135,7 @@ module _ (cal : List ℕ) (p : ℕ) (b : Bounds) where
           fewest = h.fewest;
           most = h.most;
         },
-        h.is-valid,
+        h.is_valid,
       )
 
 -- a list without members

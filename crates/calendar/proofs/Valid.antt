@@ -47,11 +47,11 @@ module _ (cal : List ℕ) (p s e o : ℕ) where
   pub record Valid : Type 0 where
     pub lasts : 1 ≤ e
     pub ends : s + e ≤ length cal
-    pub first-open : is_kind closed cal s ≡ false
-    pub last-open : is_kind closed cal (s + e - 1) ≡ false
+    pub first_open : is_kind closed cal s ≡ false
+    pub last_open : is_kind closed cal (s + e - 1) ≡ false
     pub works : o + hours_of regular cal s e ≡ p
-    pub in-overtime : o ≤ hours_of overtime cal s e
-    pub ends-worked : overtime_ends cal s e ≤ o
+    pub in_overtime : o ≤ hours_of overtime cal s e
+    pub ends_worked : overtime_ends cal s e ≤ o
 
   pub valid-facts : valid cal p s e o ≡ true → Valid
   unfolding valid
@@ -64,11 +64,11 @@ module _ (cal : List ℕ) (p s e o : ℕ) where
       record {
         lasts = leb-true _ _ (and_left _ _ v);
         ends = leb-true _ _ (and_left _ _ r₁);
-        first-open = not-true _ (and_left _ _ r₂);
-        last-open = not-true _ (and_left _ _ r₃);
+        first_open = not-true _ (and_left _ _ r₂);
+        last_open = not-true _ (and_left _ _ r₃);
         works = eqb-true _ _ (and_left _ _ r₄);
-        in-overtime = leb-true _ _ (and_left _ _ r₅);
-        ends-worked = leb-true _ _ (and_right _ _ r₅);
+        in_overtime = leb-true _ _ (and_left _ _ r₅);
+        ends_worked = leb-true _ _ (and_right _ _ r₅);
       }
 
   pub facts-valid : Valid → valid cal p s e o ≡ true
@@ -76,7 +76,7 @@ module _ (cal : List ℕ) (p s e o : ℕ) where
   facts-valid v =
       and_both _ _ (le-leb _ _ v.lasts)
       (and_both _ _ (le-leb _ _ v.ends)
-      (and_both _ _ (ap not v.first-open)
-      (and_both _ _ (ap not v.last-open)
+      (and_both _ _ (ap not v.first_open)
+      (and_both _ _ (ap not v.last_open)
       (and_both _ _ (eq-eqb _ _ v.works)
-      (and_both _ _ (le-leb _ _ v.in-overtime) (le-leb _ _ v.ends-worked))))))
+      (and_both _ _ (le-leb _ _ v.in_overtime) (le-leb _ _ v.ends_worked))))))

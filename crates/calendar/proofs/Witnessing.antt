@@ -26,7 +26,7 @@ use Rattle.calendar.proofs.Ordering.{earlier-through, earlier-one-way, valid-ord
 -- a triple of the list, and no other with its number is earlier
 pub record First (key : Triple → ℕ) (ts : List Triple) (t : Triple) : Type 0 where
   pub member : Memᴰ t ts
-  pub none-earlier : (u : Triple) → Memᴰ u ts → key u ≡ key t → Earlier u t → ⊥
+  pub none_earlier : (u : Triple) → Memᴰ u ts → key u ≡ key t → Earlier u t → ⊥
 
 -- the first with the best number, of a list x ∷ xs in order
 module _ (x : Triple) (xs : List Triple) (order : Ordered Earlier (x ∷ xs)) (key : Triple → ℕ) where
@@ -38,7 +38,7 @@ module _ (x : Triple) (xs : List Triple) (order : Ordered Earlier (x ∷ xs)) (k
     first-best =
         record {
           member = best-member better key x xs;
-          none-earlier = λ u m q. go u (best-before better key R Earlier earlier-through x xs order u m q);
+          none_earlier = λ u m q. go u (best-before better key R Earlier earlier-through x xs order u m q);
         }
       where
         go : (u : Triple) → (found ≡ u) ⊎ Earlier found u → Earlier u found → ⊥
@@ -46,7 +46,7 @@ module _ (x : Triple) (xs : List Triple) (order : Ordered Earlier (x ∷ xs)) (k
         go u (inr b) a = earlier-one-way found u b a
 
     first-is : (t : Triple) → ((y : Triple) → Memᴰ y (x ∷ xs) → better (key y) (key t) ≡ false) → First key (x ∷ xs) t → found ≡ t
-    first-is t best f = best-is better key R Earlier earlier-through x xs order t f.member best f.none-earlier
+    first-is t best f = best-is better key R Earlier earlier-through x xs order t f.member best f.none_earlier
 
   least-first-is : (t : Triple) → ((y : Triple) → Memᴰ y (x ∷ xs) → key t ≤ key y) → First key (x ∷ xs) t → first_best less key x xs ≡ t
   least-first-is t h = first-is less less-ranks t (λ y m. le-ltb (key y) (key t) (h y m))
@@ -132,22 +132,22 @@ module _ (cal : List ℕ) (p : ℕ) (b : Bounds) where
   is-witness {t = t} f e =
       let (inside, v) = only-valid cal p b t f.member in
       record {
-        is-valid = v;
-        in-the-box = bounds-in b t inside;
+        is_valid = v;
+        in_the_box = bounds-in b t inside;
         attains = e;
-        none-earlier = λ u v h q. f.none-earlier u (has-valid cal p b u (in_bounds_lem b u h) v) (q ∙ sym e);
+        none_earlier = λ u v h q. f.none_earlier u (has-valid cal p b u (in_bounds_lem b u h) v) (q ∙ sym e);
       }
 
   -- a bound has one witness
   pub one-witness : {key : Triple → ℕ} {bound : ℕ} (t u : Triple) → IsWitness cal p b key bound t → IsWitness cal p b key bound u → t ≡ u
   one-witness t u x y =
       go (ordered-compare _ (valid-ordered cal p b) t u
-      (has-valid cal p b t (in_bounds_lem b t x.in-the-box) x.is-valid) (has-valid cal p b u (in_bounds_lem b u y.in-the-box) y.is-valid))
+      (has-valid cal p b t (in_bounds_lem b t x.in_the_box) x.is_valid) (has-valid cal p b u (in_bounds_lem b u y.in_the_box) y.is_valid))
     where
       go : (t ≡ u) ⊎ (Earlier t u ⊎ Earlier u t) → t ≡ u
       go (inl e) = e
-      go (inr (inl a)) = absurd (y.none-earlier t x.is-valid x.in-the-box x.attains a)
-      go (inr (inr a)) = absurd (x.none-earlier u y.is-valid y.in-the-box y.attains a)
+      go (inr (inl a)) = absurd (y.none_earlier t x.is_valid x.in_the_box x.attains a)
+      go (inr (inr a)) = absurd (x.none_earlier u y.is_valid y.in_the_box y.attains a)
 
   -- each of its bounds has the witness beside it
   pub rule-witnesses : (w : Window) (by : Witnesses) → witnessed_rule cal p b ≡ Within w by → HasWitnesses cal p b w by

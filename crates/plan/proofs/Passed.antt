@@ -26,7 +26,7 @@ use Rattle.plan.proofs.Refusals.{unless-true, unless-none}
 
 -- the lengths of the work times, the heights and the boxes, by those of the capacities and the tasks' calendars
 pub record Sized (rs cs ws hs bs : List ℕ) : Type 0 where
-  pub work-times : length ws ≡ length cs
+  pub work_times : length ws ≡ length cs
   pub heights : length hs ≡ length rs * length cs
   pub boxes : length bs ≡ box_numbers * length cs
 
@@ -34,7 +34,7 @@ pub sized : (rs cs ws hs bs : List ℕ) → one_for_each_task rs cs ws hs bs ≡
 unfolding one_for_each_task
 sized rs cs ws hs bs e =
     record {
-      work-times = eqb-true _ _ (and_left _ _ e);
+      work_times = eqb-true _ _ (and_left _ _ e);
       heights = eqb-true _ _ (and_left _ _ (and_right _ _ e));
       boxes = eqb-true _ _ (and_right _ _ (and_right _ _ e));
     }
@@ -42,7 +42,7 @@ sized rs cs ws hs bs e =
 -- ---- H and the calendars
 
 pub record CalendarsPassed (hours : ℕ) (calendars : List ℕ) : Type 0 where
-  pub some-hours : 1 ≤ hours
+  pub some_hours : 1 ≤ hours
   pub short : hours ≤ most_hours
   pub whole : is_calendars hours calendars ≡ true
   pub symbols : (k : ℕ) → k < length calendars → is_symbol calendars k ≡ true
@@ -54,7 +54,7 @@ calendars-passed e =
     let (three, four) = neither _ _ rest in
     let long = unless-none _ 2 0 two in
     record {
-      some-hours = from-least 1 most_hours _ long;
+      some_hours = from-least 1 most_hours _ long;
       short = to-most 1 most_hours _ long;
       whole = unless-none _ 3 0 three;
       symbols = λ k l. unless-none _ 4 k (first-none _ _ four k l);
@@ -64,7 +64,7 @@ calendars-passed e =
 
 pub record CountsPassed (n : ℕ) (cs : List ℕ) : Type 0 where
   pub tasks : n ≤ most_tasks
-  pub some-room : 1 ≤ length cs
+  pub some_room : 1 ≤ length cs
   pub rooms : length cs ≤ most_rooms
   pub capacity : (r : ℕ) → r < length cs → get_or cs r 0 ≤ most_capacity
 
@@ -76,7 +76,7 @@ counts-passed e =
     let count = unless-none _ 17 0 seventeen in
     record {
       tasks = leb-true _ _ (unless-none _ 5 0 five);
-      some-room = from-least 1 most_rooms _ count;
+      some_room = from-least 1 most_rooms _ count;
       rooms = to-most 1 most_rooms _ count;
       capacity = λ r l. leb-true _ _ (unless-none _ 10 0 (first-none _ _ ten r l));
     }
@@ -126,9 +126,9 @@ module _ (P : Plan) (boxes : List ℕ) where
       record {
         number = there;
         calendar = calendar-in P.shifts _ there;
-        calendar-length = calendar-hours P.shifts _ there;
-        some-work = from-least 1 P.shifts.hours _ work;
-        work-time = to-most 1 P.shifts.hours _ work;
+        calendar_length = calendar-hours P.shifts _ there;
+        some_work = from-least 1 P.shifts.hours _ work;
+        work_time = to-most 1 P.shifts.hours _ work;
         height = λ r l. leb-true _ _ (unless-none _ 8 i (first-none _ _ eight r l));
         box = boxed _ _ _ (unless-none _ 9 i nine);
       }
@@ -155,17 +155,17 @@ module _ (P : Plan) (boxes : List ℕ) where
       let c = calendars-passed calendars in
       let n = counts-passed counts in
       record {
-        some-hours = c.some-hours;
+        some_hours = c.some_hours;
         hours = c.short;
-        some-calendar = from-least 1 most_calendars _ (count c.whole);
+        some_calendar = from-least 1 most_calendars _ (count c.whole);
         calendars = to-most 1 most_calendars _ (count c.whole);
         whole = joins c.whole;
         symbols = c.symbols;
         tasks = n.tasks;
-        some-room = n.some-room;
+        some_room = n.some_room;
         rooms = n.rooms;
         capacity = n.capacity;
-        work-times = size.work-times;
+        work_times = size.work_times;
         heights = size.heights;
         boxes = size.boxes;
         task = λ i l. passed-task i (first-none _ _ tasks i l);

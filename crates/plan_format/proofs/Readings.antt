@@ -20,8 +20,8 @@ module _ (rs cs ts ws ks bs : List ℕ) where
   pub record Enough : Type 0 where
     pub capacities : most_rooms ≤ length rs
     pub calendars : most_symbols ≤ length cs
-    pub task-calendars : most_tasks ≤ length ts
-    pub work-times : most_tasks ≤ length ws
+    pub task_calendars : most_tasks ≤ length ts
+    pub work_times : most_tasks ≤ length ws
     pub heights : most_heights ≤ length ks
     pub boxes : most_bounds ≤ length bs
 
@@ -35,8 +35,8 @@ module _ (rs cs ts ws ks bs : List ℕ) where
       record {
         capacities = leb-true _ _ (and_left _ _ e);
         calendars = leb-true _ _ (and_left _ _ after-capacities);
-        task-calendars = leb-true _ _ (and_left _ _ after-calendars);
-        work-times = leb-true _ _ (and_left _ _ after-tasks);
+        task_calendars = leb-true _ _ (and_left _ _ after-calendars);
+        work_times = leb-true _ _ (and_left _ _ after-tasks);
         heights = leb-true _ _ (and_left _ _ after-work-times);
         boxes = leb-true _ _ (and_right _ _ after-work-times);
       }

@@ -78,7 +78,7 @@ module _ (P : Plan) (boxes : List ℕ) where
     unfolding cal_records Readable
     calendars-readable =
         each_to Readable _ _ (λ k l. (
-          omega (arith, calendar-hours P.shifts k l, p.some-hours),
+          omega (arith, calendar-hours P.shifts k l, p.some_hours),
           calendar-without tab (omega arith) k l,
           calendar-without lf (omega arith) k l,
         ))
@@ -159,4 +159,4 @@ module _ (P : Plan) (boxes : List ℕ) where
   unfolding read_text text_of_plan
   text-read p l =
       rw (le-leb (length (text_of_plan P boxes)) most_bytes l, take_all most_bytes (text_of_plan P boxes) l)
-      (lines-read (records_of P boxes) (records-readable p) 1 nothing (read_of P boxes) (records-taken p.some-calendar) begun)
+      (lines-read (records_of P boxes) (records-readable p) 1 nothing (read_of P boxes) (records-taken p.some_calendar) begun)

@@ -131,7 +131,7 @@ module _ {P : Plan} {boxes : List ℕ} (p : Passed P boxes) where
   plan-held =
       λ k. plan P.shifts.hours P.capacities (calendars-held k)
       (column 0 P.shifts.task_calendars (λ i. refl) refl k)
-      (column 1 P.shifts.work_times (λ i. refl) (sym p.work-times) k)
+      (column 1 P.shifts.work_times (λ i. refl) (sym p.work_times) k)
       (heights-held k)
 
   -- ---- its lines
@@ -143,8 +143,8 @@ module _ {P : Plan} {boxes : List ℕ} (p : Passed P boxes) where
       let t = p.task i l in
       let heights = heights_at (room_count P) (task_count P) P.heights i in
       let low = below-to most (λ room. height_of P room i) (room_count P) (λ room m. omega (arith, h, t.height room m)) in
-      let box : Below most (box_cells (bounds_at boxes i)) = omega (arith, h, p.hours, t.work-time, t.box) in
-      (omega (arith, h, t.number, p.calendars), (omega (arith, h, p.hours, t.work-time), below_both most heights _ low box))
+      let box : Below most (box_cells (bounds_at boxes i)) = omega (arith, h, p.hours, t.work_time, t.box) in
+      (omega (arith, h, t.number, p.calendars), (omega (arith, h, p.hours, t.work_time), below_both most heights _ low box))
 
   pub capacities-below : (most : ℕ) → most_capacity < most → Below most P.capacities
   unfolding room_count capacity_of
@@ -153,7 +153,7 @@ module _ {P : Plan} {boxes : List ℕ} (p : Passed P boxes) where
   pub lines-pass : line_fault (read_of P boxes) ≡ none
   unfolding line_fault read_of is_plan_length is_calendar_count
   lines-pass =
-      go_on _ 2 0 _ (is_within 1 most_hours P.shifts.hours p.some-hours p.hours)
+      go_on _ 2 0 _ (is_within 1 most_hours P.shifts.hours p.some_hours p.hours)
       ∙ unless-true _ 3 0
-      (and_both _ _ (rw (calendars-count P boxes) (is_within 1 most_calendars (calendar_count P.shifts) p.some-calendar p.calendars))
+      (and_both _ _ (rw (calendars-count P boxes) (is_within 1 most_calendars (calendar_count P.shifts) p.some_calendar p.calendars))
       (all_list P.shifts.hours (calendar_at P.shifts) (calendar_count P.shifts) (calendar-hours P.shifts)))

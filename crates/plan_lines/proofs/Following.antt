@@ -41,11 +41,11 @@ holds-empty reached h k n cs symbols cells e kept =
       rooms = e;
       calendars = refl;
       even = refl;
-      symbol-count = refl;
+      symbol_count = refl;
       tasks = refl;
       few = omega arith;
-      kept-symbols = kept-none 0 most_symbols symbols;
-      kept-tasks = tasks-none h kept;
+      kept_symbols = kept-none 0 most_symbols symbols;
+      kept_tasks = tasks-none h kept;
     }
 
 module _ {r : Read} {s : Scan} {n : ℕ} {symbols cells : List ℕ} (held : Holds r s n symbols cells) where
@@ -58,11 +58,11 @@ module _ {r : Read} {s : Scan} {n : ℕ} {symbols cells : List ℕ} (held : Hold
         rooms = held.rooms;
         calendars = held.calendars;
         even = held.even;
-        symbol-count = held.symbol-count;
+        symbol_count = held.symbol_count;
         tasks = held.tasks;
         few = omega (arith, held.few);
-        kept-symbols = held.kept-symbols;
-        kept-tasks = held.kept-tasks;
+        kept_symbols = held.kept_symbols;
+        kept_tasks = held.kept_tasks;
       }
 
   -- a test of the section reached, as the code makes it
@@ -113,12 +113,12 @@ module _ {r : Read} {s : Scan} {n : ℕ} {symbols cells : List ℕ} (held : Hold
         rooms = held.rooms;
         calendars = omega (arith, held.calendars, length-append r.calendars (l ∷ []));
         even = e ∙ ap₂ (λ a h. a and eqb (length l) h) held.even held.hours ∙ sym (all_more r.hours r.calendars l);
-        symbol-count =
-            omega (arith, held.symbol-count, ap length (joined-more r.calendars l), length-append (joined r.calendars) l);
+        symbol_count =
+            omega (arith, held.symbol_count, ap length (joined-more r.calendars l), length-append (joined r.calendars) l);
         tasks = held.tasks;
         few = omega (arith, held.few);
-        kept-symbols = rw (joined-more r.calendars l) (kept (joined r.calendars) held.symbol-count held.kept-symbols);
-        kept-tasks = held.kept-tasks;
+        kept_symbols = rw (joined-more r.calendars l) (kept (joined r.calendars) held.symbol_count held.kept_symbols);
+        kept_tasks = held.kept_tasks;
       },
     )
 
@@ -157,13 +157,13 @@ module _ {r : Read} {s : Scan} {n : ℕ} {symbols cells : List ℕ} (held : Hold
           rooms = held.rooms;
           calendars = held.calendars;
           even = held.even;
-          symbol-count = held.symbol-count;
+          symbol_count = held.symbol_count;
           tasks = omega (arith, held.tasks, length-append r.tasks (ns ∷ []));
           few = omega (arith, held.few);
-          kept-symbols = held.kept-symbols;
-          kept-tasks =
+          kept_symbols = held.kept_symbols;
+          kept_tasks =
               subst (λ (h : ℕ). KeepsTasks h r.capacities (r.tasks ++ (ns ∷ [])) cells') held.hours
-              (kept (subst (λ (h : ℕ). KeepsTasks h r.capacities r.tasks cells) (sym held.hours) held.kept-tasks));
+              (kept (subst (λ (h : ℕ). KeepsTasks h r.capacities r.tasks cells) (sym held.hours) held.kept_tasks));
         },
       )
 
@@ -197,12 +197,12 @@ module _ {r : Read} {s : Scan} {n : ℕ} {symbols cells : List ℕ} (held : Hold
 
   pub symbols-held : s.symbols ≤ most_symbols → section 0 s.symbols symbols ≡ (plan_in r).shifts.calendars
   unfolding plan_in
-  symbols-held l = kept-section 0 most_symbols s.symbols (joined r.calendars) symbols held.symbol-count l held.kept-symbols
+  symbols-held l = kept-section 0 most_symbols s.symbols (joined r.calendars) symbols held.symbol_count l held.kept_symbols
 
   module _ (l : s.symbols ≤ most_symbols) (t : s.tasks ≤ most_tasks) (m : s.rooms ≤ most_rooms) where
     kept : Keeps r.capacities (map (λ t. get_or t 0 0) r.tasks) (map (λ t. get_or t 1 0) r.tasks) (λ room. map (λ t. get_or t (room + 2) 0) r.tasks)
         (joined (map (box_of r.hours (length r.capacities)) r.tasks)) cells
-    kept = held.kept-tasks (omega (arith, held.rooms))
+    kept = held.kept_tasks (omega (arith, held.rooms))
 
     heights-held : stored_heights s.rooms s.tasks cells ≡ heights_in (length r.capacities) r.tasks
     unfolding stored_heights heights_in
@@ -219,7 +219,7 @@ module _ {r : Read} {s : Scan} {n : ℕ} {symbols cells : List ℕ} (held : Hold
         (kept-section capacities_at most_rooms s.rooms _ cells held.rooms m kept.capacities k)
         (symbols-held l k)
         (kept-section calendars_at most_tasks s.tasks _ cells (count-tasks 0) t kept.calendars k)
-        (kept-section work_times_at most_tasks s.tasks _ cells (count-tasks 1) t kept.work-times k)
+        (kept-section work_times_at most_tasks s.tasks _ cells (count-tasks 1) t kept.work_times k)
         (heights-held k)
 
     pub boxes-held : stored_boxes s.tasks cells ≡ boxes_in r

@@ -113,20 +113,20 @@ module _ {text : List ℕ} {whole : Bool} {from line : ℕ} {s : Scan} {symbols 
 
 -- memory is lent at one length
 pub record SameSizes (symbols₀ cells₀ symbols cells : List ℕ) : Type 0 where
-  pub of-symbols : length symbols ≡ length symbols₀
-  pub of-cells : length cells ≡ length cells₀
+  pub of_symbols : length symbols ≡ length symbols₀
+  pub of_cells : length cells ≡ length cells₀
 
 pub same-yet : {symbols cells : List ℕ} → SameSizes symbols cells symbols cells
-same-yet = record { of-symbols = refl; of-cells = refl }
+same-yet = record { of_symbols = refl; of_cells = refl }
 
 -- what a callee that was lent it keeps
 pub same-again : {symbols₀ cells₀ symbols cells symbols' cells' : List ℕ} → SameSizes symbols₀ cells₀ symbols cells
     → (length symbols' ≡ length symbols) × ((length cells' ≡ length cells) × Unit {0}) → SameSizes symbols₀ cells₀ symbols' cells'
-same-again same k = record { of-symbols = k.0 ∙ same.of-symbols; of-cells = k.1.0 ∙ same.of-cells }
+same-again same k = record { of_symbols = k.0 ∙ same.of_symbols; of_cells = k.1.0 ∙ same.of_cells }
 
 pub sized-still : {symbols₀ cells₀ symbols cells : List ℕ} → SameSizes symbols₀ cells₀ symbols cells → Sized symbols₀ cells₀ → Sized symbols cells
 sized-still same size =
-    record { of-symbols = same.of-symbols ∙ size.of-symbols; of-cells = same.of-cells ∙ size.of-cells }
+    record { of_symbols = same.of_symbols ∙ size.of_symbols; of_cells = same.of_cells ∙ size.of_cells }
 
 -- ---- the whole text, or as much of it as is looked at
 

@@ -172,7 +172,7 @@ module _ {rs cs ws : List ℕ} {hs : ℕ → List ℕ} {bs cells : List ℕ} (fe
         record {
           capacities = kept-apart capacities_at most_rooms (calendars_at + i) _ _ cells (omega arith) kept.capacities (omega arith);
           calendars = kept_more calendars_at most_tasks (calendars_at + i) _ _ cells (omega arith) kept.calendars (omega arith);
-          work-times = kept-apart work_times_at most_tasks (calendars_at + i) _ _ cells (omega arith) kept.work-times (omega arith);
+          work_times = kept-apart work_times_at most_tasks (calendars_at + i) _ _ cells (omega arith) kept.work_times (omega arith);
           heights = λ room h. kept-apart (room_at room) most_tasks (calendars_at + i) _ _ cells (omega arith) (kept.heights room h) (omega arith);
           boxes = kept-apart boxes_at most_bounds (calendars_at + i) _ _ cells (omega arith) kept.boxes (omega arith);
         }
@@ -182,7 +182,7 @@ module _ {rs cs ws : List ℕ} {hs : ℕ → List ℕ} {bs cells : List ℕ} (fe
         record {
           capacities = kept-apart capacities_at most_rooms (work_times_at + i) _ _ cells (omega arith) kept.capacities (omega arith);
           calendars = kept-past calendars_at most_tasks (work_times_at + i) _ _ cells (omega arith) kept.calendars (omega arith);
-          work-times = kept_more work_times_at most_tasks (work_times_at + i) _ _ cells (omega arith) kept.work-times (omega arith);
+          work_times = kept_more work_times_at most_tasks (work_times_at + i) _ _ cells (omega arith) kept.work_times (omega arith);
           heights = λ room h. kept-apart (room_at room) most_tasks (work_times_at + i) _ _ cells (omega arith) (kept.heights room h) (omega arith);
           boxes = kept-apart boxes_at most_bounds (work_times_at + i) _ _ cells (omega arith) kept.boxes (omega arith);
         }
@@ -193,7 +193,7 @@ module _ {rs cs ws : List ℕ} {hs : ℕ → List ℕ} {bs cells : List ℕ} (fe
         record {
           capacities = heights-apart i numbers cells size l _ _ _ kept.capacities (length rs) few (omega arith);
           calendars = heights-past i numbers cells size l _ _ _ kept.calendars (omega arith) (length rs) few;
-          work-times = heights-past i numbers cells size l _ _ _ kept.work-times (omega arith) (length rs) few;
+          work_times = heights-past i numbers cells size l _ _ _ kept.work_times (omega arith) (length rs) few;
           heights = λ room h. heights-more i numbers cells size l room _ (kept.heights room h) (e room h) (length rs) few h;
           boxes = heights-apart i numbers cells size l _ _ _ kept.boxes (length rs) few (omega arith);
         }
@@ -204,7 +204,7 @@ module _ {rs cs ws : List ℕ} {hs : ℕ → List ℕ} {bs cells : List ℕ} (fe
         record {
           capacities = kept-apart capacities_at most_rooms (boxes_at + 6 * i) _ _ cells (omega arith) kept.capacities (omega arith);
           calendars = kept-past calendars_at most_tasks (boxes_at + 6 * i) _ _ cells (omega arith) kept.calendars (omega arith);
-          work-times = kept-past work_times_at most_tasks (boxes_at + 6 * i) _ _ cells (omega arith) kept.work-times (omega arith);
+          work_times = kept-past work_times_at most_tasks (boxes_at + 6 * i) _ _ cells (omega arith) kept.work_times (omega arith);
           heights = λ room h. kept-past (room_at room) most_tasks (boxes_at + 6 * i) _ _ cells (omega arith) (kept.heights room h) (omega arith);
           boxes = kept_more boxes_at most_bounds (boxes_at + 6 * i) _ _ cells (omega arith) kept.boxes (omega arith);
         }

@@ -21,7 +21,7 @@ tasks-none hours {rs} {cells} kept few =
     record {
       capacities = kept;
       calendars = kept-none calendars_at most_tasks cells;
-      work-times = kept-none work_times_at most_tasks cells;
+      work_times = kept-none work_times_at most_tasks cells;
       heights = λ room h. kept-none (room_at room) most_tasks cells;
       boxes = kept-none boxes_at most_bounds cells;
     }
@@ -42,7 +42,7 @@ module _ (hours : ℕ) (rs : List ℕ) (tasks : List (List ℕ)) (task : List �
       record {
         capacities = kept.capacities;
         calendars = rw (map_more (λ t. get_or t 0 0) tasks task) kept.calendars;
-        work-times = rw (map_more (λ t. get_or t 1 0) tasks task) kept.work-times;
+        work_times = rw (map_more (λ t. get_or t 1 0) tasks task) kept.work_times;
         heights = λ room h. rw (map_more (λ t. get_or t (room + 2) 0) tasks task) (kept.heights room h);
         boxes = rw (map_more box tasks task, joined-more) kept.boxes;
       }
@@ -63,7 +63,7 @@ module _ (hours : ℕ) (rs : List ℕ) (tasks : List (List ℕ)) (task : List �
       record {
         capacities = (kept few).capacities;
         calendars = over 0 calendars_at;
-        work-times = over 1 work_times_at;
+        work_times = over 1 work_times_at;
         heights = λ room h. over (room + 2) (room_at room);
         boxes =
             kept-over boxes_at most_bounds _ cells

@@ -45,8 +45,8 @@ module _ (rs cs ts ws ks bs : List ℕ) where
       unfolding stored Gathered
       passed e q left =
           let few = read-passed held q in
-          let P = plan-held held few.symbols-few few.tasks-few few.rooms-few in
-          let H = ap (λ (l : List ℕ). written l ks) (gathered few.rooms-few few.tasks-few) in
+          let P = plan-held held few.symbols_few few.tasks_few few.rooms_few in
+          let H = ap (λ (l : List ℕ). written l ks) (gathered few.rooms_few few.tasks_few) in
           (λ k. end_with
           (answered (record { hours = held.hours k; rooms = held.rooms k; calendars = held.calendars k; tasks = held.tasks k }))
           ((left.0 ∙ ap (λ (p : Plan). written p.capacities rs) P) k)
@@ -54,5 +54,5 @@ module _ (rs cs ts ws ks bs : List ℕ) where
           ((left.2 ∙ ap (λ (p : Plan). written p.shifts.task_calendars ts) P) k)
           ((left.3 ∙ ap (λ (p : Plan). written p.shifts.work_times ws) P) k)
           ((left.4 ∙ H ∙ ap (λ (p : Plan). written p.heights ks) P) k)
-          ((left.5 ∙ ap (λ (l : List ℕ). written l bs) (boxes-held held few.symbols-few few.tasks-few few.rooms-few)) k))
+          ((left.5 ∙ ap (λ (l : List ℕ). written l bs) (boxes-held held few.symbols_few few.tasks_few few.rooms_few)) k))
           ∙ not-refused rs cs ts ws ks bs r (rw e (sym q))

@@ -145,7 +145,7 @@ module _ {r : Read} {s : Scan} {n : ℕ} {symbols cells : List ℕ} (held : Hold
         (to-most 1 most_calendars (length r.calendars) (and_left _ _ lines))
         (to-most 1 most_hours r.hours (unless-none _ 2 0 two))
         in
-        omega (arith, held.symbol-count, joined_length r.hours r.calendars (and_right _ _ lines))
+        omega (arith, held.symbol_count, joined_length r.hours r.calendars (and_right _ _ lines))
 
     pub read-plan : s.tasks ≤ most_tasks → s.rooms ≤ most_rooms
         → plan_fault (stored_plan s.hours s.rooms s.tasks (section 0 s.symbols symbols) cells) (stored_boxes s.tasks cells)
@@ -177,9 +177,9 @@ module _ {r : Read} {s : Scan} {n : ℕ} {symbols cells : List ℕ} (held : Hold
 
   -- what a plan that passes has
   pub record ReadPassed : Type 0 where
-    pub symbols-few : s.symbols ≤ most_symbols
-    pub tasks-few : s.tasks ≤ most_tasks
-    pub rooms-few : s.rooms ≤ most_rooms
+    pub symbols_few : s.symbols ≤ most_symbols
+    pub tasks_few : s.tasks ≤ most_tasks
+    pub rooms_few : s.rooms ≤ most_rooms
 
   pub read-passed : none ≡ read_fault true r → ReadPassed
   unfolding read_fault plan_fault task_count plan_in
@@ -188,7 +188,7 @@ module _ {r : Read} {s : Scan} {n : ℕ} {symbols cells : List ℕ} (held : Hold
       let after-3 = neither _ _ after-31.1 in
       let counts = counts-passed (neither _ _ (neither _ _ after-3.1).1).0 in
       record {
-        symbols-few = symbols-fit (sym after-3.0);
-        tasks-few = omega (arith, task-count held, counts.tasks);
-        rooms-few = omega (arith, held.rooms, counts.rooms);
+        symbols_few = symbols-fit (sym after-3.0);
+        tasks_few = omega (arith, task-count held, counts.tasks);
+        rooms_few = omega (arith, held.rooms, counts.rooms);
       }

@@ -101,8 +101,8 @@ module _ (P : Plan) (opening kinds₀ tasks₀ hours₀ : List ℕ) (count : ℕ
             (omega arith);
       }
 
-  some-room : count < length kinds₀ → length kinds₀ - count ≡ suc (length kinds₀ - (count + 1))
-  some-room l = omega arith
+  some_room : count < length kinds₀ → length kinds₀ - count ≡ suc (length kinds₀ - (count + 1))
+  some_room l = omega arith
 
   -- a step that moves is taken
   step-taken : (x : Step) (left : List ℕ) → next P boxes ≡ some (moves x left) → count < length kinds₀ → length tasks₀ ≡ length kinds₀
@@ -115,7 +115,7 @@ module _ (P : Plan) (opening kinds₀ tasks₀ hours₀ : List ℕ) (count : ℕ
         steps = t.steps ++ (x ∷ []);
         room = omega arith;
         goes_on = t.goes_on
-            ∙ ap (λ (k : ℕ). resumed t.steps (run P boxes k)) (some-room l)
+            ∙ ap (λ (k : ℕ). resumed t.steps (run P boxes k)) (some_room l)
             ∙ ap (resumed t.steps) (run-moves (next P) boxes room x left e)
             ∙ ap (λ (log : List Step). ended (run P left room).ending log (run P left room).boxes)
             (sym (append_assoc t.steps (x ∷ []) (run P left room).log));
@@ -149,7 +149,7 @@ module _ (P : Plan) (opening kinds₀ tasks₀ hours₀ : List ℕ) (count : ℕ
     unfolding ending_answer
     ends-stopped x e l a b =
         ends_with n impossible (t.steps ++ (x ∷ [])) boxes
-        (t.goes_on ∙ ap (λ (k : ℕ). resumed t.steps (run P boxes k)) (some-room l) ∙ ap (resumed t.steps) (run-stops (next P) boxes _ x e))
+        (t.goes_on ∙ ap (λ (k : ℕ). resumed t.steps (run P boxes k)) (some_room l) ∙ ap (resumed t.steps) (run-stops (next P) boxes _ x e))
         (one_more x l a b)
 
 -- ---- each turn
@@ -157,12 +157,12 @@ module _ (P : Plan) (opening kinds₀ tasks₀ hours₀ : List ℕ) (count : ℕ
 pub record Filtering (P : Plan) (opening kinds₀ tasks₀ hours₀ : List ℕ) (count : ℕ) (boxes kinds tasks hours : List ℕ) (fits : List Fit) : Type 0 where
   pub keeps : Keeping P boxes fits
   pub taken : Taken P opening kinds₀ tasks₀ hours₀ count boxes kinds tasks hours
-  pub same-boxes : length boxes ≡ length opening
-  pub same-kinds : length kinds ≡ length kinds₀
-  pub same-tasks : length tasks ≡ length tasks₀
-  pub same-hours : length hours ≡ length hours₀
-  pub each-task : length tasks₀ ≡ length kinds₀
-  pub each-hour : length hours₀ ≡ length kinds₀
+  pub same_boxes : length boxes ≡ length opening
+  pub same_kinds : length kinds ≡ length kinds₀
+  pub same_tasks : length tasks ≡ length tasks₀
+  pub same_hours : length hours ≡ length hours₀
+  pub each_task : length tasks₀ ≡ length kinds₀
+  pub each_hour : length hours₀ ≡ length kinds₀
 
 pub filter-opens : {P : Plan} {boxes kinds tasks hours : List ℕ} {fits : List Fit} → Passed P boxes × (one_for_each_step kinds tasks hours ≡ true)
     → ((i : ℕ) → i < task_count P → get_or fits i Never ≡ fit_at P.shifts boxes i) → length fits ≡ most_tasks
@@ -171,12 +171,12 @@ filter-opens {P} {boxes} {kinds} {tasks} {hours} (p, e) q r =
     record {
       keeps = record { passed = p; kept = q; full = r };
       taken = none-taken P boxes kinds tasks hours;
-      same-boxes = refl;
-      same-kinds = refl;
-      same-tasks = refl;
-      same-hours = refl;
-      each-task = (one_each kinds tasks hours e).0;
-      each-hour = (one_each kinds tasks hours e).1;
+      same_boxes = refl;
+      same_kinds = refl;
+      same_tasks = refl;
+      same_hours = refl;
+      each_task = (one_each kinds tasks hours e).0;
+      each_hour = (one_each kinds tasks hours e).1;
     }
 
 -- an admitted step that moves no bound says impossible
@@ -201,7 +201,7 @@ module _ {P : Plan} {opening kinds₀ tasks₀ hours₀ : List ℕ} {count : ℕ
     next-is = sym is ∙ ap (turn_of boxes) found
 
     pub fills : length kinds ≤ count → Ends P n opening kinds₀ tasks₀ hours₀ (filter_end (no_room_for (fault 32 0) (n + count)) boxes kinds tasks hours)
-    fills l = ends-full P opening kinds₀ tasks₀ hours₀ count boxes kinds tasks hours at.taken n _ next-is (omega (arith, at.same-kinds))
+    fills l = ends-full P opening kinds₀ tasks₀ hours₀ count boxes kinds tasks hours at.taken n _ next-is (omega (arith, at.same_kinds))
 
     module _ (l : count < length kinds) where
       pub stops_at : ((i : ℕ) (b : Bounds) → j ≡ Moved i b → ⊥)
@@ -209,7 +209,7 @@ module _ {P : Plan} {opening kinds₀ tasks₀ hours₀ : List ℕ} {count : ℕ
           (filter_end (impossible_after (n + (count + 1))) boxes (set kinds count x.kind) (set tasks count x.task) (set hours count x.hour))
       stops_at still =
           ends-stopped P opening kinds₀ tasks₀ hours₀ count boxes kinds tasks hours at.taken n x
-          (next-is ∙ ap some (admitted-stops boxes x j still)) (omega (arith, at.same-kinds)) at.each-task at.each-hour
+          (next-is ∙ ap some (admitted-stops boxes x j still)) (omega (arith, at.same_kinds)) at.each_task at.each_hour
 
       -- the next turn, on the boxes and the answers once the bounds are moved
       module _ {i : ℕ} {b : Bounds} (m : j ≡ Moved i b) (there : i < task_count P) where
@@ -232,13 +232,13 @@ module _ {P : Plan} {opening kinds₀ tasks₀ hours₀ : List ℕ} {count : ℕ
               taken =
                   step-taken P opening kinds₀ tasks₀ hours₀ count boxes kinds tasks hours at.taken x boxes'
                   (next-moves ∙ ap (λ (left : List ℕ). some (moves x left)) (sym e))
-                  (omega (arith, at.same-kinds))
-                  at.each-task
-                  at.each-hour;
-              same-boxes = ap length e ∙ length-with boxes i b ∙ at.same-boxes;
-              same-kinds = length-set kinds count x.kind ∙ at.same-kinds;
-              same-tasks = length-set tasks count x.task ∙ at.same-tasks;
-              same-hours = length-set hours count x.hour ∙ at.same-hours;
-              each-task = at.each-task;
-              each-hour = at.each-hour;
+                  (omega (arith, at.same_kinds))
+                  at.each_task
+                  at.each_hour;
+              same_boxes = ap length e ∙ length-with boxes i b ∙ at.same_boxes;
+              same_kinds = length-set kinds count x.kind ∙ at.same_kinds;
+              same_tasks = length-set tasks count x.task ∙ at.same_tasks;
+              same_hours = length-set hours count x.hour ∙ at.same_hours;
+              each_task = at.each_task;
+              each_hour = at.each_hour;
             }

@@ -46,7 +46,7 @@ module _ (P : Plan) (boxes : List ℕ) (passed : Passed P boxes) where
   unfolding heights_of
   ready =
       record {
-        rooms-ready = record { few-rooms = passed.rooms; few-tasks = passed.tasks; each = passed.heights; room = room-ready };
+        rooms_ready = record { few_rooms = passed.rooms; few_tasks = passed.tasks; each = passed.heights; room = room-ready };
         sized = passed.boxes;
         latest = λ i l. let b = (passed.task i l).box in omega (arith, passed.hours);
         shortest = λ i l. let b = (passed.task i l).box in omega (arith, passed.hours);

@@ -109,8 +109,8 @@ pub record Replaying (P : Plan) (n : ℕ) (said₀ : Bool) (opening kinds tasks 
   pub keeps : Keeping P boxes fits
   pub same : length boxes ≡ length opening
   pub ends : end_from P n kinds tasks hours k said boxes ≡ replay_from P n said₀ opening (steps_in kinds tasks hours)
-  pub each-task : length tasks ≡ length kinds
-  pub each-hour : length hours ≡ length kinds
+  pub each_task : length tasks ≡ length kinds
+  pub each_hour : length hours ≡ length kinds
 
 pub below : {k n m : ℕ} → k < n → n ≡ m → k < m
 below l q = omega arith
@@ -129,8 +129,8 @@ replay-opens {P} {n} {said₀} {opening} {kinds} {tasks} {hours} (p, e) q r =
       keeps = record { passed = p; kept = q; full = r };
       same = refl;
       ends = end-opens P n kinds tasks hours said₀ opening;
-      each-task = (one_each kinds tasks hours e).0;
-      each-hour = (one_each kinds tasks hours e).1;
+      each_task = (one_each kinds tasks hours e).0;
+      each_hour = (one_each kinds tasks hours e).1;
     }
 
 module _ {P : Plan} {n : ℕ} {said₀ : Bool} {opening kinds tasks hours : List ℕ} {k : ℕ} {said : Bool} {boxes : List ℕ} {fits : List Fit}
@@ -166,8 +166,8 @@ module _ {P : Plan} {n : ℕ} {said₀ : Bool} {opening kinds tasks hours : List
           keeps = at.keeps;
           same = at.same;
           ends = sym (end-stops P n kinds tasks hours k boxes l (judges-impossible P boxes fits at.keeps _ r is m)) ∙ going;
-          each-task = at.each-task;
-          each-hour = at.each-hour;
+          each_task = at.each_task;
+          each_hour = at.each_hour;
         }
 
     module _ {i : ℕ} {b : Bounds} (m : r ≡ Moved i b) where
@@ -190,6 +190,6 @@ module _ {P : Plan} {n : ℕ} {said₀ : Bool} {opening kinds tasks hours : List
                 ap (λ (b : Bool). end_from P n kinds tasks hours (k + 1) b boxes') s
                 ∙ sym (end-moves P n kinds tasks hours k boxes l boxes' (moves_so ∙ ap moved (sym e)))
                 ∙ going;
-            each-task = at.each-task;
-            each-hour = at.each-hour;
+            each_task = at.each_task;
+            each_hour = at.each_hour;
           }

@@ -34,14 +34,14 @@ module _ {P : Plan} {boxes schedule : List ℕ} (input : InputPasses P boxes sch
       record {
         hours = plan-facts.hours;
         calendar = λ i l. (plan-facts.task i l).calendar;
-        work-times = plan-facts.work-times;
+        work_times = plan-facts.work_times;
         boxes = plan-facts.boxes;
         schedule = eqb-true _ _ (and_right _ _ input.size);
       }
 
-  pub rooms-ready : RoomsReady (room_count P) (task_count P) P.heights schedule
+  pub rooms_ready : RoomsReady (room_count P) (task_count P) P.heights schedule
   unfolding task_count heights_of height_of
-  rooms-ready =
+  rooms_ready =
       record {
         heights = plan-facts.heights;
         room =
@@ -57,5 +57,5 @@ module _ {P : Plan} {boxes schedule : List ℕ} (input : InputPasses P boxes sch
   ends-ready F =
       record {
         schedule = eqb-true _ _ (and_right _ _ input.size);
-        ends = λ i l. omega (arith, (valid-facts _ _ _ _ _ (F.fits i l)).ends, (plan-facts.task i l).calendar-length, plan-facts.hours);
+        ends = λ i l. omega (arith, (valid-facts _ _ _ _ _ (F.fits i l)).ends, (plan-facts.task i l).calendar_length, plan-facts.hours);
       }

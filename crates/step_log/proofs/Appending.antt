@@ -53,7 +53,7 @@ module _ (P : Plan) where
     pub most : e.steps ≤ k + n
     pub all : e.refusal ≡ none → e.steps ≡ k + n
     -- a refusal is of the step at the end: 11, 12 or 13
-    pub at-end : (f : Fault) → e.refusal ≡ some f → (11 ≤ f.number) × (f.number ≤ 13) × (f.place ≡ e.steps)
+    pub at_end : (f : Fault) → e.refusal ≡ some f → (11 ≤ f.number) × (f.number ≤ 13) × (f.place ≡ e.steps)
 
   refused-there : (k n : ℕ) (said : Bool) (boxes : List ℕ) (number : ℕ) → 11 ≤ number → number ≤ 13
       → Reaches k n (log_end k said boxes (some (fault number k)))
@@ -61,16 +61,16 @@ module _ (P : Plan) where
       record {
         most = omega arith;
         all = λ e. none≢some (sym e);
-        at-end = λ f e. let q : fault number k ≡ f = cc in
+        at_end = λ f e. let q : fault number k ≡ f = cc in
             (rw (← q) l, rw (← q) m, rw (← q) refl);
       }
 
   one-before : (k n : ℕ) (e : LogEnd) → Reaches (k + 1) n e → Reaches k (suc n) e
-  one-before k n e r = record { most = omega (arith, r.most); all = λ q. omega (arith, r.all q); at-end = r.at-end }
+  one-before k n e r = record { most = omega (arith, r.most); all = λ q. omega (arith, r.all q); at_end = r.at_end }
 
   pub replay-reaches : (k : ℕ) (said : Bool) (boxes : List ℕ) (xs : List Step) → Reaches k (length xs) (replay_from P k said boxes xs)
   unfolding replay_by
-  replay-reaches k said boxes [] = record { most = omega arith; all = λ e. omega arith; at-end = λ f e. none≢some e }
+  replay-reaches k said boxes [] = record { most = omega arith; all = λ e. omega arith; at_end = λ f e. none≢some e }
   replay-reaches k true boxes (x ∷ xs) = refused-there k _ true boxes 13 (omega arith) (omega arith)
   replay-reaches k false boxes (x ∷ xs) =
       judgement-all (Reaches k (length (x ∷ xs))) (judge P boxes x) _ _ _ _

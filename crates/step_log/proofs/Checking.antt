@@ -110,8 +110,8 @@ module _ (P : Plan) (boxes : List ℕ) (from : ℕ) (said : Bool) (part : Part) 
   unfolding check_from check_steps_from part_steps
   core_is =
       let l : part.count ≤ length part.kinds = omega (arith, size.all_kinds) in
-      let m : part.count ≤ length part.tasks = omega (arith, size.all-tasks) in
-      let o : part.count ≤ length part.hours = omega (arith, size.all-hours) in
+      let m : part.count ≤ length part.tasks = omega (arith, size.all_tasks) in
+      let o : part.count ≤ length part.hours = omega (arith, size.all_hours) in
       rw (
         lent-fault P boxes part.kinds part.tasks part.hours part.count l m o,
         steps-lent part.kinds part.tasks part.hours

@@ -91,8 +91,8 @@ pub sized-more : (p q : Part) (n a b c : ℕ) → q.kinds ≡ set p.kinds n a �
 sized-more p q n a b c k t h size =
     record {
       all_kinds = ap length k ∙ length-set p.kinds n a ∙ size.all_kinds;
-      all-tasks = ap length t ∙ length-set p.tasks n b ∙ size.all-tasks;
-      all-hours = ap length h ∙ length-set p.hours n c ∙ size.all-hours;
+      all_tasks = ap length t ∙ length-set p.tasks n b ∙ size.all_tasks;
+      all_hours = ap length h ∙ length-set p.hours n c ∙ size.all_hours;
     }
 
 -- ---- out of a lent log

@@ -282,9 +282,9 @@ module _ (P : Plan) (opening : List ℕ) (cells : List Step) (taken : ℕ) (boxe
 
     module _ (new : List Step) (is : new ≡ take taken log ++ written (part_steps f.steps) (drop taken log)) where
       -- the log with the part's steps
-      logs-more : (l : List Step) → part_steps f.steps ≡ l → new ≡ (t.steps ++ l) ++ drop (taken + length l) cells
+      logs_more : (l : List Step) → part_steps f.steps ≡ l → new ≡ (t.steps ++ l) ++ drop (taken + length l) cells
       unfolding written
-      logs-more l e =
+      logs_more l e =
           is
           ∙ ap (λ (s : List Step). s ++ written (part_steps f.steps) (drop taken log))
           (ap (take taken) t.logs ∙ take_at t.steps (drop taken cells) taken t.number)
@@ -318,7 +318,7 @@ module _ (P : Plan) (opening : List ℕ) (cells : List Step) (taken : ℕ) (boxe
                   steps = t.steps ++ r.log;
                   number = length-append t.steps r.log ∙ (omega (arith, t.number, number));
                   inside = omega (arith, number, inside);
-                  logs = logs-more r.log ran.steps ∙ ap (λ (n : ℕ). (t.steps ++ r.log) ++ drop n cells) (sym number);
+                  logs = logs_more r.log ran.steps ∙ ap (λ (n : ℕ). (t.steps ++ r.log) ++ drop n cells) (sym number);
                   goes_on = λ q. (
                     ap (input_fault P) ran.leaves ∙ run-passes P m boxes e,
                     (t.goes_on q).1
@@ -350,7 +350,7 @@ module _ (P : Plan) (opening : List ℕ) (cells : List Step) (taken : ℕ) (boxe
                   let same-fault : g ≡ h = let w : some g ≡ some h = sym e ∙ ap (input_fault P) b ∙ q in cc in
                   rw q
                   (same_end ((c.refuses g e).answers ∙ ap refused_by same-fault) ((c.refuses g e).leaves ∙ b)
-                  (logs-more [] (c.refuses g e).steps
+                  (logs_more [] (c.refuses g e).steps
                   ∙ ap (λ (s : List Step). (s ++ []) ++ drop (taken + 0) cells) no_steps
                   ∙ ap (λ (n : ℕ). drop (n + 0) cells) z))
                 where
@@ -367,4 +367,4 @@ module _ (P : Plan) (opening : List ℕ) (cells : List Step) (taken : ℕ) (boxe
               let long : length (t.steps ++ r.log) ≡ taken + count r = length-append t.steps r.log ∙ (omega (arith, t.number)) in
               rw (opened, whole)
               (same_end (ran.answers ∙ ap (ending_answer r.ending) (sym long)) ran.leaves
-              (logs-more r.log ran.steps ∙ ap (λ (n : ℕ). (t.steps ++ r.log) ++ drop n cells) (sym long)))
+              (logs_more r.log ran.steps ∙ ap (λ (n : ℕ). (t.steps ++ r.log) ++ drop n cells) (sym long)))

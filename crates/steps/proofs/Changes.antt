@@ -214,17 +214,17 @@ module _ (P : Plan) (boxes left : List ℕ) (c : Change P boxes left) where
 pub change-passes : (P : Plan) (boxes left : List ℕ) → Change P boxes left → Passed P boxes → Passed P left
 change-passes P boxes left c passed =
     record {
-      some-hours = passed.some-hours;
+      some_hours = passed.some_hours;
       hours = passed.hours;
-      some-calendar = passed.some-calendar;
+      some_calendar = passed.some_calendar;
       calendars = passed.calendars;
       whole = passed.whole;
       symbols = passed.symbols;
       tasks = passed.tasks;
-      some-room = passed.some-room;
+      some_room = passed.some_room;
       rooms = passed.rooms;
       capacity = passed.capacity;
-      work-times = passed.work-times;
+      work_times = passed.work_times;
       heights = passed.heights;
       boxes = change-length P boxes left c ∙ passed.boxes;
       task = λ j l. go j l (eqb j c.task) refl;
@@ -236,9 +236,9 @@ change-passes P boxes left c passed =
         record {
           number = task.number;
           calendar = task.calendar;
-          calendar-length = task.calendar-length;
-          some-work = task.some-work;
-          work-time = task.work-time;
+          calendar_length = task.calendar_length;
+          some_work = task.some_work;
+          work_time = task.work_time;
           height = task.height;
           box = box;
         }

@@ -76,7 +76,7 @@ digits_last (b ∷ ds) d e h = and_both _ _ (and_left _ _ e) (digits_last ds d (
 
 -- digits, at least one, of which the first is 0 only in 0 itself
 record Plain (n : ℕ) (ds : List ℕ) : Type 0 where
-  some-digit : 1 ≤ length ds
+  some_digit : 1 ≤ length ds
   digits : is_digits ds ≡ true
   leads : 1 ≤ n → 49 ≤ get_or ds 0 0
 
@@ -85,14 +85,14 @@ unfolding is_digits
 plain-text =
     decimal-all Plain
     (λ n l. record {
-      some-digit = omega arith;
+      some_digit = omega arith;
       digits = and_both _ _ (is_within 48 57 (digit n) (omega arith) (omega arith)) refl;
       leads = λ h. omega arith;
     })
     (λ n ds l p. record {
-      some-digit = omega (arith, p.some-digit, length-append ds (digit (n % 10) ∷ []));
+      some_digit = omega (arith, p.some_digit, length-append ds (digit (n % 10) ∷ []));
       digits = digits_last ds (digit (n % 10)) p.digits (is_within 48 57 (digit (n % 10)) (omega arith) (omega arith));
-      leads = λ h. rw (get_or-append ds (digit (n % 10) ∷ []) 0 0 p.some-digit) (p.leads (omega arith));
+      leads = λ h. rw (get_or-append ds (digit (n % 10) ∷ []) 0 0 p.some_digit) (p.leads (omega arith));
     })
 
 -- a number of plan text is read back as that number
@@ -100,7 +100,7 @@ pub number_read : (n : ℕ) → n ≤ most_number → number_of (decimal_text n)
 unfolding is_plain
 number_read n l =
     let p = plain-text n in
-    number_is _ p.some-digit p.digits plain (omega (arith, decimal-read n)) ∙ ap some (decimal-read n)
+    number_is _ p.some_digit p.digits plain (omega (arith, decimal-read n)) ∙ ap some (decimal-read n)
   where
     plain : is_plain (decimal_text n) ≡ true
     plain = unfold is_plain in by (ltb n 10) refl

@@ -28,7 +28,7 @@ pub fn next_turn(
     fits: [Fit; Bounds::MOST],
 ) -> Turn
     requires { Ready (length capacities.now) tasks heights.now boxes.now × (hours.0 ≤ most_hours) }
-    ensures by_index { (calendars task_calendars work_times : List ℕ) →
+    ensures answer { (calendars task_calendars work_times : List ℕ) →
         let P = plan hours.0 capacities.now calendars task_calendars work_times heights.now in
         tasks ≡ length task_calendars → Keeping P boxes.now fits → turn_of boxes.now result ≡ next P boxes.now }
     ensures there { (x : Step) (i : ℕ) (b : Bounds) → result ≡ Turn.At x (Judged.Moved i b) → i < tasks }

@@ -39,7 +39,7 @@ more-ranks =
 -- ---- a list whose members are in an order
 
 pub data Ordered {A : Type 0} (R : A → A → Type 0) : List A → Type 0 where
-  in-order-none : Ordered R []
+  in_order_none : Ordered R []
   in_order : {x : A} {xs : List A} → ((y : A) → Memᴰ y xs → R x y) → Ordered R xs → Ordered R (x ∷ xs)
 
 module _ {A : Type 0} {R : A → A → Type 0} where

@@ -16,11 +16,11 @@ module _ (s t : ℕ) {r : Bool} (is : r ≡ ltb s t) where
 
 -- of an end that was worked out
 module _ (s : ℕ) {n : ℕ} {end : Hour} {r : Bool} (is-end : end ≡ hour n) (is : r ≡ ltb s end.0) where
-  at-end : r ≡ ltb s n
-  at-end = is ∙ ap (λ (h : Hour). ltb s h.0) is-end
+  at_end : r ≡ ltb s n
+  at_end = is ∙ ap (λ (h : Hour). ltb s h.0) is-end
 
   pub before-end : r ≡ true → s < n
-  before-end = before s n at-end
+  before-end = before s n at_end
 
   pub not-before-end : r ≡ false → n ≤ s
-  not-before-end = not-before s n at-end
+  not-before-end = not-before s n at_end

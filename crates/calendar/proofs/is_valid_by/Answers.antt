@@ -24,7 +24,7 @@ returns c =
     let known = c.requires in
     rw c.overtime_ends.ensures
     (sym
-    (by-ends _ _ _ _ _ known.some-hours known.inside
+    (by-ends _ _ _ _ _ known.some_hours known.inside
     (sym c.is_kind.ensures ∙ c.if-is_kind.false)
     (sym c.is_kind-2.ensures ∙ c.if-is_kind-2.false)
     (omega (arith, regulars _ _ _ _ known.are, c.if-work_time-o-2.false))

@@ -41,9 +41,9 @@ with_start-best-requires c =
 pub without_first-shortest-requires : goal.without_first-shortest-requires
 without_first-shortest-requires c =
     (carried_on c.requires c.loop-s-test.true c.loop-s.invariant.0 _ _
-    c.lengthen-shortest.ensures c.lengthen-longest.ensures).is-shortest
+    c.lengthen-shortest.ensures c.lengthen-longest.ensures).is_shortest
 
 pub without_first-longest-requires : goal.without_first-longest-requires
 without_first-longest-requires c =
     (carried_on c.requires c.loop-s-test.true c.loop-s.invariant.0 _ _
-    c.lengthen-shortest.ensures c.lengthen-longest.ensures).is-longest
+    c.lengthen-shortest.ensures c.lengthen-longest.ensures).is_longest

@@ -16,7 +16,7 @@ returns-then-not-may_end c =
     unmoved _ (none-ends known (sym c.may_end.ensures ∙ c.if-not-may_end.true))
 
 pub may_end-requires : goal.may_end-requires
-may_end-requires c = counts-small c.requires.is-shortest
+may_end-requires c = counts-small c.requires.is_shortest
 
 pub window_from-window-requires : goal.window_from-window-requires
 window_from-window-requires c =

@@ -12,7 +12,7 @@ use Rattle.calendar.specs.Triples.{start_of, elapsed_of}
 
 -- a triple lies in the calendar, and the counts are those of its hours
 pub record HasCounts (cal : List ℕ) (t : Triple) (n : Counts) : Type 0 where
-  pub some-hours : 1 ≤ elapsed_of t
+  pub some_hours : 1 ≤ elapsed_of t
   pub inside : start_of t + elapsed_of t ≤ length cal
   pub are : n ≡ counts_of cal (start_of t) (elapsed_of t)
 
@@ -31,9 +31,9 @@ pub record RuleReady (cal : List ℕ) (b : Bounds) : Type 0 where
 pub record Reaches (cal : List ℕ) (p : ℕ) (b : Bounds) (s : ℕ) (shortest longest : Stretch) : Type 0 where
   pub ready : RuleReady cal b
   pub start : s < length cal
-  pub is-shortest : IsStretch cal s shortest
-  pub is-longest : IsStretch cal s longest
+  pub is_shortest : IsStretch cal s shortest
+  pub is_longest : IsStretch cal s longest
   pub none_before : (e : ℕ) → e < shortest.hours.0 → may_end p b (stretch_of cal s e) ≡ false
-  pub at-the-end : may_end p b shortest ≡ false → length cal ≤ s + shortest.hours.0
+  pub at_the_end : may_end p b shortest ≡ false → length cal ≤ s + shortest.hours.0
   pub lasts : (e : ℕ) → 1 ≤ e → e ≤ longest.hours.0 → may_last cal p b s e ≡ true
   pub none_after : (e : ℕ) → longest.hours.0 < e → s + e ≤ length cal → may_last cal p b s e ≡ false

@@ -20,8 +20,8 @@ pub test_tasks-requires : goal.test_tasks-requires
 test_tasks-requires c =
     let size = sized _ _ _ _ _ c.requires in
     record {
-      some-hours = (calendars-passed (sym c.in-Passed.ensures)).some-hours;
-      work-times = size.work-times;
+      some_hours = (calendars-passed (sym c.in-Passed.ensures)).some_hours;
+      work_times = size.work_times;
       heights = size.heights;
       boxes = size.boxes;
     }

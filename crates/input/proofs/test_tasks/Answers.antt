@@ -26,7 +26,7 @@ unfolding tasks_fault
 returns c = sym (unfound-end c.loop-i.invariant c.loop-i-test.false)
 
 pub calendar_count-count-requires : goal.calendar_count-count-requires
-calendar_count-count-requires c = c.requires.some-hours
+calendar_count-count-requires c = c.requires.some_hours
 
 pub loop-i-init : goal.loop-i-init
 loop-i-init c = unfound-first

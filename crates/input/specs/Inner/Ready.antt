@@ -4,7 +4,7 @@ use Rattle.units.specs.Limits.{box_numbers}
 use Rattle.plan.specs.Plan.{Shifts}
 
 pub record TasksReady (S : Shifts) (rooms : ℕ) (hs bs : List ℕ) : Type 0 where
-  pub some-hours : 1 ≤ S.hours
-  pub work-times : length S.work_times ≡ length S.task_calendars
+  pub some_hours : 1 ≤ S.hours
+  pub work_times : length S.work_times ≡ length S.task_calendars
   pub heights : length hs ≡ rooms * length S.task_calendars
   pub boxes : length bs ≡ box_numbers * length S.task_calendars

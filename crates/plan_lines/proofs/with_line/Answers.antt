@@ -14,7 +14,7 @@ use Rattle.plan_lines.proofs.with_line.Goals as goal
 pub with_plan-requires : goal.with_plan-requires
 with_plan-requires c =
     let (ns, e, least, begin) = finds-plan _ _ _ _ c.record_of-found.ensures _ c.in-Plan.is in
-    (least, c.record_of-found.auto.numbers, c.requires.2.of-cells)
+    (least, c.record_of-found.auto.numbers, c.requires.2.of_cells)
 
 pub slice_bounds-with_calendar-count : goal.slice_bounds-with_calendar-count
 slice_bounds-with_calendar-count c = let f = finds-cal _ _ _ _ c.record_of-found.ensures _ c.in-Cal.is in omega (arith, f.1)

@@ -56,7 +56,7 @@ Kept from room xs cells = length xs ≤ room → section from (length xs) cells 
 pub record Keeps (rs cs ws : List ℕ) (hs : ℕ → List ℕ) (bs cells : List ℕ) : Type 0 where
   pub capacities : Kept capacities_at most_rooms rs cells
   pub calendars : Kept calendars_at most_tasks cs cells
-  pub work-times : Kept work_times_at most_tasks ws cells
+  pub work_times : Kept work_times_at most_tasks ws cells
   pub heights : (room : ℕ) → room < length rs → Kept (room_at room) most_tasks (hs room) cells
   pub boxes : Kept boxes_at most_bounds bs cells
 
@@ -98,16 +98,16 @@ pub record Holds (r : Read) (s : Scan) (n : ℕ) (symbols cells : List ℕ) : Ty
   pub rooms : s.rooms ≡ length r.capacities
   pub calendars : s.calendars ≡ length r.calendars
   pub even : s.even ≡ all_of r.hours r.calendars
-  pub symbol-count : s.symbols ≡ length (joined r.calendars)
+  pub symbol_count : s.symbols ≡ length (joined r.calendars)
   pub tasks : s.tasks ≡ length r.tasks
   pub few : counted s ≤ n
-  pub kept-symbols : Kept 0 most_symbols (joined r.calendars) symbols
-  pub kept-tasks : KeepsTasks r.hours r.capacities r.tasks cells
+  pub kept_symbols : Kept 0 most_symbols (joined r.calendars) symbols
+  pub kept_tasks : KeepsTasks r.hours r.capacities r.tasks cells
 
 -- memory of the sizes above
 pub record Sized (symbols cells : List ℕ) : Type 0 where
-  pub of-symbols : length symbols ≡ most_symbols
-  pub of-cells : length cells ≡ store_size
+  pub of_symbols : length symbols ≡ most_symbols
+  pub of_cells : length cells ≡ store_size
 
 -- what has been read with another line, if the line keeps to the rules
 unfoldable pub Follows : Option Read → MaybeScan → ℕ → List ℕ → List ℕ → Type 0

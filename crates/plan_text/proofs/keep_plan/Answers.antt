@@ -15,17 +15,17 @@ slice_bounds-store_plan-end c =
     let text = c.requires.0 in
     let few = read-passed text.held (sym (ap tested_fault c.in-Passed.is) ∙ c.test_read-tested.ensures text.text text.held) in
     sym (length-take-le c.args.scan.symbols c.args.symbols.now
-    (omega (arith, text.sized.of-symbols, few.symbols-few)))
+    (omega (arith, text.sized.of_symbols, few.symbols_few)))
 
 pub store_plan-requires : goal.store_plan-requires
 store_plan-requires c =
     let text = c.requires.0 in
     let few = read-passed text.held (sym (ap tested_fault c.in-Passed.is) ∙ c.test_read-tested.ensures text.text text.held) in
-    let size = length-take-le c.args.scan.symbols c.args.symbols.now (omega (arith, text.sized.of-symbols, few.symbols-few)) in (
-      few.rooms-few,
-      few.tasks-few,
-      text.sized.of-cells,
-      omega (arith, size, few.symbols-few),
+    let size = length-take-le c.args.scan.symbols c.args.symbols.now (omega (arith, text.sized.of_symbols, few.symbols_few)) in (
+      few.rooms_few,
+      few.tasks_few,
+      text.sized.of_cells,
+      omega (arith, size, few.symbols_few),
       c.requires.2,
       sym (c.is_enough.ensures _ _ _ _ _ _ refl refl refl refl refl refl) ∙ c.if-not-is_enough.false,
     )

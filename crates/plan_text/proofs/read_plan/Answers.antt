@@ -12,7 +12,7 @@ slice_bounds-gathered-end c =
 pub keep_plan-requires : goal.keep_plan-requires
 keep_plan-requires c =
     let (r, e, held) = scans-whole _ _ _ _ _ c.in-Whole.is c.read_text-scanned.ensures in (
-      record { text = r; held = held; sized = record { of-symbols = c.read_text-scanned.auto.symbols; of-cells = c.read_text-scanned.auto.cells } },
+      record { text = r; held = held; sized = record { of_symbols = c.read_text-scanned.auto.symbols; of_cells = c.read_text-scanned.auto.cells } },
       c.gather_heights-count.ensures.1,
       omega (
         arith,

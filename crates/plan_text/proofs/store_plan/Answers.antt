@@ -8,8 +8,8 @@ store_shifts-requires c =
       c.requires.1,
       c.requires.2,
       omega (arith, c.requires.3, room.calendars),
-      omega (arith, c.requires.1, room.task-calendars),
-      omega (arith, c.requires.1, room.work-times),
+      omega (arith, c.requires.1, room.task_calendars),
+      omega (arith, c.requires.1, room.work_times),
     )
 
 pub store_rooms-requires : goal.store_rooms-requires

@@ -19,7 +19,7 @@ pub slice_bounds-calendars-end : goal.slice_bounds-calendars-end
 slice_bounds-calendars-end c =
     let text = c.requires.0 in
     let pass = sym (ap tested_fault c.in-Passed.is) ∙ c.test_lines-lines.ensures text.text _ _ text.held in
-    sym (length-take-le c.args.scan.symbols c.args.symbols.now (omega (arith, text.sized.of-symbols, symbols-fit text.held pass)))
+    sym (length-take-le c.args.scan.symbols c.args.symbols.now (omega (arith, text.sized.of_symbols, symbols-fit text.held pass)))
 
 pub returns-then-not-is_count : goal.returns-then-not-is_count
 unfolding is_task_count
@@ -41,7 +41,7 @@ unfolding Gathered is_room_count is_task_count
 test_stored-requires c =
     let rooms = to-most 1 most_rooms _ (sym c.is_count-2.ensures ∙ c.if-not-is_count-2.false) in
     let few = leb-true _ _ (sym c.is_count.ensures ∙ c.if-not-is_count.false) in
-    (rooms, few, c.requires.0.sized.of-cells, c.requires.1 rooms few)
+    (rooms, few, c.requires.0.sized.of_cells, c.requires.1 rooms few)
 
 pub returns : goal.returns
 unfolding is_room_count is_task_count

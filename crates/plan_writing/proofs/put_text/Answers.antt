@@ -25,7 +25,7 @@ unfolding calendar_count
 put_calendars-middle-requires c =
     let a = c.args in
     let P = plan a.hours.0 a.capacities.now a.calendars.now a.task_calendars.now a.work_times.now a.heights.now in (
-      (input-passed P _ c.requires.0).some-hours,
+      (input-passed P _ c.requires.0).some_hours,
       ((input-passed P _ c.requires.0).calendars),
       omega (
         arith,

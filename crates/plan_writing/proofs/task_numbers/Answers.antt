@@ -6,7 +6,7 @@ use Rattle.plan_writing.proofs.task_numbers.Goals as goal
 
 pub height_numbers-first-requires : goal.height_numbers-first-requires
 height_numbers-first-requires c =
-    (c.requires.1, (sized _ _ _ _ _ c.requires.0).work-times, (sized _ _ _ _ _ c.requires.0).heights, c.requires.2)
+    (c.requires.1, (sized _ _ _ _ _ c.requires.0).work_times, (sized _ _ _ _ _ c.requires.0).heights, c.requires.2)
 
 pub bounds_at-requires : goal.bounds_at-requires
 bounds_at-requires c = omega (arith, c.requires.2, (sized _ _ _ _ _ c.requires.0).boxes)

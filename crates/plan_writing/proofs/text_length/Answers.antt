@@ -25,7 +25,7 @@ pub calendar_count-requires : goal.calendar_count-requires
 calendar_count-requires c =
     let a = c.args in
     let P = plan a.hours.0 a.capacities.now a.calendars.now a.task_calendars.now a.work_times.now a.heights.now in
-    (input-passed P _ c.requires).some-hours
+    (input-passed P _ c.requires).some_hours
 
 pub tasks_length-requires : goal.tasks_length-requires
 unfolding room_count task_count

@@ -11,7 +11,7 @@ use mathlib.Core.Option.{none}
 use Prim.Native.Nat.{ℕ}
 use Rattle.schedule.specs.Decision.{RightSize}
 use Rattle.schedule.proofs.Entry.{hours-are}
-use Rattle.schedule.proofs.Readiness.{InputPasses, room-tasks, triples-ready, rooms-ready}
+use Rattle.schedule.proofs.Readiness.{InputPasses, room-tasks, triples-ready, rooms_ready}
 use Rattle.schedule.proofs.test_schedule.Goals as goal
 
 -- a plan that passes, with memory of the right size, so that the schedule's tests decide
@@ -57,7 +57,7 @@ unfolding room_count task_count
 test_hours-requires c =
     let a = c.args in
     let P = plan a.hours a.capacities.now a.calendars.now a.task_calendars.now a.work_times.now a.heights.now in
-    rooms-ready
+    rooms_ready
     (passing P _ _ (sym c.is_right_size.ensures ∙ c.if-not-is_right_size.false) (sym c.in-Passed.ensures))
 
 pub returns : goal.returns

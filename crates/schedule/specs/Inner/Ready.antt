@@ -13,7 +13,7 @@ use Rattle.schedule.specs.Schedule.{triple_at, runs}
 pub record TriplesReady (S : Shifts) (bs σ : List ℕ) : Type 0 where
   pub hours : S.hours ≤ most_hours
   pub calendar : (i : ℕ) → i < length S.task_calendars → first_symbol S.hours (get_or S.task_calendars i 0) + S.hours ≤ length S.calendars
-  pub work-times : length S.work_times ≡ length S.task_calendars
+  pub work_times : length S.work_times ≡ length S.task_calendars
   pub boxes : length bs ≡ box_numbers * length S.task_calendars
   pub schedule : length σ ≡ triple_numbers * length S.task_calendars
 

@@ -31,8 +31,8 @@ part_steps p = steps_from p.kinds p.tasks p.hours 0 p.count
 -- its arrays are whole
 pub record Sized (p : Part) : Type 0 where
   pub all_kinds : length p.kinds ≡ part_size
-  pub all-tasks : length p.tasks ≡ part_size
-  pub all-hours : length p.hours ≡ part_size
+  pub all_tasks : length p.tasks ≡ part_size
+  pub all_hours : length p.hours ≡ part_size
 
 -- ---- the log checker
 

@@ -12,14 +12,14 @@ pub record RoomReady (heights : List ℕ) : Type 0 where
 
 -- the heights of so many tasks in so many rooms
 pub record RoomsReady (rooms tasks : ℕ) (heights : List ℕ) : Type 0 where
-  pub few-rooms : rooms ≤ most_rooms
-  pub few-tasks : tasks ≤ most_tasks
+  pub few_rooms : rooms ≤ most_rooms
+  pub few_tasks : tasks ≤ most_tasks
   pub each : length heights ≡ rooms * tasks
   pub room : (r : ℕ) → r < rooms → RoomReady (room_part tasks heights r)
 
 -- and their boxes
 pub record Ready (rooms tasks : ℕ) (heights boxes : List ℕ) : Type 0 where
-  pub rooms-ready : RoomsReady rooms tasks heights
+  pub rooms_ready : RoomsReady rooms tasks heights
   pub sized : length boxes ≡ box_numbers * tasks
   pub latest : (i : ℕ) → i < tasks → (bounds_at boxes i).latest.0 < most_hours
   pub shortest : (i : ℕ) → i < tasks → (bounds_at boxes i).shortest.0 ≤ most_hours

@@ -17,7 +17,6 @@ loop-i-preserved c = (
   simp length-set c.loop-i.invariant.2,
   filled_more _ c.loop-i.fits _
       c.loop-i.i _ c.loop-i.invariant.3 c.fit_of.ensures (omega arith),
-  -- RAW
 )
 
 pub returns : goal.returns

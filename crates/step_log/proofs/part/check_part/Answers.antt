@@ -6,10 +6,10 @@ pub slice_bounds-check_from-end : goal.slice_bounds-check_from-end
 slice_bounds-check_from-end c = lent_length _ c.requires.0 c.requires.1.all_kinds
 
 pub slice_bounds-check_from-end-2 : goal.slice_bounds-check_from-end-2
-slice_bounds-check_from-end-2 c = lent_length _ c.requires.0 c.requires.1.all-tasks
+slice_bounds-check_from-end-2 c = lent_length _ c.requires.0 c.requires.1.all_tasks
 
 pub slice_bounds-check_from-end-3 : goal.slice_bounds-check_from-end-3
-slice_bounds-check_from-end-3 c = lent_length _ c.requires.0 c.requires.1.all-hours
+slice_bounds-check_from-end-3 c = lent_length _ c.requires.0 c.requires.1.all_hours
 
 pub check_from-checked-requires : goal.check_from-checked-requires
 check_from-checked-requires c =

@@ -5,4 +5,4 @@ use Rattle.step_log.proofs.part.no_steps.Goals as goal
 
 pub returns : goal.returns
 unfolding part_steps steps_from
-returns c = (refl, refl, record { all_kinds = refl; all-tasks = refl; all-hours = refl })
+returns c = (refl, refl, record { all_kinds = refl; all_tasks = refl; all_hours = refl })

@@ -4,13 +4,13 @@ use Rattle.turns.proofs.Judging.{bound-never, bound-lower, bound-upper, sum_fits
 use Rattle.turns.proofs.judge.judge_bound.Goals as goal
 
 pub bounds-fits-i : goal.bounds-fits-i
-bounds-fits-i c = let pre = c.requires in omega (arith, pre.0.rooms-ready.few-tasks, pre.1)
+bounds-fits-i c = let pre = c.requires in omega (arith, pre.0.rooms_ready.few_tasks, pre.1)
 
 pub returns-in_default : goal.returns-in_default
 returns-in_default c hours = bound-never hours _ _ _ _ _ _ _ _ _ c.in_default.is refl
 
 pub has_excess-excess-requires : goal.has_excess-excess-requires
-has_excess-excess-requires c = let pre = c.requires in (pre.0.rooms-ready, pre.1)
+has_excess-excess-requires c = let pre = c.requires in (pre.0.rooms_ready, pre.1)
 
 pub bounds_at-b-requires : goal.bounds_at-b-requires
 bounds_at-b-requires c = let pre = c.requires in omega (arith, pre.0.sized, pre.1)

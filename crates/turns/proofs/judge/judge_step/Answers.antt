@@ -11,7 +11,7 @@ returns-then-not-is_step c = sym (by-none _ _ _ _ _ _ _ (sym c.is_step.ensures �
 pub bounds-fits-i : goal.bounds-fits-i
 bounds-fits-i c =
     let known = sym c.is_step.ensures ∙ c.if-not-is_step.false in
-    omega (arith, c.requires.0.rooms-ready.few-tasks, there-C _ _ _ _ _ _ known c.in-67.is)
+    omega (arith, c.requires.0.rooms_ready.few_tasks, there-C _ _ _ _ _ _ known c.in-67.is)
 
 pub bounds_at-requires : goal.bounds_at-requires
 bounds_at-requires c =
@@ -21,7 +21,7 @@ bounds_at-requires c =
 pub room_part-in_room-requires : goal.room_part-in_room-requires
 room_part-in_room-requires c =
     let there = there-O _ _ _ _ _ _ (sym c.is_step.ensures ∙ c.if-not-is_step.false) c.in-79.is in
-    room_in _ _ c.args.heights.now c.requires.0.rooms-ready.each _ there.0
+    room_in _ _ c.args.heights.now c.requires.0.rooms_ready.each _ there.0
 
 pub height_at-requires : goal.height_at-requires
 height_at-requires c = (there-O _ _ _ _ _ _ (sym c.is_step.ensures ∙ c.if-not-is_step.false) c.in-79.is).0
@@ -29,7 +29,7 @@ height_at-requires c = (there-O _ _ _ _ _ _ (sym c.is_step.ensures ∙ c.if-not-
 pub load_at-requires : goal.load_at-requires
 load_at-requires c =
     let there = there-O _ _ _ _ _ _ (sym c.is_step.ensures ∙ c.if-not-is_step.false) c.in-79.is in
-    rw c.room_part-in_room.ensures (c.requires.0.rooms-ready.room _ there.0)
+    rw c.room_part-in_room.ensures (c.requires.0.rooms_ready.room _ there.0)
 
 pub judge_bound-requires : goal.judge_bound-requires
 judge_bound-requires c =

@@ -7,12 +7,12 @@ use Rattle.turns.proofs.search.first_by_load.Goals as goal
 pub fill_loads-requires : goal.fill_loads-requires
 fill_loads-requires c =
     let pre = c.requires in
-    (pre.1, pre.2, pre.3, pre.0.rooms-ready)
+    (pre.1, pre.2, pre.3, pre.0.rooms_ready)
 
 pub first_overload-overload-requires : goal.first_overload-overload-requires
 first_overload-overload-requires c =
     let pre = c.requires in
-    (pre.1, pre.0.rooms-ready.few-rooms, c.fill_loads.ensures.1.each)
+    (pre.1, pre.0.rooms_ready.few_rooms, c.fill_loads.ensures.1.each)
 
 pub returns-in_default : goal.returns-in_default
 returns-in_default c =

@@ -15,7 +15,7 @@ unfolding first_of
 outer-init c = (omega arith, refl, refl)
 
 pub bounds-fits-i : goal.bounds-fits-i
-bounds-fits-i c = omega (arith, c.requires.0.rooms-ready.few-tasks, c.outer-test.true)
+bounds-fits-i c = omega (arith, c.requires.0.rooms_ready.few_tasks, c.outer-test.true)
 
 pub outer-preserved-in_default : goal.outer-preserved-in_default
 outer-preserved-in_default c =
@@ -43,11 +43,11 @@ pub is_crowded-requires : goal.is_crowded-requires
 is_crowded-requires c =
     let pre = c.requires in
     let before-end = before _ _ c.is_before.ensures c.loop-w-test.true in
-    (pre.0.rooms-ready, (_, pre.1), pre.2, c.outer-test.true, omega (arith, c.clipped-end.ensures, before-end))
+    (pre.0.rooms_ready, (_, pre.1), pre.2, c.outer-test.true, omega (arith, c.clipped-end.ensures, before-end))
 
 pub overflow_cast-found : goal.overflow_cast-found
 overflow_cast-found c =
-    omega (arith, c.requires.0.rooms-ready.few-tasks, c.outer-test.true)
+    omega (arith, c.requires.0.rooms_ready.few_tasks, c.outer-test.true)
 
 pub plus-t-requires : goal.plus-t-requires
 plus-t-requires c =

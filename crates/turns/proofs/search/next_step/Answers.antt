@@ -10,7 +10,7 @@ use Rattle.turns.proofs.Loading.{lent_length, lent-zero}
 use Rattle.turns.proofs.search.next_step.Goals as goal
 
 pub first_calendar-calendar-requires : goal.first_calendar-calendar-requires
-first_calendar-calendar-requires c = let ready = c.requires.0 in (ready.rooms-ready.few-tasks, ready.sized)
+first_calendar-calendar-requires c = let ready = c.requires.0 in (ready.rooms_ready.few_tasks, ready.sized)
 
 pub returns-in_default : goal.returns-in_default
 returns-in_default c =
@@ -19,7 +19,7 @@ returns-in_default c =
     (ap found_step c.in_default.is)
 
 pub overflow_mul-count : goal.overflow_mul-count
-overflow_mul-count c = omega (arith, mul-le-mul c.requires.0.rooms-ready.few-rooms c.requires.1)
+overflow_mul-count c = omega (arith, mul-le-mul c.requires.0.rooms_ready.few_rooms c.requires.1)
 
 pub slice_bounds-loads-end : goal.slice_bounds-loads-end
 slice_bounds-loads-end c = c.if-count.true
@@ -41,15 +41,15 @@ returns-then-count c =
     c.first_by_load.ensures
 
 pub slice_bounds-loads-end-2 : goal.slice_bounds-loads-end-2
-slice_bounds-loads-end-2 c = mul-le-mul c.requires.0.rooms-ready.few-rooms c.requires.1
+slice_bounds-loads-end-2 c = mul-le-mul c.requires.0.rooms_ready.few_rooms c.requires.1
 
 pub slice_bounds-first_by_load-end-2 : goal.slice_bounds-first_by_load-end-2
-slice_bounds-first_by_load-end-2 c = lent_length (most_rooms * most_hours) _ (mul-le-mul c.requires.0.rooms-ready.few-rooms c.requires.1)
+slice_bounds-first_by_load-end-2 c = lent_length (most_rooms * most_hours) _ (mul-le-mul c.requires.0.rooms_ready.few_rooms c.requires.1)
 
 pub first_by_load-requires-2 : goal.first_by_load-requires-2
 first_by_load-requires-2 c =
     let pre = c.requires in
-    let at = mul-le-mul pre.0.rooms-ready.few-rooms pre.1 in
+    let at = mul-le-mul pre.0.rooms_ready.few_rooms pre.1 in
     let all = lent_length (most_rooms * most_hours) (length c.args.capacities.now * c.args.hours.0) at in
     (pre.0, pre.1, omega (arith, all), lent-zero (most_rooms * most_hours) _ at)
 

@@ -10,7 +10,7 @@ unfolding room_count task_count
 returns-in_default c =
     let found = c.next_step-found.ensures in
     record {
-      by_index = λ calendars task_calendars work_times n k. turn-settles _ _ _ k _ (rw n at found) (ap found_step c.in_default.is);
+      answer = λ calendars task_calendars work_times n k. turn-settles _ _ _ k _ (rw n at found) (ap found_step c.in_default.is);
       there = λ x i b e. never-moves e;
     }
 
@@ -19,7 +19,7 @@ unfolding room_count task_count
 returns c =
     let found = c.next_step-found.ensures in
     record {
-      by_index = λ calendars task_calendars work_times n k.
+      answer = λ calendars task_calendars work_times n k.
           turn-found _ _ _ k _ (rw n at found) _ _ (ap found_step c.in-At.is) (rw n at c.judge_step-judged.ensures);
       there = λ x i b e. moved-there _ _ _ _ _ _ _ _ i b c.judge_step-judged.ensures (judged-of e);
     }
