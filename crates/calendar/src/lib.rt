@@ -71,6 +71,7 @@ pub enum RuleAnswer {
 }
 
 // How many of the first and the last of the e hours from s on are overtime hours; where they are one hour, it counts once.
+#[tactic(auto, unfolding(crate::specs::Valid::overtime_ends))]
 fn overtime_ends(calendar: &[u8], s: usize, e: u16) -> u16
     requires { (1 ≤ e) × (s + e ≤ length calendar.now) }
     ensures { result ≡ overtime_ends calendar.now s e }
