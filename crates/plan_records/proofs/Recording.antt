@@ -115,7 +115,8 @@ module _ (bytes : List ℕ) where
   unfolding record_of by_word
   record-one h =
       rw (parts_last tab bytes h)
-      (if-all (λ (o : Option Record). o ≡ none) (same bytes word_plan) (plan_of []) (if same bytes word_cal then cal_of [] else (if same bytes word_task then task_of [] else none))
+      (if-all (λ (o : Option Record). o ≡ none) (same bytes word_plan) (plan_of [])
+      (if same bytes word_cal then cal_of [] else (if same bytes word_task then task_of [] else none))
       (λ e. plan-bare)
       (λ e. if-all (λ (o : Option Record). o ≡ none) (same bytes word_cal) (cal_of []) (if same bytes word_task then task_of [] else none)
       (λ e. cal-bare)

@@ -14,7 +14,8 @@ use Rattle.plan.proofs.Passed.{room_in, room-length}
 use Rattle.input.proofs.test_heights.Goals as goal
 
 -- the height of task i, in the room's list that the code holds
-in-room : {b : Bool} {h : Height} {l m : List ℕ} (i : ℕ) → l ≡ m → h ≡ height (get_or l i 0) → is_height h.0 ≡ b → is_height (get_or m i 0) ≡ b
+in-room : {b : Bool} {h : Height} {l m : List ℕ} (i : ℕ) → l ≡ m → h ≡ height (get_or l i 0) → is_height h.0 ≡ b
+    → is_height (get_or m i 0) ≡ b
 in-room i e f q = rw (← e) (sym (ap (λ (x : Height). is_height x.0) f) ∙ q)
 
 pub room_part-requires : goal.room_part-requires

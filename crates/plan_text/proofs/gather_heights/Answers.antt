@@ -22,7 +22,8 @@ pub loop-room-preserved : goal.loop-room-preserved
 loop-room-preserved c = (
   omega arith,
   c.put_cells-end.auto.out ∙ c.loop-room.invariant.1,
-  gathered-more _ _ _ _ _ _ _ c.loop-room.invariant.2 c.if-tasks-gt-MOST.false (omega (arith, c.loop-room.invariant.2.few)) (omega arith) c.put_cells-end.ensures,
+  gathered-more _ _ _ _ _ _ _ c.loop-room.invariant.2 c.if-tasks-gt-MOST.false (omega (arith, c.loop-room.invariant.2.few)) (omega arith)
+      c.put_cells-end.ensures,
 )
 
 pub loop-room-init : goal.loop-room-init

@@ -8,7 +8,9 @@ use Rattle.plan_text.proofs.Entry.{passed}
 use Rattle.plan_text.proofs.keep_plan.Goals as goal
 
 pub returns-then-not-is_enough : goal.returns-then-not-is_enough
-returns-then-not-is_enough c = λ r held. too_small _ _ _ _ _ _ r (sym (c.is_enough.ensures _ _ _ _ _ _ refl refl refl refl refl refl) ∙ c.if-not-is_enough.true)
+returns-then-not-is_enough c =
+    let small = sym (c.is_enough.ensures _ _ _ _ _ _ refl refl refl refl refl refl) ∙ c.if-not-is_enough.true in
+    λ r held. too_small _ _ _ _ _ _ r small
 
 pub slice_bounds-store_plan-end : goal.slice_bounds-store_plan-end
 slice_bounds-store_plan-end c =

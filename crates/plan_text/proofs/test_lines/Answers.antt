@@ -1,6 +1,5 @@
-use mathlib.Core.Path.{sym, ap, ◌∙◌}
+use mathlib.Core.Path.{sym, ◌∙◌}
 use borrow.Author.Tests.{not-true, not-false}
-use Rattle.units.specs.Limits.{duration_made}
 use Rattle.units.proofs.Choices.{if_none, if_some}
 use Rattle.plan_text.proofs.Judging.{no-hours, no-calendars, uneven, lines-pass}
 use Rattle.plan_text.proofs.test_lines.Goals as goal

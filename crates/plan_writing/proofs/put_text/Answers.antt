@@ -62,8 +62,9 @@ unfolding room_count task_count
 returns c =
     let a = c.args in
     let P = plan a.hours.0 a.capacities.now a.calendars.now a.task_calendars.now a.work_times.now a.heights.now in
+    let first = rw (ap (line_of word_plan) c.plan_numbers-numbers.ensures) at c.put_line-first.ensures in
     rw (plan-text P a.boxes.now)
-    (put_both (omega arith) (put_both (omega arith) (rw (ap (line_of word_plan) c.plan_numbers-numbers.ensures) at c.put_line-first.ensures) c.put_calendars-middle.ensures) c.put_tasks.ensures)
+    (put_both (omega arith) (put_both (omega arith) first c.put_calendars-middle.ensures) c.put_tasks.ensures)
 
 pub plan_numbers-numbers-requires : goal.plan_numbers-numbers-requires
 unfolding room_count

@@ -1,5 +1,4 @@
-use mathlib.Core.Path.{sym, ap, ◌∙◌}
-use Rattle.plan.specs.Refusals.{tested_fault}
+use mathlib.Core.Path.{sym}
 use Rattle.plan_format.proofs.Writings.{writes-refused}
 use Rattle.plan_format.proofs.Again.{writes-hold}
 use Rattle.plan_writing.proofs.write_plan.Goals as goal

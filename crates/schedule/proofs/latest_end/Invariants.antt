@@ -1,5 +1,5 @@
 use mathlib.Core.Path.{◌≡◌}
-use Prim.Native.Nat.{◌-◌, ◌≤◌}
+use Prim.Native.Nat.{◌≤◌}
 use Rattle.units.specs.Sums.{max_to}
 use Rattle.calendar.specs.Triples.{end_of}
 use Rattle.schedule.specs.Schedule.{triple_at}
@@ -7,6 +7,3 @@ use Rattle.schedule.proofs.latest_end.Given as goal
 
 abbrev pub invariant-loop-i : goal.invariant-loop-i
 invariant-loop-i l = (l.i ≤ l.tasks) × (l.latest.0 ≡ max_to (λ j. end_of (triple_at l.schedule j)) l.i)
-
-abbrev pub decreases-loop-i : goal.decreases-loop-i
-decreases-loop-i l = l.tasks - l.i

@@ -5,7 +5,9 @@ use Rattle.step_log.proofs.Checking.{Going}
 use Rattle.step_log.proofs.check_log.Given as goal
 
 abbrev pub invariant-loop-checked : goal.invariant-loop-checked
-invariant-loop-checked l = Going (plan l.hours l.capacities l.calendars l.task_calendars l.work_times l.heights) l.initial.boxes l.log l.from l.said l.boxes
+invariant-loop-checked l =
+    Going (plan l.hours l.capacities l.calendars l.task_calendars l.work_times l.heights)
+    l.initial.boxes l.log l.from l.said l.boxes
 
 abbrev pub decreases-loop-checked : goal.decreases-loop-checked
 decreases-loop-checked l = length l.log - l.from

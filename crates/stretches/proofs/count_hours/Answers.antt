@@ -1,10 +1,9 @@
-use mathlib.Core.Path.{◌≡◌, refl, ap, ◌∙◌}
-use Prim.Native.Nat.{◌-◌, ◌≤◌}
+use mathlib.Core.Path.{refl, ap, ◌∙◌}
 use native.Mathlib.Omega.{arith}
 use borrow.Author.Rules.{rules}
 use Rattle.units.specs.Sums.{sum_to, count_where}
 use Rattle.plan.specs.HourKinds.{hours_of}
-use Rattle.stretches.specs.Inner.Stretches.{Inside, counts_of}
+use Rattle.stretches.specs.Inner.Stretches.{counts_of}
 use Rattle.stretches.proofs.Counting.{regulars-le, overtimes-le, counts-more}
 use Rattle.stretches.proofs.count_hours.Goals as goal
 

@@ -35,7 +35,8 @@ slice_bounds-symbols-end c =
 pub slice_bounds-list_plan-end-in-Read : goal.slice_bounds-list_plan-end-in-Read
 unfolding read_end zeros
 slice_bounds-list_plan-end-in-Read c =
-    part_length _ _ most_symbols c.read_plan-reading.auto.calendars (omega (arith, c.first_symbol-all.ensures, (text-holds _ _ _ _ _ _ _ _ c.in-Read.ensures).symbols))
+    part_length _ _ most_symbols c.read_plan-reading.auto.calendars
+    (omega (arith, c.first_symbol-all.ensures, (text-holds _ _ _ _ _ _ _ _ c.in-Read.ensures).symbols))
 
 pub slice_bounds-task_calendars-end : goal.slice_bounds-task_calendars-end
 unfolding read_end zeros

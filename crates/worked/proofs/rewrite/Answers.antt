@@ -5,7 +5,8 @@ use Rattle.plan_format.proofs.Holding.{Holds, read-holds}
 use Rattle.worked.proofs.rewrite.Goals as goal
 
 -- a plan that was read is within its limits
-limits : (rs cs ts ws ks bs text : List ℕ) {a : PlanRead} {rs' cs' ts' ws' ks' bs' : List ℕ} → end_with (answered a) rs' cs' ts' ws' ks' bs' ≡ read_plan rs cs ts ws ks bs text → Holds a
+limits : (rs cs ts ws ks bs text : List ℕ) {a : PlanRead} {rs' cs' ts' ws' ks' bs' : List ℕ}
+    → end_with (answered a) rs' cs' ts' ws' ks' bs' ≡ read_plan rs cs ts ws ks bs text → Holds a
 limits rs cs ts ws ks bs text e = read-holds _ _ _ _ _ _ _ _ (ap (λ (x : ReadEnd). x.answer) e)
 
 taken : (xs : List ℕ) {n m : ℕ} → length xs ≡ m → n ≤ m → n ≡ length (take n xs)

@@ -1,5 +1,4 @@
-use mathlib.Core.Path.{sym, ap, ◌∙◌}
-use Rattle.plan.specs.Refusals.{tested_fault}
+use mathlib.Core.Path.{sym}
 use Rattle.steps.proofs.Entry.{passes, filter-refuses, filter_runs}
 use Rattle.propagation.proofs.filter.filter_from.Goals as goal
 

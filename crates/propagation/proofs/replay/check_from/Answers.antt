@@ -1,5 +1,4 @@
-use mathlib.Core.Path.{sym, ap, ◌∙◌}
-use Rattle.plan.specs.Refusals.{tested_fault}
+use mathlib.Core.Path.{sym}
 use Rattle.steps.proofs.Entry.{passes, from-refuses, from-replays}
 use Rattle.propagation.proofs.replay.check_from.Goals as goal
 

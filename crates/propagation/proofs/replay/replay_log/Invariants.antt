@@ -6,4 +6,8 @@ use Rattle.propagation.proofs.Replaying.{Replaying}
 use Rattle.propagation.proofs.replay.replay_log.Given as goal
 
 abbrev pub invariant-loop-k : goal.invariant-loop-k
-invariant-loop-k l = (l.k ≤ l.k-end) × (l.k-end ≡ length l.log_kinds) × Replaying (plan l.hours.0 l.capacities l.calendars l.task_calendars l.work_times l.heights) l.from l.said l.initial.boxes l.log_kinds l.log_tasks l.log_hours l.k l.impossible l.boxes l.fits
+invariant-loop-k l =
+    (l.k ≤ l.k-end)
+    × (l.k-end ≡ length l.log_kinds)
+    × Replaying (plan l.hours.0 l.capacities l.calendars l.task_calendars l.work_times l.heights) l.from l.said l.initial.boxes
+    l.log_kinds l.log_tasks l.log_hours l.k l.impossible l.boxes l.fits

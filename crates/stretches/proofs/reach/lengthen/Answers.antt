@@ -1,8 +1,6 @@
-use mathlib.Core.Path.{◌≡◌, refl, sym, ap, ◌∙◌}
-use Prim.Native.Nat.{◌-◌}
+use mathlib.Core.Path.{refl, sym, ap, ◌∙◌}
 use native.Mathlib.Omega.{arith}
-use borrow.Author.Rules.{rules}
-use Rattle.stretches.specs.Inner.Stretches.{IsStretch, stretch_of, stops_at, lengthened}
+use Rattle.stretches.specs.Inner.Stretches.{stretch_of, lengthened}
 use Rattle.stretches.proofs.Stretches.{own-hours, own-stretch, long-end, long-hit, long-miss}
 use Rattle.stretches.proofs.reach.lengthen.Goals as goal
 

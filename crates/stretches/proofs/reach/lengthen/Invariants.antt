@@ -1,9 +1,6 @@
-use mathlib.Core.Path.{◌≡◌, refl, sym, ap, ◌∙◌}
+use mathlib.Core.Path.{◌≡◌}
 use Prim.Native.Nat.{◌-◌}
-use native.Mathlib.Omega.{arith}
-use borrow.Author.Rules.{rules}
-use Rattle.stretches.specs.Inner.Stretches.{IsStretch, stretch_of, stops_at, lengthened}
-use Rattle.stretches.proofs.Stretches.{own-hours, own-stretch, long-end, long-hit, long-miss}
+use Rattle.stretches.specs.Inner.Stretches.{IsStretch, stops_at, lengthened}
 use Rattle.stretches.proofs.reach.lengthen.Given as goal
 
 -- what is found is a stretch from s on, and is lengthened to where the stretch lent is

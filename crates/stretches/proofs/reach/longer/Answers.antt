@@ -1,5 +1,4 @@
 use Rattle.stretches.proofs.Stretches.{counts-below, stretch-next}
-use borrow.Author.Rules.{rules}
 use Rattle.stretches.proofs.reach.longer.Goals as goal
 
 pub with_hour-requires : goal.with_hour-requires

@@ -4,7 +4,6 @@ use borrow.Author.Tests.{lt-leb, ne_eqb}
 use Rattle.units.proofs.Choices.{not_left, not_right}
 use Rattle.stretches.specs.Inner.Stretches.{may_end}
 use Rattle.stretches.proofs.Stretches.{ends-may, ends-by-most}
-use borrow.Author.Rules.{rules}
 use Rattle.stretches.proofs.reach.may_end.Goals as goal
 
 pub returns-then-a-b : goal.returns-then-a-b

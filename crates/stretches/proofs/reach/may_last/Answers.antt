@@ -1,9 +1,6 @@
-use mathlib.Core.Path.{◌≡◌, sym}
-use Prim.Native.Nat.{◌+◌}
+use mathlib.Core.Path.{sym}
 use native.Mathlib.Omega.{arith}
-use Rattle.plan.specs.HourKinds.{regular, hours_of}
 use Rattle.stretches.proofs.Stretches.{has_first, counts-below, work-next, work-le, too_long, too-worked, first-works, ends-work}
-use borrow.Author.Rules.{rules}
 use Rattle.stretches.proofs.reach.may_last.Goals as goal
 
 pub returns-then-b-a : goal.returns-then-b-a

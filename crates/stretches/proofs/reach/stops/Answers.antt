@@ -1,7 +1,6 @@
 use mathlib.Core.Path.{ap, ◌∙◌}
 use mathlib.Core.Bool.{not}
 use Rattle.stretches.proofs.Stretches.{counts-small, stops-at-end, stops-longer}
-use borrow.Author.Rules.{rules}
 use Rattle.stretches.proofs.reach.stops.Goals as goal
 
 pub returns-then-shortest : goal.returns-then-shortest

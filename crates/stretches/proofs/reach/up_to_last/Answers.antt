@@ -1,6 +1,5 @@
 use mathlib.Core.Path.{sym}
 use Rattle.units.proofs.Choices.{if-true, if-false}
-use borrow.Author.Rules.{rules}
 use Rattle.stretches.proofs.reach.up_to_last.Goals as goal
 
 pub returns-then-holds : goal.returns-then-holds

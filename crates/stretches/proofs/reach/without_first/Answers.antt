@@ -1,5 +1,4 @@
 use Rattle.stretches.proofs.Stretches.{no-rest, has_first, stretch-rest}
-use borrow.Author.Rules.{rules}
 use Rattle.stretches.proofs.reach.without_first.Goals as goal
 
 pub returns-then-a-lt1 : goal.returns-then-a-lt1

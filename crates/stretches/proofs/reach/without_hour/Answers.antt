@@ -1,6 +1,5 @@
 use mathlib.Core.Path.{ap}
 use Prim.Native.Nat.{◌-◌}
-use borrow.Author.Rules.{rules}
 use Rattle.stretches.proofs.reach.without_hour.Goals as goal
 
 pub returns : goal.returns

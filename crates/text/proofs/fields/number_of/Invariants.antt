@@ -5,4 +5,8 @@ use Rattle.text.specs.Numbers.{is_digits, decimal, most_number}
 use Rattle.text.proofs.fields.number_of.Given as goal
 
 abbrev pub invariant-loop-i : goal.invariant-loop-i
-invariant-loop-i l = (l.i ≤ length l.field) × (l.number ≤ most_number) × (is_digits (drop l.i l.field) ≡ is_digits l.field) × (decimal l.number (drop l.i l.field) ≡ decimal 0 l.field)
+invariant-loop-i l =
+    (l.i ≤ length l.field)
+    × (l.number ≤ most_number)
+    × (is_digits (drop l.i l.field) ≡ is_digits l.field)
+    × (decimal l.number (drop l.i l.field) ≡ decimal 0 l.field)

@@ -1,7 +1,7 @@
-use mathlib.Core.Path.{refl, sym, ap, ◌∙◌}
+use mathlib.Core.Path.{refl, sym, ◌∙◌}
 use native.Mathlib.Omega.{arith}
 use Rattle.text.specs.Fields.{tab}
-use Rattle.text.specs.Reading.{number_made, NumbersMade}
+use Rattle.text.specs.Reading.{NumbersMade}
 use Rattle.text.proofs.Parts.{part_length}
 use Rattle.text.proofs.Gathering.{gathered_none, gathered-not, gathered-few, gathered-last, gathered-more}
 use Rattle.text.proofs.fields.numbers_of.Goals as goal

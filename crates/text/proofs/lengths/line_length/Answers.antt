@@ -17,7 +17,8 @@ overflow_add-bytes-in-loop-i-2 c =
 pub loop-i-preserved : goal.loop-i-preserved
 loop-i-preserved c =
     let longer = fields-longer c.args.numbers.now c.loop-i.i c.loop-i-test.true in
-    (omega arith, omega (arith, c.loop-i.invariant.1, longer, c.decimal_length.ensures.0), omega (arith, c.loop-i.invariant.2, c.decimal_length.ensures.1))
+    let digits = c.decimal_length.ensures in
+    (omega arith, omega (arith, c.loop-i.invariant.1, longer, digits.0), omega (arith, c.loop-i.invariant.2, digits.1))
 
 pub returns : goal.returns
 returns c =

@@ -6,4 +6,7 @@ use Rattle.text.specs.Putting.{Put}
 use Rattle.text.proofs.put.put_fields.Given as goal
 
 abbrev pub invariant-loop-i : goal.invariant-loop-i
-invariant-loop-i l = (l.i ≤ length l.numbers) × (length l.out ≡ length l.initial.out) × (Put (number_fields (take l.i l.numbers)) l.at l.initial.out l.end l.out)
+invariant-loop-i l =
+    (l.i ≤ length l.numbers)
+    × (length l.out ≡ length l.initial.out)
+    × (Put (number_fields (take l.i l.numbers)) l.at l.initial.out l.end l.out)

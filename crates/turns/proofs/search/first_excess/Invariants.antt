@@ -18,6 +18,3 @@ abbrev pub invariant-outer : goal.invariant-outer
 invariant-outer l = (l.i ≤ l.tasks)
     × (l.found ≡ Nothing)
     × (first_of (of_task l.hours l.tasks l.capacities l.heights l.boxes l.fits l.lower) l.i ≡ none)
-
-abbrev pub decreases-outer : goal.decreases-outer
-decreases-outer l = l.tasks - l.i
