@@ -1,7 +1,7 @@
 -- Laws of the calendar rule's own tests: what each outcome of the plan's tests makes of the answer. Assumes nothing.
 use mathlib.Core.Path.{◌≡◌, refl, ◌∙◌}
 use mathlib.Core.Bool.{true, false}
-use mathlib.Core.Option.{none, some}
+use Rattle.std.specs.Prelude.{None, Some}
 use mathlib.Core.List.{List, [], ◌∷◌}
 use Prim.Native.Nat.{ℕ}
 use native.Mathlib.Omega.{arith}
@@ -35,11 +35,11 @@ module _ (cal : List ℕ) (p : ℕ) (b : Bounds) where
   unfolding one_task
   one-test h e = rw (← e)
 
-  pub refused-by : (f : Fault) → input_fault (one_task cal p) (box_cells b) ≡ some f → calendar_rule cal p b ≡ refused f
+  pub refused-by : (f : Fault) → input_fault (one_task cal p) (box_cells b) ≡ Some f → calendar_rule cal p b ≡ refused f
   unfolding calendar_rule answer_unless
   refused-by f e = rw e
 
-  pub answered-by : input_fault (one_task cal p) (box_cells b) ≡ none → calendar_rule cal p b ≡ answered (witnessed_rule cal p b)
+  pub answered-by : input_fault (one_task cal p) (box_cells b) ≡ None → calendar_rule cal p b ≡ answered (witnessed_rule cal p b)
   unfolding calendar_rule answer_unless
   answered-by e = rw e
 
@@ -51,7 +51,7 @@ module _ (cal : List ℕ) (p : ℕ) (b : Bounds) where
       (else-none _ _ (unless-true _ 31 0 one_each) ∙ else-some _ _ _ (else-some _ _ _ (unless-false _ 2 0 e))))
 
   -- what the core asks
-  pub ready : input_fault (one_task cal p) (box_cells b) ≡ none → RuleReady cal b
+  pub ready : input_fault (one_task cal p) (box_cells b) ≡ None → RuleReady cal b
   unfolding input_fault one_task bounds_at
   ready e =
       let faults = neither _ _ e in

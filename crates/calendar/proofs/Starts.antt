@@ -431,8 +431,8 @@ module _ {cal : List ℕ} {p : ℕ} {b : Bounds} {s : ℕ} {shortest longest : S
     up_to e l u (yes h) = c.lasts e l h
     up_to e l u (no h) =
         let q : e - 1 + 1 ≡ e = omega arith in
-        let none = long-none cal s (stops_at cal p b s false) longest.hours.0 (e - 1) (omega arith) (omega (arith, long-hours)) in
-        rw q at (at-stop-longest cal p b s (e - 1) false none)
+        let None = long-none cal s (stops_at cal p b s false) longest.hours.0 (e - 1) (omega arith) (omega (arith, long-hours)) in
+        rw q at (at-stop-longest cal p b s (e - 1) false None)
 
     past : (e : ℕ) → long.hours.0 < e → s + e ≤ length cal → may_last cal p b s e ≡ false
     past e l u =

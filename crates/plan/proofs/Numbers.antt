@@ -1,7 +1,7 @@
 -- No refusal of a plan's tests has the number of a step's: 11, 12 or 13. Assumes nothing.
 use mathlib.Core.Path.{◌≡◌, sym, ap, ◌∙◌, subst}
 use mathlib.Core.Bool.{Bool}
-use mathlib.Core.Option.{Option, some}
+use Rattle.std.specs.Prelude.{Option, Some}
 use mathlib.Core.List.{List}
 use Prim.Native.Nat.{ℕ, ◌≤◌}
 use native.Mathlib.Omega.{arith}
@@ -17,7 +17,7 @@ OfSteps n = (11 ≤ n) × (n ≤ 13)
 
 -- each fault that is found has another number
 pub record OfInput (o : Option Fault) : Type 0 where
-  pub other : {f : Fault} → o ≡ some f → OfSteps f.number → ⊥
+  pub other : {f : Fault} → o ≡ Some f → OfSteps f.number → ⊥
 
 pub by-unless : (test : Bool) (n place : ℕ) → (OfSteps n → ⊥) → OfInput (unless test n place)
 unfolding unless

@@ -1,7 +1,7 @@
 -- What each group of the plan's tests gives once it finds no fault, and so what a plan that passes has. Assumes nothing.
 use mathlib.Core.Path.{◌≡◌, ◌∙◌}
 use mathlib.Core.Bool.{true}
-use mathlib.Core.Option.{none}
+use Rattle.std.specs.Prelude.{None}
 use mathlib.Core.List.{List}
 use Prim.Native.Nat.{ℕ, ◌+◌, ◌*◌, ◌/◌, ◌%◌, ◌≤◌, ◌<◌}
 use native.Mathlib.Nat.{div-add-mod'}
@@ -10,7 +10,7 @@ use lib.ListN.{length, get_or, drop, length-take, length-drop}
 use lib.Seq.{get_or-take, get_or-drop}
 use borrow.Author.Tests.{eqb-true, leb-true, ltb-true}
 use Rattle.units.specs.Limits.{most_hours, most_calendars, most_rooms, most_tasks, most_capacity, box_numbers}
-use Rattle.units.specs.Limits.{within, is_plan_length, is_work_time, is_height, is_capacity, is_calendar_count, is_calendar_number, is_room_count, is_task_count}
+use Rattle.units.specs.Limits.{within}
 use Rattle.units.proofs.Choices.{and_left, and_right, else-none, neither, first-none, first-all-none}
 use Rattle.units.proofs.Multiples.{part-within}
 use Rattle.units.proofs.Ranges.{boxed, is-boxed, from-least, to-most}
@@ -47,8 +47,8 @@ pub record CalendarsPassed (hours : ℕ) (calendars : List ℕ) : Type 0 where
   pub whole : is_calendars hours calendars ≡ true
   pub symbols : (k : ℕ) → k < length calendars → is_symbol calendars k ≡ true
 
-pub calendars-passed : {hours : ℕ} {calendars : List ℕ} → calendars_fault hours calendars ≡ none → CalendarsPassed hours calendars
-unfolding calendars_fault symbol_fault is_plan_length
+pub calendars-passed : {hours : ℕ} {calendars : List ℕ} → calendars_fault hours calendars ≡ None → CalendarsPassed hours calendars
+unfolding calendars_fault symbol_fault
 calendars-passed e =
     let (two, rest) = neither _ _ e in
     let (three, four) = neither _ _ rest in
@@ -68,8 +68,8 @@ pub record CountsPassed (n : ℕ) (cs : List ℕ) : Type 0 where
   pub rooms : length cs ≤ most_rooms
   pub capacity : (r : ℕ) → r < length cs → get_or cs r 0 ≤ most_capacity
 
-pub counts-passed : {tasks : ℕ} {capacities : List ℕ} → counts_fault tasks capacities ≡ none → CountsPassed tasks capacities
-unfolding counts_fault capacity_fault is_task_count is_room_count is_capacity
+pub counts-passed : {tasks : ℕ} {capacities : List ℕ} → counts_fault tasks capacities ≡ None → CountsPassed tasks capacities
+unfolding counts_fault capacity_fault
 counts-passed e =
     let (five, rest) = neither _ _ e in
     let (seventeen, ten) = neither _ _ rest in
@@ -115,8 +115,8 @@ module _ (S : Shifts) (k : ℕ) (l : k < calendar_count S) where
   calendar-hours = simp (length-take, length-drop) (omega (arith, calendar-in))
 
 module _ (P : Plan) (boxes : List ℕ) where
-  passed-task : (i : ℕ) → task_fault P.shifts (room_count P) P.heights boxes i ≡ none → PassedTask P boxes i
-  unfolding task_fault one_task_fault height_fault calendar_of task_count heights_of height_of is_calendar_number is_work_time is_height
+  passed-task : (i : ℕ) → task_fault P.shifts (room_count P) P.heights boxes i ≡ None → PassedTask P boxes i
+  unfolding task_fault one_task_fault height_fault calendar_of task_count heights_of height_of
   passed-task i e =
       let (six, rest) = neither _ _ e in
       let (seven, rest) = neither _ _ rest in
@@ -136,7 +136,7 @@ module _ (P : Plan) (boxes : List ℕ) where
   -- ---- all
 
   count : is_calendars P.shifts.hours P.shifts.calendars ≡ true → within 1 most_calendars (calendar_count P.shifts) ≡ true
-  unfolding is_calendars is_calendar_count calendar_count
+  unfolding is_calendars calendar_count
   count e = and_right _ _ e
 
   joins : is_calendars P.shifts.hours P.shifts.calendars ≡ true
@@ -146,7 +146,7 @@ module _ (P : Plan) (boxes : List ℕ) where
       let even : length P.shifts.calendars % P.shifts.hours ≡ 0 = eqb-true _ _ (and_left _ _ e) in
       omega (arith, div-add-mod' (length P.shifts.calendars) P.shifts.hours)
 
-  pub passed : is_right_size P boxes ≡ true → plan_fault P boxes ≡ none → Passed P boxes
+  pub passed : is_right_size P boxes ≡ true → plan_fault P boxes ≡ None → Passed P boxes
   unfolding plan_fault tasks_fault room_count task_count capacity_of
   passed one e =
       let size = sized _ _ _ _ _ one in
@@ -171,11 +171,11 @@ module _ (P : Plan) (boxes : List ℕ) where
         task = λ i l. passed-task i (first-none _ _ tasks i l);
       }
 
-  pub input-sized : input_fault P boxes ≡ none → is_right_size P boxes ≡ true
+  pub input-sized : input_fault P boxes ≡ None → is_right_size P boxes ≡ true
   unfolding input_fault
   input-sized e = unless-none _ 31 0 (neither _ _ e).0
 
-  pub input-passed : input_fault P boxes ≡ none → Passed P boxes
+  pub input-passed : input_fault P boxes ≡ None → Passed P boxes
   unfolding input_fault
   input-passed e = passed (input-sized e) (neither _ _ e).1
 
@@ -188,8 +188,8 @@ module _ (P : Plan) (boxes : List ℕ) where
 
   -- only 31 and 9 read the boxes, so that a plan passes with others of which it has all that it has when it passes
   module _ (others : List ℕ) (again : Passed P others) (same : length others ≡ length boxes) where
-    task-again : (i : ℕ) → i < task_count P → task_fault P.shifts (room_count P) P.heights boxes i ≡ none
-        → task_fault P.shifts (room_count P) P.heights others i ≡ none
+    task-again : (i : ℕ) → i < task_count P → task_fault P.shifts (room_count P) P.heights boxes i ≡ None
+        → task_fault P.shifts (room_count P) P.heights others i ≡ None
     unfolding task_fault one_task_fault
     task-again i l e =
         let (six, rest) = neither _ _ e in
@@ -197,7 +197,7 @@ module _ (P : Plan) (boxes : List ℕ) where
         let (eight, nine) = neither _ _ rest in
         else-none _ _ six ∙ else-none _ _ seven ∙ else-none _ _ eight ∙ unless-true _ 9 i (is-boxed _ _ _ (again.task i l).box)
 
-    plan-again : plan_fault P boxes ≡ none → plan_fault P others ≡ none
+    plan-again : plan_fault P boxes ≡ None → plan_fault P others ≡ None
     unfolding plan_fault tasks_fault task_count
     plan-again e =
         let (calendars, rest) = neither _ _ e in
@@ -206,6 +206,6 @@ module _ (P : Plan) (boxes : List ℕ) where
         ∙ else-none _ _ counts
         ∙ first-all-none _ _ (λ i l. task-again i l (first-none _ _ tasks i l))
 
-    pub input-again : input_fault P boxes ≡ none → input_fault P others ≡ none
+    pub input-again : input_fault P boxes ≡ None → input_fault P others ≡ None
     unfolding input_fault one_for_each_task
     input-again e = let (one, rest) = neither _ _ e in else-none _ _ (rw same one) ∙ plan-again rest

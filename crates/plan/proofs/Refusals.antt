@@ -1,7 +1,7 @@
 -- Laws of a test that refuses: what it and those after it come to, and what is known once it does not refuse. Assumes nothing.
 use mathlib.Core.Path.{◌≡◌, ap}
 use mathlib.Core.Bool.{Bool, true, false, not}
-use mathlib.Core.Option.{Option, none, some}
+use Rattle.std.specs.Prelude.{Option, None, Some}
 use Prim.Native.Nat.{ℕ}
 use native.Mathlib.Omega.{arith}
 use borrow.Author.Tests.{not-false}
@@ -10,15 +10,15 @@ use Rattle.units.proofs.Choices.{some-if, none-if, if_none, else-none, else-some
 use Rattle.plan.specs.Refusals.{Fault, fault, unless, refused, answered}
 
 module _ (test : Bool) (number place : ℕ) where
-  pub unless-true : test ≡ true → unless test number place ≡ none
+  pub unless-true : test ≡ true → unless test number place ≡ None
   unfolding unless
   unless-true e = none-if _ _ (ap not e)
 
-  pub unless-false : test ≡ false → unless test number place ≡ some (fault number place)
+  pub unless-false : test ≡ false → unless test number place ≡ Some (fault number place)
   unfolding unless
   unless-false e = some-if _ _ (ap not e)
 
-  pub unless-none : unless test number place ≡ none → test ≡ true
+  pub unless-none : unless test number place ≡ None → test ≡ true
   unfolding unless
   unless-none e = not-false _ (if_none _ _ e)
 
@@ -26,7 +26,7 @@ module _ (test : Bool) (number place : ℕ) where
   pub go_on : (rest : Option Fault) → test ≡ true → (unless test number place or_else rest) ≡ rest
   go_on rest e = else-none _ rest (unless-true e)
 
-  pub refuse : (rest : Option Fault) → test ≡ false → (unless test number place or_else rest) ≡ some (fault number place)
+  pub refuse : (rest : Option Fault) → test ≡ false → (unless test number place or_else rest) ≡ Some (fault number place)
   refuse rest e = else-some _ rest _ (unless-false e)
 
 -- a refusal is no answer

@@ -1,7 +1,7 @@
 -- The plan's tests, group by group: the first fault, in 01's order (01, "Refused because of the input", "Refused because of the state"; 17: 02,
 -- W-202).
 use Rattle.std.specs.Prelude.{Bool, List, ◌≡◌, ℕ, ◌*◌, ◌/◌, ◌%◌, eqb, length, get_or}
-use Rattle.std.proofs.Math.Option.{Option, none}
+use Rattle.std.specs.Prelude.{Option, None}
 use Rattle.units.specs.Choice.{◌and◌, ◌or_else◌, first_of}
 use Rattle.units.specs.Limits.{box_numbers, is_plan_length, is_work_time, is_height, is_capacity, is_calendar_count, is_calendar_number, is_room_count, is_task_count, is_box}
 use Rattle.units.specs.declared.Bounds.{Bounds}
@@ -88,4 +88,4 @@ input_fault P boxes = unless (is_right_size P boxes) 31 0 or_else plan_fault P b
 
 -- a plan passes the tests if none of 2 to 10 and 17 applies to it
 abbrev pub Passes : Plan → List ℕ → Type 0
-Passes P boxes = plan_fault P boxes ≡ none
+Passes P boxes = plan_fault P boxes ≡ None

@@ -1,29 +1,17 @@
--- How a contract names the plan that its caller lends. A `requires` has each reference as it is then; an `ensures` has it twice, as the function
--- began and as it returns.
-use Rattle.std.specs.Prelude.{List, ℕ}
-use Rattle.std.specs.Borrow.{Bor}
-use denote.Triple.Both.{Both}
-use Rattle.plan.specs.Plan.{Shifts, Plan, shifts, plan}
+-- The plan that lent memory holds: what lies behind the references of the code's structs.
+use Rattle.std.specs.Prelude.{ℕ, ◌+◌, ◌≤◌, ◌<◌, length, get_or}
+use Rattle.plan.specs.Plan.{Shifts, Plan, first_symbol, shifts}
+use Rattle.plan.specs.declared.Shifts as Lent_shifts
+use Rattle.plan.specs.declared.Plan as Lent_plan
 
--- a reference in an `ensures`
-abbrev pub Lent : Type 0 → Type 0
-Lent X = Both (Bor X) (Bor X)
+-- of a plan, and of the part that the calendar rule reads
+abbrev pub shifts_in : Lent_shifts.Shifts → Shifts
+shifts_in s = shifts s.hours.0 s.calendars.now s.task_calendars.now s.work_times.now
 
--- what lay behind it as the function began
-abbrev pub old : {X : Type 0} → Lent X → X
-old s = s.entry.now
+abbrev pub plan_in : Lent_plan.Plan → Plan
+plan_in p = record { shifts = shifts_in p.shifts; capacities = p.capacities.now; heights = p.heights.now }
 
--- the plan that the slices hold, and of it the part that the calendar rule reads: in a `requires`, and in an `ensures` as the function began
-abbrev pub shifts_of : ℕ → Bor (List ℕ) → Bor (List ℕ) → Bor (List ℕ) → Shifts
-shifts_of hours calendars task_calendars work_times = shifts hours calendars.now task_calendars.now work_times.now
-
-abbrev pub old_shifts : ℕ → Lent (List ℕ) → Lent (List ℕ) → Lent (List ℕ) → Shifts
-old_shifts hours calendars task_calendars work_times = shifts hours (old calendars) (old task_calendars) (old work_times)
-
-abbrev pub plan_of : ℕ → Bor (List ℕ) → Bor (List ℕ) → Bor (List ℕ) → Bor (List ℕ) → Bor (List ℕ) → Plan
-plan_of hours capacities calendars task_calendars work_times heights =
-    plan hours capacities.now calendars.now task_calendars.now work_times.now heights.now
-
-abbrev pub old_plan : ℕ → Lent (List ℕ) → Lent (List ℕ) → Lent (List ℕ) → Lent (List ℕ) → Lent (List ℕ) → Plan
-old_plan hours capacities calendars task_calendars work_times heights =
-    plan hours (old capacities) (old calendars) (old task_calendars) (old work_times) (old heights)
+-- task i names a calendar that lies among the symbols
+pub record HasCalendar (S : Shifts) (i : ℕ) : Type 0 where
+  pub task : i < length S.task_calendars
+  pub within : first_symbol S.hours (get_or S.task_calendars i 0) + S.hours ≤ length S.calendars

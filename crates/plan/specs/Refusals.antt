@@ -1,18 +1,14 @@
 -- Refusals: a number and a place (01, "Refused because of the input" and "Refused because of the state"; 33: 02, W-201; 17: 02, W-202).
 use Rattle.std.specs.Prelude.{Bool, not, ℕ}
-use Rattle.std.proofs.Math.Option.{Option, none, some}
+use Rattle.std.specs.Prelude.{Option, None, Some, Result, Ok, Err}
 use Rattle.units.specs.Choice.{some_if}
 use Rattle.plan.specs.declared.Refusal.{Refusal}
 use Rattle.plan.specs.declared.Refusal.TheVariants.{Malformed, Hours, Calendars, Symbol, Tasks, NoCalendar, WorkTime, TaskHeight, TaskBounds}
 use Rattle.plan.specs.declared.Refusal.TheVariants.{Capacity, UnknownStep, NotAdmitted, AfterImpossible, OutsideBounds, NotValid, OverCapacity}
 use Rattle.plan.specs.declared.Refusal.TheVariants.{Rooms, MemorySize, OutputSize}
-use Rattle.plan.specs.declared.Tested.{Tested}
-use Rattle.plan.specs.declared.Tested.TheVariants.{Passed, Refused}
+pub use Rattle.plan.specs.declared.Fault.{Fault}
 
-pub record Fault : Type 0 where
-  pub number : ℕ
-  pub place : ℕ
-
+-- of the code: a number and a place
 abbrev pub fault : ℕ → ℕ → Fault
 fault number place = record { number = number; place = place }
 
@@ -31,8 +27,8 @@ on_answer (answered a) g h = h a
 
 -- the answer, unless there is a fault
 unfoldable pub answer_unless : {A : Type 0} → Option Fault → A → Answer A
-answer_unless none a = answered a
-answer_unless (some f) a = refused f
+answer_unless None a = answered a
+answer_unless (Some f) a = refused f
 
 -- the number and the place of each refusal; a place that 01 does not name is 0
 abbrev pub fault_of : Refusal → Fault
@@ -57,6 +53,6 @@ fault_of MemorySize = fault 31 0
 fault_of OutputSize = fault 33 0
 
 -- what the plan's tests answer
-abbrev pub tested_fault : Tested → Option Fault
-tested_fault Passed = none
-tested_fault (Refused r) = some (fault_of r)
+abbrev pub tested_fault : {A : Type 0} → Result A Refusal → Option Fault
+tested_fault (Ok _) = None
+tested_fault (Err r) = Some (fault_of r)

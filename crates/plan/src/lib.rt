@@ -1,17 +1,138 @@
 // A plan in lent memory: its parts, and why a call is refused.
 #![tactic(auto)]
 
-ghost use Rattle.std.specs.Prelude.{◌≡◌, ◌+◌, ◌*◌, ◌/◌, ◌≤◌, ◌<◌, length, get_or, take, drop};
-ghost use Rattle.units.specs.Limits.{box_numbers, height};
-ghost use Rattle.plan.specs.Plan.{first_symbol, room_part};
-ghost use Rattle.plan.specs.HourKinds.{is_kind};
+ghost use Rattle.std.specs.Prelude.{◌≡◌, ◌+◌, ◌*◌, ◌≤◌, ◌<◌, length, get_or};
+ghost use Rattle.units.specs.Limits.{box_numbers, duration, height};
+ghost use Rattle.plan.specs.Plan.{plan, room_count, task_count, calendar_count, first_symbol, calendar_at, calendar_of, work_time_of, capacity_of, room_part, heights_of};
+ghost use Rattle.plan.specs.Lent.{shifts_in, plan_in, HasCalendar};
+ghost use Rattle.plan.specs.HourKinds.{is_kind, symbol_of};
 ghost use Rattle.plan.specs.Boxes.{bounds_at, with_bounds};
 ghost use Rattle.plan.specs.Refusals.{fault_of};
 
 use units::{Bounds, Duration, Height, Hour};
 
-// Why a call is refused, in the order of the papers' numbers, with the place where they name one.
+// What the calendar rule reads of a plan: H, the symbols of the calendars, joined, and one number a task for each of its calendar and its work
+// time p.
 #[derive(Clone, Copy)]
+pub struct Shifts<'a> {
+    pub hours: Duration,
+    pub calendars: &'a [u8],
+    pub task_calendars: &'a [u16],
+    pub work_times: &'a [u16],
+}
+
+// A plan: that part, the capacity of each room, and room by room one number a task for its height there. The boxes are lent beside the plan.
+#[derive(Clone, Copy)]
+pub struct Plan<'a> {
+    pub shifts: Shifts<'a>,
+    pub capacities: &'a [u16],
+    pub heights: &'a [u16],
+}
+
+#[tactic(auto, unfolding(crate::specs::Plan::calendar_count, crate::specs::Plan::calendar_of, crate::specs::Plan::work_time_of))]
+impl<'a> Shifts<'a> {
+    // How many tasks there are.
+    pub fn tasks(&self) -> usize
+        ensures { result ≡ length self.now.task_calendars.now }
+    {
+        self.task_calendars.len()
+    }
+
+    // How many calendars of H symbols there are.
+    pub fn calendar_count(&self) -> usize
+        requires { 1 ≤ self.now.hours.0 }
+        ensures { result ≡ calendar_count (shifts_in self.now) }
+    {
+        self.calendars.len() / self.hours.0 as usize
+    }
+
+    // The symbols of one calendar.
+    pub fn calendar_at(&self, number: u16) -> &'a [u8]
+        requires { first_symbol self.now.hours.0 number + self.now.hours.0 ≤ length self.now.calendars.now }
+        ensures { result.now ≡ calendar_at (shifts_in self.now) number }
+    {
+        let each = self.hours.0;
+        let from = first_within(self.calendars.len(), number, each);
+        let to = from + each as usize;
+        &self.calendars[from..to]
+    }
+
+    // The symbols of a task's calendar.
+    pub fn calendar_of(&self, i: usize) -> &'a [u8]
+        requires { HasCalendar (shifts_in self.now) i }
+        ensures { result.now ≡ calendar_of (shifts_in self.now) i }
+    {
+        self.calendar_at(self.task_calendars[i])
+    }
+
+    // A task's work time.
+    pub fn work_time_of(&self, i: usize) -> Duration
+        requires { i < length self.now.work_times.now }
+        ensures { result ≡ duration (work_time_of (shifts_in self.now) i) }
+    {
+        Duration(self.work_times[i])
+    }
+}
+
+#[tactic(auto, unfolding(crate::specs::Plan::room_count, crate::specs::Plan::task_count, crate::specs::Plan::capacity_of, crate::specs::Plan::heights_of))]
+impl<'a> Plan<'a> {
+    // The plan that lent numbers and slices hold.
+    pub fn new(
+        hours: u16,
+        capacities: &'a [u16],
+        calendars: &'a [u8],
+        task_calendars: &'a [u16],
+        work_times: &'a [u16],
+        heights: &'a [u16],
+    ) -> Plan<'a>
+        ensures { plan_in result ≡ plan hours capacities.now calendars.now task_calendars.now work_times.now heights.now }
+    {
+        let shifts = Shifts {
+            hours: Duration(hours),
+            calendars,
+            task_calendars,
+            work_times,
+        };
+        Plan {
+            shifts,
+            capacities,
+            heights,
+        }
+    }
+
+    // How many rooms there are.
+    pub fn rooms(&self) -> usize
+        ensures { result ≡ room_count (plan_in self.now) }
+    {
+        self.capacities.len()
+    }
+
+    // How many tasks there are.
+    pub fn tasks(&self) -> usize
+        ensures { result ≡ task_count (plan_in self.now) }
+    {
+        self.shifts.tasks()
+    }
+
+    // The capacity of a room.
+    pub fn capacity_of(&self, room: usize) -> Height
+        requires { room < length self.now.capacities.now }
+        ensures { result ≡ height (capacity_of (plan_in self.now) room) }
+    {
+        Height(self.capacities[room])
+    }
+
+    // The heights of all tasks in a room.
+    pub fn heights_of(&self, room: usize) -> &'a [u16]
+        requires { room * length self.now.shifts.task_calendars.now + length self.now.shifts.task_calendars.now ≤ length self.now.heights.now }
+        ensures { result.now ≡ heights_of (plan_in self.now) room }
+    {
+        room_part(self.heights, self.tasks(), room)
+    }
+}
+
+// Why a call is refused, in the order of the papers' numbers, with the place where they name one.
+#[derive(Clone, Copy, PartialEq, Eq)]
 pub enum Refusal {
     // 1, at a line counted from 1.
     Malformed(usize),
@@ -48,39 +169,39 @@ pub enum Refusal {
 }
 
 // A refusal as 01 gives it: its number, then its place.
-#[derive(Clone, Copy)]
-pub struct Fault(pub u16, pub usize);
-
-#[derive(Clone, Copy)]
-pub enum Tested {
-    Passed,
-    Refused(Refusal),
+#[derive(Clone, Copy, PartialEq, Eq)]
+pub struct Fault {
+    pub number: u16,
+    pub place: usize,
 }
 
 // 01's number and place of each refusal.
-pub fn fault_of(r: Refusal) -> Fault
-    ensures { (result.0 ≡ (fault_of r).number) × (result.1 ≡ (fault_of r).place) }
-{
-    match r {
-        Refusal::Malformed(line) => Fault(1, line),
-        Refusal::Hours => Fault(2, 0),
-        Refusal::Calendars => Fault(3, 0),
-        Refusal::Symbol(index) => Fault(4, index),
-        Refusal::Tasks => Fault(5, 0),
-        Refusal::NoCalendar(task) => Fault(6, task),
-        Refusal::WorkTime(task) => Fault(7, task),
-        Refusal::TaskHeight(task) => Fault(8, task),
-        Refusal::TaskBounds(task) => Fault(9, task),
-        Refusal::Capacity => Fault(10, 0),
-        Refusal::UnknownStep(step) => Fault(11, step),
-        Refusal::NotAdmitted(step) => Fault(12, step),
-        Refusal::AfterImpossible(step) => Fault(13, step),
-        Refusal::OutsideBounds(task) => Fault(14, task),
-        Refusal::NotValid(task) => Fault(15, task),
-        Refusal::OverCapacity(hour) => Fault(16, hour),
-        Refusal::Rooms => Fault(17, 0),
-        Refusal::MemorySize => Fault(31, 0),
-        Refusal::OutputSize => Fault(33, 0),
+impl From<Refusal> for Fault {
+    ghost from_gives = { λ refusal fault. fault ≡ fault_of refusal };
+
+    fn from(refusal: Refusal) -> Fault {
+        let (number, place) = match refusal {
+            Refusal::Malformed(line) => (1, line),
+            Refusal::Hours => (2, 0),
+            Refusal::Calendars => (3, 0),
+            Refusal::Symbol(index) => (4, index),
+            Refusal::Tasks => (5, 0),
+            Refusal::NoCalendar(task) => (6, task),
+            Refusal::WorkTime(task) => (7, task),
+            Refusal::TaskHeight(task) => (8, task),
+            Refusal::TaskBounds(task) => (9, task),
+            Refusal::Capacity => (10, 0),
+            Refusal::UnknownStep(step) => (11, step),
+            Refusal::NotAdmitted(step) => (12, step),
+            Refusal::AfterImpossible(step) => (13, step),
+            Refusal::OutsideBounds(task) => (14, task),
+            Refusal::NotValid(task) => (15, task),
+            Refusal::OverCapacity(hour) => (16, hour),
+            Refusal::Rooms => (17, 0),
+            Refusal::MemorySize => (31, 0),
+            Refusal::OutputSize => (33, 0),
+        };
+        Fault { number, place }
     }
 }
 
@@ -132,18 +253,20 @@ pub fn height_at(heights: &[u16], i: usize) -> Height
 }
 
 // The kinds of an hour, by their symbols.
-pub const REGULAR: u8 = b'r';
-
-pub const CLOSED: u8 = b'c';
-
-pub const OVERTIME: u8 = b'o';
+#[derive(Clone, Copy, PartialEq, Eq)]
+pub enum HourKind {
+    Regular = b'r' as isize,
+    Closed = b'c' as isize,
+    Overtime = b'o' as isize,
+}
 
 // Whether an hour of a calendar is of the kind. Nothing else reads a symbol.
-pub fn is_kind(calendar: &[u8], t: usize, kind: u8) -> bool
+#[tactic(auto, unfolding(crate::specs::HourKinds::is_kind))]
+pub fn is_kind(calendar: &[u8], t: usize, kind: HourKind) -> bool
     requires { t < length calendar.now }
-    ensures { result ≡ is_kind kind calendar.now t }
+    ensures { result ≡ is_kind (symbol_of kind) calendar.now t }
 {
-    calendar[t] == kind
+    calendar[t] == kind as u8
 }
 
 // Where a calendar begins, if that is within a limit: H added once for each calendar before it. The second way out is never taken. Without it the
@@ -173,23 +296,4 @@ pub fn first_symbol(number: u16, hours: Duration) -> usize
     ensures { result ≡ first_symbol hours.0 number }
 {
     first_within(MOST_FIRST, number, hours.0)
-}
-
-// The symbols of one calendar.
-pub fn calendar_at(calendars: &[u8], hours: Duration, number: u16) -> &[u8]
-    requires { first_symbol hours.0 number + hours.0 ≤ length calendars.now }
-    ensures { result.now ≡ take hours.0 (drop (first_symbol hours.0 number) calendars.now) }
-{
-    let each = hours.0;
-    let from = first_within(calendars.len(), number, each);
-    let to = from + each as usize;
-    &calendars[from..to]
-}
-
-// How many calendars of so many hours there are.
-pub fn calendar_count(calendars: &[u8], hours: Duration) -> usize
-    requires { 1 ≤ hours.0 }
-    ensures { result ≡ length calendars.now / hours.0 }
-{
-    calendars.len() / hours.0 as usize
 }

@@ -2,7 +2,7 @@
 -- nothing.
 use mathlib.Core.Path.{◌≡◌, sym, ap, ap₂, subst, ◌∙◌}
 use mathlib.Core.Bool.{true}
-use mathlib.Core.Option.{none}
+use Rattle.std.specs.Prelude.{None}
 use mathlib.Core.List.{List}
 use Prim.Native.Nat.{ℕ}
 use lib.ListN.{length, take}
@@ -27,7 +27,7 @@ use Rattle.plan_format.proofs.Readings.{read_whole, not-refused}
 module _ (rs cs ts ws hs bs : List ℕ) where
   module _ {P : Plan} {boxes : List ℕ} (p : Passed P boxes) where
     -- memory that is enough is not refused
-    no-fault : plan_fault P boxes ≡ none → is_enough rs cs ts ws hs bs ≡ true → read_fault (is_enough rs cs ts ws hs bs) (read_of P boxes) ≡ none
+    no-fault : plan_fault P boxes ≡ None → is_enough rs cs ts ws hs bs ≡ true → read_fault (is_enough rs cs ts ws hs bs) (read_of P boxes) ≡ None
     unfolding read_fault
     no-fault e enough = go_on _ 31 0 _ enough ∙ else-none _ _ (lines-pass p) ∙ ap₂ plan_fault (plan-held p) (boxes-held p) ∙ e
 
@@ -63,7 +63,7 @@ read-once one two =
     let same : r ≡ s = cc in
     (sym p ∙ ap plan_in same ∙ q, sym b ∙ ap boxes_in same ∙ c)
 
-pub reads-back : (P : Plan) (boxes : List ℕ) → input_fault P boxes ≡ none → ReadsBack P boxes (text_of_plan P boxes)
+pub reads-back : (P : Plan) (boxes : List ℕ) → input_fault P boxes ≡ None → ReadsBack P boxes (text_of_plan P boxes)
 unfolding input_fault
 reads-back P boxes e =
     let p = input-passed P boxes e in
@@ -79,7 +79,7 @@ reads-back P boxes e =
     }
 
 -- two plans that pass have two texts
-pub text-once : (P Q : Plan) (boxes others : List ℕ) → input_fault P boxes ≡ none → input_fault Q others ≡ none
+pub text-once : (P Q : Plan) (boxes others : List ℕ) → input_fault P boxes ≡ None → input_fault Q others ≡ None
     → text_of_plan P boxes ≡ text_of_plan Q others → (P ≡ Q) × (boxes ≡ others)
 text-once P Q boxes others e f same = read-once (subst (ReadsBack P boxes) same (reads-back P boxes e)) (reads-back Q others f)
 

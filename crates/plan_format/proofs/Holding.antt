@@ -1,7 +1,7 @@
 -- What a plan that was read holds: within the limits of a plan. Assumes nothing.
 use mathlib.Core.Path.{◌≡◌, refl, sym, subst}
 use mathlib.Core.Bool.{Bool}
-use mathlib.Core.Option.{Option, none, some}
+use Rattle.std.specs.Prelude.{Option, None, Some}
 use mathlib.Core.List.{List}
 use Prim.Native.Nat.{ℕ, ◌*◌, ◌≤◌}
 use native.Mathlib.Nat.{mul-le-mul}
@@ -27,9 +27,9 @@ pub record Holds (a : PlanRead) : Type 0 where
   pub symbols : first_symbol a.hours a.calendars ≤ most_symbols
   pub heights : a.rooms * a.tasks ≤ most_heights
 
-fault-free : (enough : Bool) (r : Read) → read_fault enough r ≡ none
+fault-free : (enough : Bool) (r : Read) → read_fault enough r ≡ None
     → Holds (record { hours = r.hours; rooms = length r.capacities; calendars = length r.calendars; tasks = length r.tasks })
-unfolding read_fault line_fault plan_fault plan_in task_count first_symbol is_plan_length is_calendar_count
+unfolding read_fault line_fault plan_fault plan_in task_count first_symbol
 fault-free enough r e =
     let after-31 = neither _ _ e in
     let after-3 = neither _ _ after-31.1 in
@@ -56,10 +56,10 @@ module _ (capacities calendars task_calendars work_times heights boxes : List �
           → (on_option o (stored capacities calendars task_calendars work_times heights boxes r)
           (unread capacities calendars task_calendars work_times heights boxes)).answer
           ≡ answered a → Holds a
-      go none q s =
+      go None q s =
           let is : record { hours = r.hours; rooms = length r.capacities; calendars = length r.calendars; tasks = length r.tasks } ≡ a = cc in
           subst Holds is (fault-free _ r q)
-      go (some f) q s = refused≢answered s
+      go (Some f) q s = refused≢answered s
 
   from-read : (o : Answer Read) (a : PlanRead)
       → (on_answer o (unread capacities calendars task_calendars work_times heights boxes)

@@ -1,6 +1,6 @@
 -- A record's line is one line, and is read as that record. Assumes nothing.
 use mathlib.Core.Path.{◌≡◌, refl}
-use mathlib.Core.Option.{some}
+use Rattle.std.specs.Prelude.{Some}
 use mathlib.Core.List.{List, ◌∷◌, ◌++◌}
 use Prim.Native.Nat.{ℕ, suc, ◌≤◌}
 use native.Mathlib.Omega.{arith}
@@ -23,8 +23,8 @@ Readable (plan_record h cs) = Below (suc most_number) (h ∷ cs)
 Readable (cal_record symbols) = (1 ≤ length symbols) × (first_at tab symbols ≡ length symbols) × (first_at lf symbols ≡ length symbols)
 Readable (task_record numbers) = (2 ≤ length numbers) × Below (suc most_number) numbers
 
-pub line_read : (x : Record) → Readable x → record_of (record_line x) ≡ some x
-unfolding Readable record_of record_line by_word plan_of cal_of task_of numbers_if same first_at on_option some_if ◌and◌
+pub line_read : (x : Record) → Readable x → record_of (record_line x) ≡ Some x
+unfolding Readable record_of record_line by_word plan_of cal_of task_of numbers_if same first_at on_option ◌and◌
 line_read (plan_record h cs) b = rw (parts-numbers word_plan (h ∷ cs) refl, numbers-read (h ∷ cs) b, le-leb 1 (suc (length cs)) (omega arith))
 line_read (cal_record symbols) (some-symbol, no-tab, no-lf) =
     rw (parts_next tab word_cal symbols refl, parts_last tab symbols no-tab, le-leb 1 (length symbols) some-symbol)

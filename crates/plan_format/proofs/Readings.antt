@@ -1,7 +1,7 @@
 -- Laws of what reading a plan leaves, refused and read. Assumes nothing.
 use mathlib.Core.Path.{◌≡◌, sym}
 use mathlib.Core.Bool.{true, false}
-use mathlib.Core.Option.{none, some}
+use Rattle.std.specs.Prelude.{None, Some}
 use mathlib.Core.List.{List}
 use Prim.Native.Nat.{ℕ, ◌≤◌}
 use lib.ListN.{length}
@@ -51,7 +51,7 @@ module _ (rs cs ts ws ks bs : List ℕ) where
     read_whole r e = rw e
 
   module _ (r : Read) where
-    refused-by : (f : Fault) → read_fault (is_enough rs cs ts ws ks bs) r ≡ some f → end_with (refused f) rs cs ts ws ks bs ≡ read_tested rs cs ts ws ks bs r
+    refused-by : (f : Fault) → read_fault (is_enough rs cs ts ws ks bs) r ≡ Some f → end_with (refused f) rs cs ts ws ks bs ≡ read_tested rs cs ts ws ks bs r
     unfolding read_tested on_option unread
     refused-by f e = rw e
 
@@ -59,10 +59,10 @@ module _ (rs cs ts ws ks bs : List ℕ) where
     unfolding read_fault
     too_small e = refused-by (fault 31 0) (refuse _ 31 0 _ e)
 
-    pub not-passed : (f : Fault) → is_enough rs cs ts ws ks bs ≡ true → some f ≡ read_fault true r
+    pub not-passed : (f : Fault) → is_enough rs cs ts ws ks bs ≡ true → Some f ≡ read_fault true r
         → end_with (refused f) rs cs ts ws ks bs ≡ read_tested rs cs ts ws ks bs r
     not-passed f e q = refused-by f (rw e (sym q))
 
-    pub not-refused : read_fault (is_enough rs cs ts ws ks bs) r ≡ none → stored rs cs ts ws ks bs r ≡ read_tested rs cs ts ws ks bs r
+    pub not-refused : read_fault (is_enough rs cs ts ws ks bs) r ≡ None → stored rs cs ts ws ks bs r ≡ read_tested rs cs ts ws ks bs r
     unfolding read_tested on_option
     not-refused e = rw e

@@ -2,7 +2,7 @@
 use Rattle.std.specs.Prelude.{if◌then◌else◌}
 use mathlib.Core.Path.{◌≡◌, refl, ap, ◌∙◌}
 use mathlib.Core.Bool.{true, false}
-use mathlib.Core.Option.{some}
+use Rattle.std.specs.Prelude.{Some}
 use mathlib.Core.List.{List, [], ◌++◌}
 use Prim.Native.Nat.{ℕ, zero, suc, ◌+◌, ◌≤◌, ◌<◌}
 use native.Mathlib.Omega.{arith}
@@ -117,8 +117,8 @@ module _ (P : Plan) (boxes : List ℕ) where
         tasks = list_to numbers n;
       }
 
-  calendar-taken : (k : ℕ) → with_record (after_calendars k) (cal_record (calendar_at P.shifts k)) ≡ some (after_calendars (suc k))
-  unfolding with_record comes within some_if ◌and◌ list_to
+  calendar-taken : (k : ℕ) → with_record (after_calendars k) (cal_record (calendar_at P.shifts k)) ≡ Some (after_calendars (suc k))
+  unfolding with_record comes within ◌and◌ list_to
   calendar-taken zero = refl
   calendar-taken (suc k) = rw (not_none k, not_none (suc k))
 
@@ -127,13 +127,13 @@ module _ (P : Plan) (boxes : List ℕ) where
   unfolding is_task_line room_count
   is-line i = if-all (λ b. b ≡ true) _ _ _ (λ q. refl) (λ q. eq-eqb _ _ (line-count i))
 
-  task-taken : (i : ℕ) → with_record (after_tasks i) (task_record (numbers i)) ≡ some (after_tasks (suc i))
-  unfolding with_record comes within some_if ◌and◌ list_to
+  task-taken : (i : ℕ) → with_record (after_tasks i) (task_record (numbers i)) ≡ Some (after_tasks (suc i))
+  unfolding with_record comes within ◌and◌ list_to
   task-taken zero = rw (is-line zero)
   task-taken (suc i) = rw (not_none i, not_none (suc i), is-line (suc i))
 
   plan-taken : with_records nothing (records_of P boxes) ≡ with_records (after_calendars 0) (calendars ++ tasks)
-  unfolding records_of with_records with_record comes some_if on_option list_to
+  unfolding records_of with_records with_record comes on_option list_to
   plan-taken = refl
 
   -- there is a calendar, so that the tasks may follow
@@ -141,7 +141,7 @@ module _ (P : Plan) (boxes : List ℕ) where
   unfolding list_to
   calendars-taken l = rw (ne_eqb (calendar_count P.shifts) 0 (λ e. omega arith))
 
-  records-taken : 1 ≤ calendar_count P.shifts → with_records nothing (records_of P boxes) ≡ some (read_of P boxes)
+  records-taken : 1 ≤ calendar_count P.shifts → with_records nothing (records_of P boxes) ≡ Some (read_of P boxes)
   unfolding cal_records task_records read_of
   records-taken l =
       plan-taken

@@ -1,14 +1,14 @@
 -- A text of several records, one after the other: its lines are read as those records. Assumes nothing.
 use mathlib.Core.Path.{◌≡◌, refl, sym, ap, ◌∙◌}
 use mathlib.Core.Bool.{Bool, true}
-use mathlib.Core.Option.{Option, none, some}
+use Rattle.std.specs.Prelude.{Option, None, Some}
 use mathlib.Core.List.{List, [], ◌∷◌, ◌++◌, append_assoc}
 use Prim.Native.Nat.{ℕ, zero, suc, ◌+◌, ◌≤◌, ◌<◌}
 use native.Mathlib.Omega.{arith}
 use borrow.Author.Tests.{le-leb}
 use Rattle.units.specs.Choice.{◌and◌, on_option}
 use Rattle.units.specs.Lists.{list_to}
-use Rattle.units.proofs.Choices.{none≢some}
+use Rattle.units.proofs.Choices.{None≢Some}
 use Rattle.plan.specs.Refusals.{fault, refused, answered}
 use Rattle.text.specs.Fields.{lf, parts}
 use Rattle.text.specs.Lines.{ended}
@@ -27,8 +27,8 @@ Each C (x ∷ xs) = C x × Each C xs
 
 -- what has been read after all of them
 unfoldable pub with_records : Read → List Record → Option Read
-with_records r [] = some r
-with_records r (x ∷ xs) = on_option (with_record r x) none (λ s. with_records s xs)
+with_records r [] = Some r
+with_records r (x ∷ xs) = on_option (with_record r x) None (λ s. with_records s xs)
 
 pub text-both : (xs ys : List Record) → text_of (xs ++ ys) ≡ text_of xs ++ text_of ys
 unfolding text_of
@@ -48,21 +48,21 @@ module _ (C : Record → Type 0) where
   each_to f (suc n) h = each_both (list_to f n) (f n ∷ []) (each_to f n (λ i l. h i (omega arith))) (h n (omega arith), _)
 
 -- what g finds of an option, it finds of some s in it: what f makes of the option is what f makes of that s
-first_taken : {A B : Type 0} (o : Option Read) (g : Read → Option A) {a : A} → on_option o none g ≡ some a
-    → (b : B) (f : Read → B) {y : B} → ((s : Read) → g s ≡ some a → f s ≡ y) → on_option o b f ≡ y
+first_taken : {A B : Type 0} (o : Option Read) (g : Read → Option A) {a : A} → on_option o None g ≡ Some a
+    → (b : B) (f : Read → B) {y : B} → ((s : Read) → g s ≡ Some a → f s ≡ y) → on_option o b f ≡ y
 unfolding on_option
-first_taken none g e b f h = none≢some e
-first_taken (some s) g e b f h = h s e
+first_taken None g e b f h = None≢Some e
+first_taken (Some s) g e b f h = h s e
 
 -- some records, and then others
-pub records-both : (xs ys : List Record) (r s : Read) → with_records r xs ≡ some s → with_records r (xs ++ ys) ≡ with_records s ys
+pub records-both : (xs ys : List Record) (r s : Read) → with_records r xs ≡ Some s → with_records r (xs ++ ys) ≡ with_records s ys
 unfolding with_records
 records-both [] ys r s e = cc
 records-both (x ∷ xs) ys r s e = first_taken _ _ e _ _ (λ t h. records-both xs ys t s h)
 
 -- what has been read after each of them, record by record
-pub records-to : (f : ℕ → Record) (after : ℕ → Read) → ((i : ℕ) → with_record (after i) (f i) ≡ some (after (suc i))) → (n : ℕ)
-    → with_records (after 0) (list_to f n) ≡ some (after n)
+pub records-to : (f : ℕ → Record) (after : ℕ → Read) → ((i : ℕ) → with_record (after i) (f i) ≡ Some (after (suc i))) → (n : ℕ)
+    → with_records (after 0) (list_to f n) ≡ Some (after n)
 unfolding with_records on_option list_to
 records-to f after h zero = refl
 records-to f after h (suc n) = records-both (list_to f n) (f n ∷ []) (after 0) (after n) (records-to f after h n) ∙ rw (h n)
@@ -82,7 +82,7 @@ unfolding with_line on_option
 line_taken x b r = rw (line_read x b)
 
 -- each line is its record's, and after the last LF there is nothing
-pub lines-read : (xs : List Record) → Each Readable xs → (k : ℕ) (r q : Read) → with_records r xs ≡ some q → plan_section ≤ q.reached
+pub lines-read : (xs : List Record) → Each Readable xs → (k : ℕ) (r q : Read) → with_records r xs ≡ Some q → plan_section ≤ q.reached
     → read_lines true k r (parts lf (text_of xs)) ≡ answered q
 unfolding Each with_records text_of
 lines-read [] b k r q e h =

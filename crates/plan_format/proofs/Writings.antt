@@ -1,6 +1,6 @@
 -- Laws of what writing a plan leaves, refused and written. Assumes nothing.
 use mathlib.Core.Path.{◌≡◌, ◌∙◌}
-use mathlib.Core.Option.{none, some}
+use Rattle.std.specs.Prelude.{None, Some}
 use mathlib.Core.List.{List}
 use Prim.Native.Nat.{ℕ, ◌≤◌, ◌<◌}
 use lib.ListN.{length}
@@ -16,20 +16,20 @@ use Rattle.plan.proofs.Refusals.{unless-true, unless-false}
 use Rattle.plan_format.specs.Writing.{text_of_plan, write_fault, write_end, write_plan}
 
 module _ (P : Plan) (boxes out : List ℕ) where
-  by-fault : {f : Fault} → write_fault P boxes out ≡ some f → write_end (refused f) out ≡ write_plan P boxes out
+  by-fault : {f : Fault} → write_fault P boxes out ≡ Some f → write_end (refused f) out ≡ write_plan P boxes out
   unfolding write_plan on_option
   by-fault e = rw e
 
-  pub writes-refused : {f : Fault} → input_fault P boxes ≡ some f → write_end (refused f) out ≡ write_plan P boxes out
+  pub writes-refused : {f : Fault} → input_fault P boxes ≡ Some f → write_end (refused f) out ≡ write_plan P boxes out
   unfolding write_fault
   writes-refused e = by-fault (else-some _ _ _ e)
 
-  module _ (passes : input_fault P boxes ≡ none) where
+  module _ (passes : input_fault P boxes ≡ None) where
     pub writes_short : length out < length (text_of_plan P boxes) → write_end (refused (fault 33 0)) out ≡ write_plan P boxes out
     unfolding write_fault
     writes_short l = by-fault (else-none _ _ passes ∙ unless-false _ 33 0 (lt-leb _ _ l))
 
-    no-fault : length (text_of_plan P boxes) ≤ length out → write_fault P boxes out ≡ none
+    no-fault : length (text_of_plan P boxes) ≤ length out → write_fault P boxes out ≡ None
     unfolding write_fault
     no-fault l = else-none _ _ passes ∙ unless-true _ 33 0 (le-leb _ _ l)
 

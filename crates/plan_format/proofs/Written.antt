@@ -1,7 +1,7 @@
 -- What the text of a plan that passed holds: the plan, its boxes, and lines that no test refuses. Assumes nothing.
 use Rattle.std.specs.Prelude.{if◌then◌else◌}
 use mathlib.Core.Path.{◌≡◌, refl, sym, ap, ◌∙◌}
-use mathlib.Core.Option.{none}
+use Rattle.std.specs.Prelude.{None}
 use mathlib.Core.List.{List, map}
 use Prim.Native.Nat.{ℕ, ◌+◌, ◌*◌, ◌≤◌, ◌<◌}
 use native.Mathlib.Nat.{add-zero, mul_comm}
@@ -150,8 +150,8 @@ module _ {P : Plan} {boxes : List ℕ} (p : Passed P boxes) where
   unfolding room_count capacity_of
   capacities-below most h = below_each most P.capacities (λ room l. omega (arith, h, p.capacity room l))
 
-  pub lines-pass : line_fault (read_of P boxes) ≡ none
-  unfolding line_fault read_of is_plan_length is_calendar_count
+  pub lines-pass : line_fault (read_of P boxes) ≡ None
+  unfolding line_fault read_of
   lines-pass =
       go_on _ 2 0 _ (is_within 1 most_hours P.shifts.hours p.some_hours p.hours)
       ∙ unless-true _ 3 0

@@ -1,7 +1,7 @@
 -- Reading a plan as an entry point: the text's plan, its refusals in their order, and what lent memory holds after (01, "Plan text and
 -- listing", "Refused because of the state"; rooms: 02, W-202; the box of a line without bounds: W-205).
 use Rattle.std.specs.Prelude.{Bool, true, List, [], ◌∷◌, ◌++◌, map, ℕ, ◌+◌, ◌-◌, ◌*◌, leb, eqb, length, get_or, drop, if◌then◌else◌}
-use Rattle.std.proofs.Math.Option.{Option}
+use Rattle.std.specs.Prelude.{Option}
 use Rattle.units.specs.Cells.{written}
 use Rattle.units.specs.Choice.{◌and◌, on_option, ◌or_else◌}
 use Rattle.units.specs.Limits.{most_hours, most_calendars, most_rooms, most_tasks, box_numbers, is_plan_length, is_calendar_count}

@@ -1,5 +1,5 @@
 -- The records of plan text, one a line (01, "Plan text and listing"; rooms: 02, W-202).
-use Rattle.std.proofs.Math.Option.{Option, none, some}
+use Rattle.std.specs.Prelude.{Option, None, Some}
 use Rattle.std.specs.Prelude.{List, [], ◌∷◌, ◌++◌, ℕ, leb, eqb, length, get_or, drop, if◌then◌else◌}
 use Rattle.units.specs.Choice.{◌and◌, some_if, on_option}
 use Rattle.text.specs.Words.{word_plan, word_cal, word_task}
@@ -18,11 +18,11 @@ pub data Record : Type 0 where
 
 -- the fields' numbers, if there are so many or more
 unfoldable pub numbers_if : ℕ → List (List ℕ) → Option (List ℕ)
-numbers_if least fields = on_option (numbers_of fields) none (λ ns. some_if (leb least (length ns)) ns)
+numbers_if least fields = on_option (numbers_of fields) None (λ ns. some_if (leb least (length ns)) ns)
 
 -- H, and a number for each room; how many rooms there may be is left to refusal 17
 unfoldable pub plan_of : List (List ℕ) → Option Record
-plan_of fields = on_option (numbers_if 1 fields) none (λ ns. some (plan_record (get_or ns 0 0) (drop 1 ns)))
+plan_of fields = on_option (numbers_if 1 fields) None (λ ns. Some (plan_record (get_or ns 0 0) (drop 1 ns)))
 
 -- one field of symbols, not empty; what they are is left to refusal 4
 unfoldable pub cal_of : List (List ℕ) → Option Record
@@ -30,16 +30,16 @@ cal_of fields = some_if (eqb (length fields) 1 and leb 1 (length (get_or fields 
 
 -- calendar and p; how many numbers follow is a matter of the plan line
 unfoldable pub task_of : List (List ℕ) → Option Record
-task_of fields = on_option (numbers_if 2 fields) none (λ ns. some (task_record ns))
+task_of fields = on_option (numbers_if 2 fields) None (λ ns. Some (task_record ns))
 
 -- by the first field, and the fields after it
 unfoldable pub by_word : List (List ℕ) → Option Record
-by_word [] = none
+by_word [] = None
 by_word (word ∷ fields) =
     if same word word_plan then plan_of fields
     else (if same word word_cal then cal_of fields
     else (if same word word_task then task_of fields
-    else none))
+    else None))
 
 -- a line's record, if it is one
 unfoldable pub record_of : List ℕ → Option Record

@@ -1,7 +1,7 @@
 -- Plan text, line by line (01, "Plan text and listing"; rooms: 02, W-202). Read: the first line that breaks the rules, or the plan's records.
 -- Written: each record's line.
 use Rattle.std.specs.Prelude.{Bool, true, List, [], ◌∷◌, ◌++◌, ℕ, ◌+◌, leb, eqb, length, take, if◌then◌else◌}
-use Rattle.std.proofs.Math.Option.{Option, none}
+use Rattle.std.specs.Prelude.{Option, None}
 use Rattle.units.specs.Choice.{◌and◌, some_if, on_option}
 use Rattle.units.specs.Limits.{within}
 use Rattle.plan.specs.Refusals.{fault, Answer, refused, answered}
@@ -55,7 +55,7 @@ with_record r (task_record numbers) =
     (record { reached = task_section; hours = r.hours; capacities = r.capacities; calendars = r.calendars; tasks = r.tasks ++ (numbers ∷ []) })
 
 unfoldable pub with_line : Read → List ℕ → Option Read
-with_line r line = on_option (record_of line) none (with_record r)
+with_line r line = on_option (record_of line) None (with_record r)
 
 -- from line k on: each line up to its LF. What follows the last LF must be nothing, and the text must have begun; a text that is too long breaks
 -- the rules there

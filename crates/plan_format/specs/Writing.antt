@@ -1,7 +1,7 @@
 -- Writing a plan as text (02, W-201; rooms: W-202): the plan's records, its text, the refusals in their order, what lent memory holds after, and that the text
 -- read again is the plan.
 use Rattle.std.specs.Prelude.{true, List, ◌∷◌, ◌++◌, ◌≡◌, ℕ, ◌≤◌, leb, length, get_or}
-use Rattle.std.proofs.Math.Option.{Option}
+use Rattle.std.specs.Prelude.{Option}
 use Rattle.units.specs.Cells.{written}
 use Rattle.units.specs.Choice.{on_option, ◌or_else◌}
 use Rattle.units.specs.Lists.{list_to}

@@ -1,7 +1,7 @@
 -- Laws of what the code keeps of a plan text: what it holds after another record, and the plan that it holds in the end. Assumes nothing.
 use mathlib.Core.Path.{◌≡◌, refl, sym, ap, ap₂, subst, ◌∙◌}
 use mathlib.Core.Bool.{Bool, true, false}
-use mathlib.Core.Option.{Option, none, some}
+use Rattle.std.specs.Prelude.{Option, None, Some}
 use mathlib.Core.List.{List, [], ◌∷◌, ◌++◌, map}
 use Prim.Native.Nat.{ℕ, ◌+◌, ◌-◌, ◌*◌, ◌≤◌}
 use native.Mathlib.Omega.{arith}
@@ -170,11 +170,11 @@ module _ {r : Read} {s : Scan} {n : ℕ} {symbols cells : List ℕ} (held : Hold
 -- ---- a line more
 
 module _ (r : Read) (line : List ℕ) where
-  pub line-none : record_of line ≡ none → with_line r line ≡ none
+  pub line-none : record_of line ≡ None → with_line r line ≡ None
   unfolding with_line on_option
   line-none e = rw e
 
-  pub line-is : (found : Record) → record_of line ≡ some found → with_line r line ≡ with_record r found
+  pub line-is : (found : Record) → record_of line ≡ Some found → with_line r line ≡ with_record r found
   unfolding with_line on_option
   line-is found e = rw e
 

@@ -2,7 +2,7 @@
 use Rattle.std.specs.Prelude.{if◌then◌else◌}
 use mathlib.Core.Path.{◌≡◌, refl, ◌∙◌}
 use mathlib.Core.Bool.{Bool, true, false}
-use mathlib.Core.Option.{none}
+use Rattle.std.specs.Prelude.{None}
 use mathlib.Core.List.{List, []}
 use Prim.Native.Nat.{ℕ, ◌+◌, ◌≤◌, ◌<◌}
 use native.Mathlib.Omega.{arith}
@@ -105,7 +105,7 @@ module _ {text : List ℕ} {whole : Bool} {from line : ℕ} {s : Scan} {symbols 
           pub line-broken : x ≡ Broken → Scans (read_lines whole 1 nothing (parts lf text)) (Malformed line) symbols' cells'
           unfolding Scans Follows on_option
           line-broken k =
-              let g : with_line at.so_far (take e (rest_of text from)) ≡ none = rw k at (f at.so_far from at.held) in
+              let g : with_line at.so_far (take e (rest_of text from)) ≡ None = rw k at (f at.so_far from at.held) in
               one_line ∙ rw g
 
           pub line_read : {more : Scan} → x ≡ Next more → Reached text whole (from + (e + 1)) (line + 1) more symbols' cells'

@@ -2,7 +2,7 @@
 use Rattle.std.specs.Prelude.{if◌then◌else◌}
 use mathlib.Core.Path.{◌≡◌, refl, ap, ◌∙◌}
 use mathlib.Core.Bool.{true, false}
-use mathlib.Core.Option.{Option, none, some}
+use Rattle.std.specs.Prelude.{Option, None, Some}
 use mathlib.Core.List.{List, [], ◌∷◌}
 use Prim.Native.Nat.{ℕ, suc, ◌+◌, ◌≤◌, ◌<◌}
 use native.Mathlib.Numerals.{add-one}
@@ -11,7 +11,7 @@ use lib.Dec.{leb}
 use lib.ListN.{length, get_or, take, drop}
 use borrow.Author.Tests.{lt-leb, le-leb, leb-true, ne_eqb}
 use Rattle.units.specs.Choice.{some_if, on_option}
-use Rattle.units.proofs.Choices.{and_both, not_left, not_right, none-if, some-if, if_some, none≢some, if-true, if-false, if-all}
+use Rattle.units.proofs.Choices.{and_both, not_left, not_right, none-if, some-if, if_some, None≢Some, if-true, if-false, if-all}
 use Rattle.text.specs.Words.{word_plan, word_cal, word_task}
 use Rattle.text.specs.Fields.{tab, parts, first_at, same}
 use Rattle.text.specs.Numbers.{numbers_of}
@@ -25,25 +25,25 @@ use Rattle.plan_format.specs.Records.{Record, plan_record, cal_record, task_reco
 -- ---- cal
 
 module _ (fields : List ℕ) where
-  pub cal-more : (first_at tab fields ≡ length fields → ⊥) → cal_of (parts tab fields) ≡ none
+  pub cal-more : (first_at tab fields ≡ length fields → ⊥) → cal_of (parts tab fields) ≡ None
   unfolding cal_of
   cal-more h =
       let (ps, s) = parts_first tab (drop (suc (first_at tab fields)) fields) in
       rw (parts_more tab fields (omega (arith, first-within tab fields, h)), s)
       (none-if _ _ (not_left _ _ (ne_eqb (suc (suc (length ps))) 1 (λ e. omega arith))))
 
-  pub cal-empty : first_at tab fields ≡ length fields → length fields < 1 → cal_of (parts tab fields) ≡ none
+  pub cal-empty : first_at tab fields ≡ length fields → length fields < 1 → cal_of (parts tab fields) ≡ None
   unfolding cal_of
   cal-empty h k = rw (parts_last tab fields h) (none-if _ _ (not_right _ _ (lt-leb 1 (length fields) k)))
 
-  pub cal-is : first_at tab fields ≡ length fields → 1 ≤ length fields → cal_of (parts tab fields) ≡ some (cal_record fields)
+  pub cal-is : first_at tab fields ≡ length fields → 1 ≤ length fields → cal_of (parts tab fields) ≡ Some (cal_record fields)
   unfolding cal_of
   cal-is h k = rw (parts_last tab fields h) (some-if _ _ (and_both _ _ refl (le-leb 1 (length fields) k)))
 
 -- ---- numbers, so many or more
 
 module _ (fields : List (List ℕ)) (least : ℕ) where
-  pub numbers-none : numbers_of fields ≡ none → numbers_if least fields ≡ none
+  pub numbers-none : numbers_of fields ≡ None → numbers_if least fields ≡ None
   unfolding numbers_if on_option
   numbers-none e = rw e
 
@@ -52,17 +52,17 @@ module _ (fields : List (List ℕ)) (least : ℕ) where
     unfolding numbers_if on_option
     asked = rw (made.are, made.counted)
 
-    pub numbers-few : n < least → numbers_if least fields ≡ none
+    pub numbers-few : n < least → numbers_if least fields ≡ None
     numbers-few h = asked ∙ none-if _ _ (lt-leb least n h)
 
     pub numbers-enough : least ≤ n → Gathers (numbers_if least fields) n cells
     numbers-enough h = record { numbers = made.numbers; are = asked ∙ some-if _ _ (le-leb least n h); counted = made.counted; kept = made.kept }
 
   -- as many as were asked for
-  count-is : (o : Option (List ℕ)) (ns : List ℕ) → on_option o none (λ ns. some_if (leb least (length ns)) ns) ≡ some ns → least ≤ length ns
+  count-is : (o : Option (List ℕ)) (ns : List ℕ) → on_option o None (λ ns. some_if (leb least (length ns)) ns) ≡ Some ns → least ≤ length ns
   unfolding on_option
-  count-is none ns e = none≢some e
-  count-is (some ms) ns e =
+  count-is None ns e = None≢Some e
+  count-is (Some ms) ns e =
       let (t, q) = if_some _ ms ns e in
       let size : length ms ≡ length ns = ap length q in
       omega (arith, leb-true least (length ms) t)
@@ -78,7 +78,7 @@ module _ (fields : List (List ℕ)) (least : ℕ) where
 -- ---- plan and task
 
 module _ (fields : List (List ℕ)) where
-  pub plan-none : numbers_if 1 fields ≡ none → plan_of fields ≡ none
+  pub plan-none : numbers_if 1 fields ≡ None → plan_of fields ≡ None
   unfolding plan_of on_option
   plan-none e = rw e
 
@@ -86,7 +86,7 @@ module _ (fields : List (List ℕ)) where
   unfolding Finds plan_of on_option
   plan-is bytes found = (found.numbers, rw found.are, count-least fields 1 found, begin fields 1 found)
 
-  pub task-none : numbers_if 2 fields ≡ none → task_of fields ≡ none
+  pub task-none : numbers_if 2 fields ≡ None → task_of fields ≡ None
   unfolding task_of on_option
   task-none e = rw e
 
@@ -97,30 +97,30 @@ module _ (fields : List (List ℕ)) where
 -- ---- by the first field
 
 -- no field follows the first
-plan-bare : plan_of [] ≡ none
-unfolding plan_of numbers_if numbers_of on_option some_if
+plan-bare : plan_of [] ≡ None
+unfolding plan_of numbers_if numbers_of on_option
 plan-bare = refl
 
-cal-bare : cal_of [] ≡ none
+cal-bare : cal_of [] ≡ None
 unfolding cal_of
 cal-bare = none-if _ _ (not_left _ _ refl)
 
-task-bare : task_of [] ≡ none
-unfolding task_of numbers_if numbers_of on_option some_if
+task-bare : task_of [] ≡ None
+unfolding task_of numbers_if numbers_of on_option
 task-bare = refl
 
 module _ (bytes : List ℕ) where
   -- a line of one field
-  pub record-one : first_at tab bytes ≡ length bytes → record_of bytes ≡ none
+  pub record-one : first_at tab bytes ≡ length bytes → record_of bytes ≡ None
   unfolding record_of by_word
   record-one h =
       rw (parts_last tab bytes h)
-      (if-all (λ (o : Option Record). o ≡ none) (same bytes word_plan) (plan_of [])
-      (if same bytes word_cal then cal_of [] else (if same bytes word_task then task_of [] else none))
+      (if-all (λ (o : Option Record). o ≡ None) (same bytes word_plan) (plan_of [])
+      (if same bytes word_cal then cal_of [] else (if same bytes word_task then task_of [] else None))
       (λ e. plan-bare)
-      (λ e. if-all (λ (o : Option Record). o ≡ none) (same bytes word_cal) (cal_of []) (if same bytes word_task then task_of [] else none)
+      (λ e. if-all (λ (o : Option Record). o ≡ None) (same bytes word_cal) (cal_of []) (if same bytes word_task then task_of [] else None)
       (λ e. cal-bare)
-      (λ e. if-all (λ (o : Option Record). o ≡ none) (same bytes word_task) (task_of []) none (λ e. task-bare) (λ e. refl))))
+      (λ e. if-all (λ (o : Option Record). o ≡ None) (same bytes word_task) (task_of []) None (λ e. task-bare) (λ e. refl))))
 
   module _ (end : ℕ) (p : end ≡ first_at tab bytes) (h : end < length bytes) where
     split : record_of bytes ≡ by_word (take end bytes ∷ parts tab (drop (end + 1) bytes))
@@ -142,25 +142,25 @@ module _ (bytes : List ℕ) where
     record-task d k e = split ∙ if-false _ _ _ d ∙ if-false _ _ _ k ∙ if-true _ _ _ e
 
     pub record-other : same (take end bytes) word_plan ≡ false → same (take end bytes) word_cal ≡ false → same (take end bytes) word_task ≡ false
-        → record_of bytes ≡ none
+        → record_of bytes ≡ None
     unfolding by_word
     record-other d k e = split ∙ if-false _ _ _ d ∙ if-false _ _ _ k ∙ if-false _ _ _ e
 
 -- ---- what is found, once it is known which
 
 module _ (o : Option Record) (bytes cells : List ℕ) (x : LineRecord) (finds : Finds o x bytes cells) where
-  pub finds-other : x ≡ line.Other → o ≡ none
+  pub finds-other : x ≡ line.Other → o ≡ None
   unfolding Finds
   finds-other e = rw e at finds
 
-  pub finds-plan : (n : ℕ) → x ≡ line.Plan n → (ns : List ℕ) × (o ≡ some (plan_record (get_or ns 0 0) (drop 1 ns))) × (1 ≤ n) × Begin ns n cells
+  pub finds-plan : (n : ℕ) → x ≡ line.Plan n → (ns : List ℕ) × (o ≡ Some (plan_record (get_or ns 0 0) (drop 1 ns))) × (1 ≤ n) × Begin ns n cells
   unfolding Finds
   finds-plan n e = rw e at finds
 
-  pub finds-cal : (from : ℕ) → x ≡ line.Cal from → (o ≡ some (cal_record (drop from bytes))) × (from ≤ length bytes)
+  pub finds-cal : (from : ℕ) → x ≡ line.Cal from → (o ≡ Some (cal_record (drop from bytes))) × (from ≤ length bytes)
   unfolding Finds
   finds-cal from e = rw e at finds
 
-  pub finds-task : (n : ℕ) → x ≡ line.Task n → (ns : List ℕ) × (o ≡ some (task_record ns)) × (2 ≤ n) × Begin ns n cells
+  pub finds-task : (n : ℕ) → x ≡ line.Task n → (ns : List ℕ) × (o ≡ Some (task_record ns)) × (2 ≤ n) × Begin ns n cells
   unfolding Finds
   finds-task n e = rw e at finds

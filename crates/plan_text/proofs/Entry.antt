@@ -1,7 +1,7 @@
 -- Laws of what reading a plan leaves, from what the code keeps of its text. Assumes nothing.
 use mathlib.Core.Path.{◌≡◌, sym, ap, ◌∙◌}
 use mathlib.Core.Bool.{true}
-use mathlib.Core.Option.{none}
+use Rattle.std.specs.Prelude.{None}
 use mathlib.Core.List.{List}
 use Prim.Native.Nat.{ℕ}
 use Rattle.units.specs.Cells.{written}
@@ -33,7 +33,7 @@ module _ (rs cs ts ws ks bs : List ℕ) where
   module _ {r : Read} {s : Scan} {n : ℕ} {symbols cells : List ℕ} (held : Holds r s n symbols cells) (heights : List ℕ)
       (gathered : Gathered s.rooms s.tasks cells heights)
     where
-      pub passed : {rs' cs' ts' ws' ks' bs' : List ℕ} → is_enough rs cs ts ws ks bs ≡ true → none ≡ read_fault true r
+      pub passed : {rs' cs' ts' ws' ks' bs' : List ℕ} → is_enough rs cs ts ws ks bs ≡ true → None ≡ read_fault true r
           → (rs' ≡ written (section capacities_at s.rooms cells) rs)
           × (cs' ≡ written (section 0 s.symbols symbols) cs)
           × (ts' ≡ written (section calendars_at s.tasks cells) ts)

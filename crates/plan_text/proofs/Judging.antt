@@ -1,7 +1,7 @@
 -- Laws of the tests of a plan that was read, from what is stored of it. Assumes nothing.
 use mathlib.Core.Path.{◌≡◌, refl, sym, ap, ap₂, ◌∙◌}
 use mathlib.Core.Bool.{true, false}
-use mathlib.Core.Option.{Option, none, some}
+use Rattle.std.specs.Prelude.{Option, None, Some}
 use mathlib.Core.List.{List, [], ◌∷◌}
 use Prim.Native.Nat.{ℕ, ◌*◌, ◌≤◌, ◌<◌}
 use native.Mathlib.Nat.{suc-mul, mul-le-mul}
@@ -47,20 +47,20 @@ module _ (a x y : Option Fault) where
   ends-alike : x ≡ y → (a or_else x) ≡ (a or_else y)
   ends-alike e = rw e
 
-  ends-later : x ≡ none → ((a or_else x) or_else y) ≡ (a or_else y)
+  ends-later : x ≡ None → ((a or_else x) or_else y) ≡ (a or_else y)
   ends-later e = rw e (go a)
     where
-      go : (a : Option Fault) → ((a or_else none) or_else y) ≡ (a or_else y)
-      go (some f) = unfold ◌or_else◌ in refl
-      go none = unfold ◌or_else◌ in refl
+      go : (a : Option Fault) → ((a or_else None) or_else y) ≡ (a or_else y)
+      go (Some f) = unfold ◌or_else◌ in refl
+      go None = unfold ◌or_else◌ in refl
 
 -- a plan of one room and no task: its memory is of the right size, and it is refused by its calendars alone
 pub no-task-each : one_for_each_task (0 ∷ []) [] [] [] [] ≡ true
 unfolding one_for_each_task
 no-task-each = and_both _ _ refl (and_both _ _ refl refl)
 
-counts-none : counts_fault 0 (0 ∷ []) ≡ none
-unfolding counts_fault capacity_fault first_of is_task_count is_room_count is_capacity
+counts-none : counts_fault 0 (0 ∷ []) ≡ None
+unfolding counts_fault capacity_fault first_of
 counts-none = go_on _ 5 0 _ refl ∙ go_on _ 17 0 _ (is_within 1 most_rooms 1 (omega arith) (omega arith)) ∙ else-none _ _ refl ∙ unless-true _ 10 0 refl
 
 by-calendars : (h : ℕ) (cs : List ℕ) (y : Option Fault) → (plan_fault (plan h (0 ∷ []) cs [] [] []) [] or_else y) ≡ (calendars_fault h cs or_else y)
@@ -69,16 +69,16 @@ by-calendars h cs y = ends-later _ _ _ (else-none _ _ counts-none)
 
 -- a plan whose counts are refused is refused as that one, or else by its counts
 module _ (P : Plan) (boxes : List ℕ) where
-  by-counts : (f : Fault) → counts_fault (task_count P) P.capacities ≡ some f
-      → plan_fault P boxes ≡ (plan_fault (plan P.shifts.hours (0 ∷ []) P.shifts.calendars [] [] []) [] or_else some f)
-  by-counts f e = unfold plan_fault in (ends-alike _ _ _ (else-some _ _ _ e)) ∙ sym (by-calendars P.shifts.hours P.shifts.calendars (some f))
+  by-counts : (f : Fault) → counts_fault (task_count P) P.capacities ≡ Some f
+      → plan_fault P boxes ≡ (plan_fault (plan P.shifts.hours (0 ∷ []) P.shifts.calendars [] [] []) [] or_else Some f)
+  by-counts f e = unfold plan_fault in (ends-alike _ _ _ (else-some _ _ _ e)) ∙ sym (by-calendars P.shifts.hours P.shifts.calendars (Some f))
 
   too_many : most_tasks < task_count P
-      → plan_fault P boxes ≡ (plan_fault (plan P.shifts.hours (0 ∷ []) P.shifts.calendars [] [] []) [] or_else some (fault 5 0))
+      → plan_fault P boxes ≡ (plan_fault (plan P.shifts.hours (0 ∷ []) P.shifts.calendars [] [] []) [] or_else Some (fault 5 0))
   too_many h = by-counts _ (unfold counts_fault is_task_count in (refuse _ 5 0 _ (lt-leb (task_count P) most_tasks h)))
 
   no-rooms : is_task_count (task_count P) ≡ true → is_room_count (length P.capacities) ≡ false
-      → plan_fault P boxes ≡ (plan_fault (plan P.shifts.hours (0 ∷ []) P.shifts.calendars [] [] []) [] or_else some (fault 17 0))
+      → plan_fault P boxes ≡ (plan_fault (plan P.shifts.hours (0 ∷ []) P.shifts.calendars [] [] []) [] or_else Some (fault 17 0))
   no-rooms t e = by-counts _ (unfold counts_fault in (go_on _ 5 0 _ t ∙ refuse _ 17 0 _ e))
 
 -- ---- parts for as many rooms and tasks as are stored
@@ -104,7 +104,7 @@ module _ (rooms n : ℕ) (cells : List ℕ) (few : rooms ≤ most_rooms) (l : n 
 module _ {r : Read} {s : Scan} {n : ℕ} {symbols cells : List ℕ} (held : Holds r s n symbols cells) where
   -- ---- 2 and 3, in their order
 
-  pub no-hours : is_plan_length s.hours ≡ false → some (fault 2 0) ≡ line_fault r
+  pub no-hours : is_plan_length s.hours ≡ false → Some (fault 2 0) ≡ line_fault r
   unfolding line_fault
   no-hours e = sym (refuse _ 2 0 _ (rw held.hours at e))
 
@@ -112,31 +112,31 @@ module _ {r : Read} {s : Scan} {n : ℕ} {symbols cells : List ℕ} (held : Hold
     three : is_plan_length r.hours ≡ true
     three = rw held.hours at h
 
-    pub no-calendars : is_calendar_count s.calendars ≡ false → some (fault 3 0) ≡ line_fault r
+    pub no-calendars : is_calendar_count s.calendars ≡ false → Some (fault 3 0) ≡ line_fault r
     unfolding line_fault
     no-calendars e = sym (go_on _ 2 0 _ three ∙ unless-false _ 3 0 (not_left _ _ (rw held.calendars at e)))
 
-    pub uneven : s.even ≡ false → some (fault 3 0) ≡ line_fault r
+    pub uneven : s.even ≡ false → Some (fault 3 0) ≡ line_fault r
     unfolding line_fault
     uneven e = sym (go_on _ 2 0 _ three ∙ unless-false _ 3 0 (not_right _ _ (sym held.even ∙ e)))
 
-    pub lines-pass : is_calendar_count s.calendars ≡ true → s.even ≡ true → none ≡ line_fault r
+    pub lines-pass : is_calendar_count s.calendars ≡ true → s.even ≡ true → None ≡ line_fault r
     unfolding line_fault
     lines-pass c e = sym (go_on _ 2 0 _ three ∙ unless-true _ 3 0 (and_both _ _ (rw held.calendars at c) (sym held.even ∙ e)))
 
-  pub lines-refuse : (f : Fault) → some f ≡ line_fault r → some f ≡ read_fault true r
+  pub lines-refuse : (f : Fault) → Some f ≡ line_fault r → Some f ≡ read_fault true r
   unfolding read_fault
   lines-refuse f e = sym (go_on true 31 0 _ refl ∙ else-some _ _ f (sym e))
 
   -- ---- the plan's own tests
 
-  module _ (passed : none ≡ line_fault r) where
+  module _ (passed : None ≡ line_fault r) where
     by-plan : read_fault true r ≡ plan_fault (plan_in r) (boxes_in r)
     unfolding read_fault
     by-plan = go_on true 31 0 _ refl ∙ else-none _ _ (sym passed)
 
     pub symbols-fit : s.symbols ≤ most_symbols
-    unfolding line_fault is_plan_length is_calendar_count
+    unfolding line_fault
     symbols-fit =
         let (two, rest) = neither _ _ (sym passed) in
         let lines = unless-none _ 3 0 rest in
@@ -155,22 +155,22 @@ module _ {r : Read} {s : Scan} {n : ℕ} {symbols cells : List ℕ} (held : Hold
     -- the tests of the symbols alone, and a refusal after them
     alone : (f : Fault)
         → plan_fault (plan_in r) (boxes_in r)
-        ≡ (plan_fault (plan (plan_in r).shifts.hours (0 ∷ []) (plan_in r).shifts.calendars [] [] []) [] or_else some f)
-        → (plan_fault (plan s.hours (0 ∷ []) (section 0 s.symbols symbols) [] [] []) [] or_else some f) ≡ read_fault true r
+        ≡ (plan_fault (plan (plan_in r).shifts.hours (0 ∷ []) (plan_in r).shifts.calendars [] [] []) [] or_else Some f)
+        → (plan_fault (plan s.hours (0 ∷ []) (section 0 s.symbols symbols) [] [] []) [] or_else Some f) ≡ read_fault true r
     unfolding plan_in
     alone f e =
-        ap (λ P. plan_fault P [] or_else some f) (λ k. plan (held.hours k) (0 ∷ []) (symbols-held held symbols-fit k) [] [] [])
+        ap (λ P. plan_fault P [] or_else Some f) (λ k. plan (held.hours k) (0 ∷ []) (symbols-held held symbols-fit k) [] [] [])
         ∙ sym e
         ∙ sym by-plan
 
     pub read-too-many : most_tasks < s.tasks
-        → (plan_fault (plan s.hours (0 ∷ []) (section 0 s.symbols symbols) [] [] []) [] or_else some (fault 5 0)) ≡ read_fault true r
+        → (plan_fault (plan s.hours (0 ∷ []) (section 0 s.symbols symbols) [] [] []) [] or_else Some (fault 5 0)) ≡ read_fault true r
     unfolding task_count
     read-too-many t = alone _ (too_many (plan_in r) (boxes_in r) (omega (arith, task-count held)))
 
     pub read-no-rooms : s.tasks ≤ most_tasks → is_room_count s.rooms ≡ false
-        → (plan_fault (plan s.hours (0 ∷ []) (section 0 s.symbols symbols) [] [] []) [] or_else some (fault 17 0)) ≡ read_fault true r
-    unfolding task_count is_task_count plan_in
+        → (plan_fault (plan s.hours (0 ∷ []) (section 0 s.symbols symbols) [] [] []) [] or_else Some (fault 17 0)) ≡ read_fault true r
+    unfolding task_count plan_in
     read-no-rooms t e =
         let few = le-leb (length (plan_in r).shifts.task_calendars) most_tasks (omega (arith, task-count held)) in
         alone _ (no-rooms (plan_in r) (boxes_in r) few (rw (← held.rooms) e))
@@ -181,7 +181,7 @@ module _ {r : Read} {s : Scan} {n : ℕ} {symbols cells : List ℕ} (held : Hold
     pub tasks_few : s.tasks ≤ most_tasks
     pub rooms_few : s.rooms ≤ most_rooms
 
-  pub read-passed : none ≡ read_fault true r → ReadPassed
+  pub read-passed : None ≡ read_fault true r → ReadPassed
   unfolding read_fault plan_fault task_count plan_in
   read-passed e =
       let after-31 = neither _ _ (sym e) in

@@ -2,7 +2,7 @@
 #![tactic(auto)]
 
 ghost use Rattle.std.specs.Prelude.{true, List, [], ◌∷◌, ◌≡◌, ℕ, ◌*◌, ◌≤◌, length, take};
-ghost use Rattle.std.proofs.Math.Option.{some};
+ghost use Rattle.std.specs.Prelude.{Some};
 ghost use Rattle.units.specs.Cells.{written};
 ghost use Rattle.units.specs.Choice.{◌or_else◌};
 ghost use Rattle.units.specs.Limits.{most_rooms, most_tasks, box_numbers};
@@ -147,7 +147,7 @@ fn test_stored(
 
 // The tests of H and the calendars, as in a plan of one room and no task; then a refusal.
 fn test_symbols(hours: u16, symbols: &[u8], refusal: Refusal) -> Tested
-    ensures { tested_fault result ≡ (plan_fault (plan hours (0 ∷ []) symbols.now [] [] []) [] or_else some (fault_of refusal)) }
+    ensures { tested_fault result ≡ (plan_fault (plan hours (0 ∷ []) symbols.now [] [] []) [] or_else Some (fault_of refusal)) }
 {
     let numbers = [0u16; 1];
     let room = &numbers[..];

@@ -2,7 +2,7 @@
 #![tactic(auto)]
 
 ghost use Rattle.std.specs.Prelude.{true, [], ◌∷◌, ◌++◌, ◌≡◌, ℕ, ◌+◌, ◌*◌, ◌≤◌, ◌<◌, length, get_or, take};
-ghost use Rattle.std.proofs.Math.Option.{none};
+ghost use Rattle.std.specs.Prelude.{None};
 ghost use Rattle.units.specs.Limits.{most_calendars, most_rooms, most_tasks, box_numbers};
 ghost use Rattle.text.specs.Lines.{ended};
 ghost use Rattle.text.specs.Putting.{Put};
@@ -145,7 +145,7 @@ fn text_length(
     heights: &[u16],
     boxes: &[u16],
 ) -> usize
-    requires { input_fault (plan_of hours.0 capacities calendars task_calendars work_times heights) boxes.now ≡ none }
+    requires { input_fault (plan_of hours.0 capacities calendars task_calendars work_times heights) boxes.now ≡ None }
     ensures { let P = old_plan hours.0 capacities calendars task_calendars work_times heights in
         result ≡ length (text_of_plan P boxes.now) }
 {
@@ -222,7 +222,7 @@ fn put_text(
     out: &mut [u8],
 ) -> usize
     requires { let P = plan_of hours.0 capacities calendars task_calendars work_times heights in
-        (input_fault P boxes.now ≡ none) × (length (text_of_plan P boxes.now) ≤ length out.old) }
+        (input_fault P boxes.now ≡ None) × (length (text_of_plan P boxes.now) ≤ length out.old) }
     ensures { let P = old_plan hours.0 capacities calendars task_calendars work_times heights in
         Put (text_of_plan P boxes.now) 0 out.old result out.new }
 {
@@ -251,7 +251,7 @@ fn write_passed(
     boxes: &[u16],
     out: &mut [u8],
 ) -> PlanWriting
-    requires { input_fault (plan_of hours.0 capacities calendars task_calendars work_times heights) boxes.now ≡ none }
+    requires { input_fault (plan_of hours.0 capacities calendars task_calendars work_times heights) boxes.now ≡ None }
     ensures { let P = old_plan hours.0 capacities calendars task_calendars work_times heights in
         write_end (writing_answer result) out.new ≡ write_plan P boxes.now out.old }
 {

@@ -2,7 +2,7 @@
 -- nothing.
 use mathlib.Core.Path.{◌≡◌, refl, sym, ap, ◌∙◌}
 use mathlib.Core.Bool.{true}
-use mathlib.Core.Option.{none, some}
+use Rattle.std.specs.Prelude.{None, Some}
 use mathlib.Core.List.{List, [], ◌∷◌, ◌++◌, map, append_assoc, append-nil, map-append}
 use Prim.Native.Nat.{ℕ, suc, ◌+◌, ◌-◌, ◌≤◌, ◌<◌}
 use native.Mathlib.Omega.{arith}
@@ -105,7 +105,7 @@ module _ (P : Plan) (opening kinds₀ tasks₀ hours₀ : List ℕ) (count : ℕ
   some_room l = omega arith
 
   -- a step that moves is taken
-  step-taken : (x : Step) (left : List ℕ) → next P boxes ≡ some (moves x left) → count < length kinds₀ → length tasks₀ ≡ length kinds₀
+  step-taken : (x : Step) (left : List ℕ) → next P boxes ≡ Some (moves x left) → count < length kinds₀ → length tasks₀ ≡ length kinds₀
       → length hours₀ ≡ length kinds₀
       → Taken P opening kinds₀ tasks₀ hours₀ (count + 1) left (set kinds count x.kind) (set tasks count x.task) (set hours count x.hour)
   unfolding after
@@ -124,14 +124,14 @@ module _ (P : Plan) (opening kinds₀ tasks₀ hours₀ : List ℕ) (count : ℕ
 
   -- how a run ends, where so many steps were taken before it
   module _ (n : ℕ) where
-    ends-settled : next P boxes ≡ none → Ends P n opening kinds₀ tasks₀ hours₀ (filter_end (settled_after (n + count)) boxes kinds tasks hours)
+    ends-settled : next P boxes ≡ None → Ends P n opening kinds₀ tasks₀ hours₀ (filter_end (settled_after (n + count)) boxes kinds tasks hours)
     unfolding ending_answer
     ends-settled e =
         ends_with n settled t.steps boxes
         (t.goes_on ∙ ap (resumed t.steps) (run_settled (next P) boxes _ e) ∙ ap (λ (log : List Step). ended settled log boxes) (append-nil t.steps))
         t.logs
 
-    ends-full : (a : Admitted) → next P boxes ≡ some a → length kinds₀ ≤ count
+    ends-full : (a : Admitted) → next P boxes ≡ Some a → length kinds₀ ≤ count
         → Ends P n opening kinds₀ tasks₀ hours₀ (filter_end (no_room_for (fault 32 0) (n + count)) boxes kinds tasks hours)
     unfolding ending_answer
     ends-full a e l =
@@ -143,7 +143,7 @@ module _ (P : Plan) (opening kinds₀ tasks₀ hours₀ : List ℕ) (count : ℕ
         ∙ ap (λ (log : List Step). ended no_room log boxes) (append-nil t.steps))
         t.logs
 
-    ends-stopped : (x : Step) → next P boxes ≡ some (stops x) → count < length kinds₀ → length tasks₀ ≡ length kinds₀ → length hours₀ ≡ length kinds₀
+    ends-stopped : (x : Step) → next P boxes ≡ Some (stops x) → count < length kinds₀ → length tasks₀ ≡ length kinds₀ → length hours₀ ≡ length kinds₀
         → Ends P n opening kinds₀ tasks₀ hours₀
         (filter_end (impossible_after (n + (count + 1))) boxes (set kinds count x.kind) (set tasks count x.task) (set hours count x.hour))
     unfolding ending_answer
@@ -197,7 +197,7 @@ module _ {P : Plan} {opening kinds₀ tasks₀ hours₀ : List ℕ} {count : ℕ
   settles e = ends-settled P opening kinds₀ tasks₀ hours₀ count boxes kinds tasks hours at.taken n (sym is ∙ ap (turn_of boxes) e)
 
   module _ {x : Step} {j : Judged} (found : r ≡ turn.At x j) where
-    next-is : next P boxes ≡ some (admitted_of boxes x j)
+    next-is : next P boxes ≡ Some (admitted_of boxes x j)
     next-is = sym is ∙ ap (turn_of boxes) found
 
     pub fills : length kinds ≤ count → Ends P n opening kinds₀ tasks₀ hours₀ (filter_end (no_room_for (fault 32 0) (n + count)) boxes kinds tasks hours)
@@ -209,12 +209,12 @@ module _ {P : Plan} {opening kinds₀ tasks₀ hours₀ : List ℕ} {count : ℕ
           (filter_end (impossible_after (n + (count + 1))) boxes (set kinds count x.kind) (set tasks count x.task) (set hours count x.hour))
       stops_at still =
           ends-stopped P opening kinds₀ tasks₀ hours₀ count boxes kinds tasks hours at.taken n x
-          (next-is ∙ ap some (admitted-stops boxes x j still)) (omega (arith, at.same_kinds)) at.each_task at.each_hour
+          (next-is ∙ ap Some (admitted-stops boxes x j still)) (omega (arith, at.same_kinds)) at.each_task at.each_hour
 
       -- the next turn, on the boxes and the answers once the bounds are moved
       module _ {i : ℕ} {b : Bounds} (m : j ≡ Moved i b) (there : i < task_count P) where
-        next-moves : next P boxes ≡ some (moves x (with_bounds boxes i b))
-        next-moves = next-is ∙ ap some (admitted-moves boxes x m)
+        next-moves : next P boxes ≡ Some (moves x (with_bounds boxes i b))
+        next-moves = next-is ∙ ap Some (admitted-moves boxes x m)
 
         moves_so : judge P boxes x ≡ moved (with_bounds boxes i b)
         unfolding Rightly
@@ -231,7 +231,7 @@ module _ {P : Plan} {opening kinds₀ tasks₀ hours₀ : List ℕ} {count : ℕ
               keeps = keeps-moved P boxes fits at.keeps x i b moves_so there (e, f);
               taken =
                   step-taken P opening kinds₀ tasks₀ hours₀ count boxes kinds tasks hours at.taken x boxes'
-                  (next-moves ∙ ap (λ (left : List ℕ). some (moves x left)) (sym e))
+                  (next-moves ∙ ap (λ (left : List ℕ). Some (moves x left)) (sym e))
                   (omega (arith, at.same_kinds))
                   at.each_task
                   at.each_hour;

@@ -2,7 +2,7 @@
 -- nothing.
 use mathlib.Core.Path.{◌≡◌, refl, sym, ap, ◌∙◌}
 use mathlib.Core.Bool.{Bool, true, false}
-use mathlib.Core.Option.{none, some}
+use Rattle.std.specs.Prelude.{None, Some}
 use mathlib.Core.List.{List, [], ◌∷◌}
 use Prim.Native.Nat.{ℕ, suc, ◌+◌, ◌-◌, ◌≤◌, ◌<◌}
 use native.Mathlib.Nat.{add-zero}
@@ -59,7 +59,7 @@ end-opens P n kinds tasks hours said boxes =
     rw (add-zero n, e)
 
 module _ (P : Plan) (n : ℕ) (kinds tasks hours : List ℕ) (k : ℕ) (boxes : List ℕ) where
-  pub end-done : (said : Bool) → length kinds ≤ k → end_from P n kinds tasks hours k said boxes ≡ log_end (n + k) said boxes none
+  pub end-done : (said : Bool) → length kinds ≤ k → end_from P n kinds tasks hours k said boxes ≡ log_end (n + k) said boxes None
   unfolding end_from replay_by
   end-done said l = rw (steps-done kinds tasks hours k l)
 
@@ -67,17 +67,17 @@ module _ (P : Plan) (n : ℕ) (kinds tasks hours : List ℕ) (k : ℕ) (boxes : 
     next-number : n + k + 1 ≡ n + (k + 1)
     next-number = omega arith
 
-    pub end-13 : end_from P n kinds tasks hours k true boxes ≡ log_end (n + k) true boxes (some (fault 13 (n + k)))
+    pub end-13 : end_from P n kinds tasks hours k true boxes ≡ log_end (n + k) true boxes (Some (fault 13 (n + k)))
     unfolding end_from replay_by
     end-13 = rw (steps_next kinds tasks hours k l)
 
     pub end-11 : judge P boxes (step_at kinds tasks hours k) ≡ unknown
-        → end_from P n kinds tasks hours k false boxes ≡ log_end (n + k) false boxes (some (fault 11 (n + k)))
+        → end_from P n kinds tasks hours k false boxes ≡ log_end (n + k) false boxes (Some (fault 11 (n + k)))
     unfolding end_from replay_by on_judgement
     end-11 e = rw (steps_next kinds tasks hours k l, e)
 
     pub end-12 : judge P boxes (step_at kinds tasks hours k) ≡ not_admitted
-        → end_from P n kinds tasks hours k false boxes ≡ log_end (n + k) false boxes (some (fault 12 (n + k)))
+        → end_from P n kinds tasks hours k false boxes ≡ log_end (n + k) false boxes (Some (fault 12 (n + k)))
     unfolding end_from replay_by on_judgement
     end-12 e = rw (steps_next kinds tasks hours k l, e)
 
@@ -92,11 +92,11 @@ module _ (P : Plan) (n : ℕ) (kinds tasks hours : List ℕ) (k : ℕ) (boxes : 
     end-moves left e = rw (steps_next kinds tasks hours k l, e, next-number)
 
 -- what an end answers
-pub answers-refused : (e : LogEnd) {k : ℕ} {said : Bool} {boxes : List ℕ} {f : Fault} → e ≡ log_end k said boxes (some f) → refused f ≡ check_answer e
+pub answers-refused : (e : LogEnd) {k : ℕ} {said : Bool} {boxes : List ℕ} {f : Fault} → e ≡ log_end k said boxes (Some f) → refused f ≡ check_answer e
 unfolding check_answer answer_unless
 answers-refused e q = rw q
 
-pub answers-accepted : (e : LogEnd) {k : ℕ} {said : Bool} {boxes : List ℕ} → e ≡ log_end k said boxes none
+pub answers-accepted : (e : LogEnd) {k : ℕ} {said : Bool} {boxes : List ℕ} → e ≡ log_end k said boxes None
     → answered (record { steps = k; impossible = said }) ≡ check_answer e
 unfolding check_answer answer_unless
 answers-accepted e q = rw q

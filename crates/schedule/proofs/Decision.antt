@@ -1,6 +1,6 @@
 -- The schedule checker accepts exactly the feasible schedules, with the makespan. Assumes nothing.
 use mathlib.Core.Path.{◌≡◌, refl, ◌∙◌}
-use mathlib.Core.Option.{Option, none, some}
+use Rattle.std.specs.Prelude.{Option, None, Some}
 use mathlib.Core.List.{List}
 use Prim.Native.Nat.{ℕ}
 use native.Mathlib.Omega.{arith}
@@ -15,12 +15,12 @@ use Rattle.schedule.proofs.Readiness.{InputPasses}
 use Rattle.schedule.proofs.Feasibility.{faultless-feasible, feasible-faultless}
 
 -- an answer means that there is no fault
-answered-faultless : {A : Type 0} (o : Option Fault) (a m : A) → answer_unless o a ≡ answered m → (o ≡ none) × (m ≡ a)
+answered-faultless : {A : Type 0} (o : Option Fault) (a m : A) → answer_unless o a ≡ answered m → (o ≡ None) × (m ≡ a)
 unfolding answer_unless
-answered-faultless none a m e = (refl, cc)
-answered-faultless (some f) a m e = absurd (let z : ◌≡◌ {A = ℕ} 0 1 = cc in omega arith)
+answered-faultless None a m e = (refl, cc)
+answered-faultless (Some f) a m e = absurd (let z : ◌≡◌ {A = ℕ} 0 1 = cc in omega arith)
 
-faultless-answered : {A : Type 0} (o : Option Fault) (a m : A) → o ≡ none → m ≡ a → answer_unless o a ≡ answered m
+faultless-answered : {A : Type 0} (o : Option Fault) (a m : A) → o ≡ None → m ≡ a → answer_unless o a ≡ answered m
 unfolding answer_unless
 faultless-answered o a m e q = rw (e, q)
 
@@ -30,24 +30,24 @@ module _ (P : Plan) (boxes schedule : List ℕ) where
     pub input : InputPasses P boxes schedule
     pub feasible : Feasible P boxes (triple_at schedule)
 
-  pub faultless : check_fault P boxes schedule ≡ none → Faultless
+  pub faultless : check_fault P boxes schedule ≡ None → Faultless
   unfolding check_fault
   faultless e =
       let (one, rest) = neither _ _ e in
       let (plan, tests) = neither _ _ rest in
       record { input = record { size = unless-none _ 31 0 one; passes = plan }; feasible = faultless-feasible P boxes _ tests }
 
-  no-fault : Faultless → check_fault P boxes schedule ≡ none
+  no-fault : Faultless → check_fault P boxes schedule ≡ None
   unfolding check_fault
   no-fault f = go_on _ 31 0 _ f.input.size ∙ else-none _ _ f.input.passes ∙ feasible-faultless P boxes _ f.feasible
 
   -- ---- the answer, by what the tests find
 
-  pub accepts : check_fault P boxes schedule ≡ none → check_schedule P boxes schedule ≡ answered (makespan P (triple_at schedule))
+  pub accepts : check_fault P boxes schedule ≡ None → check_schedule P boxes schedule ≡ answered (makespan P (triple_at schedule))
   unfolding check_schedule
   accepts e = faultless-answered _ _ _ e refl
 
-  pub refuses : (f : Fault) → check_fault P boxes schedule ≡ some f → check_schedule P boxes schedule ≡ refused f
+  pub refuses : (f : Fault) → check_fault P boxes schedule ≡ Some f → check_schedule P boxes schedule ≡ refused f
   unfolding check_schedule answer_unless
   refuses f e = rw e
 

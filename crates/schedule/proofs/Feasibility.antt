@@ -1,7 +1,7 @@
 -- The schedule's tests find no fault exactly with the feasible schedules. Assumes nothing.
 use mathlib.Core.Path.{◌≡◌, ◌∙◌}
 use mathlib.Core.Bool.{true}
-use mathlib.Core.Option.{none}
+use Rattle.std.specs.Prelude.{None}
 use mathlib.Core.List.{List}
 use Prim.Native.Nat.{ℕ, ◌≤◌, ◌<◌}
 use borrow.Author.Tests.{leb-true, le-leb}
@@ -15,16 +15,16 @@ use Rattle.schedule.specs.Schedule.{running, Feasible}
 use Rattle.schedule.specs.Entry.{one_triple_fault, triple_fault, room_fault, hour_fault, schedule_fault}
 
 module _ (P : Plan) (boxes : List ℕ) (σ : ℕ → Triple) where
-  triple-passed : (i : ℕ) → triple_fault P.shifts boxes σ i ≡ none
+  triple-passed : (i : ℕ) → triple_fault P.shifts boxes σ i ≡ None
       → (in_bounds (bounds_at boxes i) (σ i) ≡ true) × (valid_triple (calendar_of P.shifts i) (work_time_of P.shifts i) (σ i) ≡ true)
   unfolding triple_fault one_triple_fault
   triple-passed i e = let (a, b) = neither _ _ e in (unless-none _ 14 i a, unless-none _ 15 i b)
 
-  hour-passed : (t : ℕ) → hour_fault P σ t ≡ none → (room : ℕ) → room < room_count P → running P room σ t ≤ capacity_of P room
+  hour-passed : (t : ℕ) → hour_fault P σ t ≡ None → (room : ℕ) → room < room_count P → running P room σ t ≤ capacity_of P room
   unfolding hour_fault room_fault
   hour-passed t e room l = leb-true _ _ (unless-none _ 16 t (first-none _ _ e room l))
 
-  pub faultless-feasible : schedule_fault P boxes σ ≡ none → Feasible P boxes σ
+  pub faultless-feasible : schedule_fault P boxes σ ≡ None → Feasible P boxes σ
   unfolding schedule_fault
   faultless-feasible e =
       let (tasks, hours) = neither _ _ e in
@@ -35,15 +35,15 @@ module _ (P : Plan) (boxes : List ℕ) (σ : ℕ → Triple) where
       }
 
   no-triple-fault : (i : ℕ) → in_bounds (bounds_at boxes i) (σ i) ≡ true → valid_triple (calendar_of P.shifts i) (work_time_of P.shifts i) (σ i) ≡ true
-      → triple_fault P.shifts boxes σ i ≡ none
+      → triple_fault P.shifts boxes σ i ≡ None
   unfolding triple_fault one_triple_fault
   no-triple-fault i h v = else-none _ _ (unless-true _ 14 i h) ∙ unless-true _ 15 i v
 
-  no-hour-fault : (t : ℕ) → ((room : ℕ) → room < room_count P → running P room σ t ≤ capacity_of P room) → hour_fault P σ t ≡ none
+  no-hour-fault : (t : ℕ) → ((room : ℕ) → room < room_count P → running P room σ t ≤ capacity_of P room) → hour_fault P σ t ≡ None
   unfolding hour_fault room_fault
   no-hour-fault t h = first-all-none _ (room_count P) (λ room l. unless-true _ 16 t (le-leb _ _ (h room l)))
 
-  pub feasible-faultless : Feasible P boxes σ → schedule_fault P boxes σ ≡ none
+  pub feasible-faultless : Feasible P boxes σ → schedule_fault P boxes σ ≡ None
   unfolding schedule_fault
   feasible-faultless F =
       else-none _ _ (first-all-none _ (task_count P) (λ i l. no-triple-fault i (F.inside i l) (F.fits i l)))

@@ -1,6 +1,6 @@
 -- The schedule checker as an entry point (01, "Refused because of the input", and the order below it; rooms: 02, W-202).
 use Rattle.std.specs.Prelude.{Bool, List, ℕ, ◌*◌, leb, eqb, length}
-use Rattle.std.proofs.Math.Option.{Option}
+use Rattle.std.specs.Prelude.{Option}
 use Rattle.units.specs.Choice.{◌and◌, ◌or_else◌, first_of}
 use Rattle.plan.specs.Plan.{Shifts, Plan, room_count, task_count, calendar_of, work_time_of, capacity_of}
 use Rattle.plan.specs.Boxes.{bounds_at}

@@ -1,13 +1,13 @@
 -- Laws of the replay of a log in parts: a log and then another, step numbers from another number on, and how far a log goes. Assumes nothing.
 use mathlib.Core.Path.{◌≡◌, refl, sym}
 use mathlib.Core.Bool.{Bool, true, false}
-use mathlib.Core.Option.{none, some}
+use Rattle.std.specs.Prelude.{None, Some}
 use mathlib.Core.List.{List, [], ◌∷◌, ◌++◌}
 use Prim.Native.Nat.{ℕ, suc, ◌+◌, ◌≤◌}
 use native.Mathlib.Omega.{arith}
 use lib.ListN.{length}
 use Rattle.units.specs.Choice.{on_option}
-use Rattle.units.proofs.Choices.{none≢some}
+use Rattle.units.proofs.Choices.{None≢Some}
 use Rattle.plan.specs.Plan.{Plan}
 use Rattle.plan.specs.Refusals.{Fault, fault}
 use Rattle.steps.specs.declared.Step.{Step}
@@ -38,11 +38,11 @@ module _ (P : Plan) where
       on-each ys (judge P boxes x) _ _ _ _ _ _ refl refl (replay-append (k + 1) true boxes xs ys) (λ left. replay-append (k + 1) false left xs ys)
 
   module _ (e : LogEnd) (ys : List Step) where
-    pub goes_on : e.refusal ≡ none → gone_on e ys ≡ replay_from P e.steps e.impossible e.boxes ys
+    pub goes_on : e.refusal ≡ None → gone_on e ys ≡ replay_from P e.steps e.impossible e.boxes ys
     unfolding gone_on on_option
     goes_on q = rw q
 
-    pub ends_there : (f : Fault) → e.refusal ≡ some f → gone_on e ys ≡ e
+    pub ends_there : (f : Fault) → e.refusal ≡ Some f → gone_on e ys ≡ e
     unfolding gone_on on_option
     ends_there f q = rw q
 
@@ -51,16 +51,16 @@ module _ (P : Plan) where
   -- an end of n steps from step k on
   pub record Reaches (k n : ℕ) (e : LogEnd) : Type 0 where
     pub most : e.steps ≤ k + n
-    pub all : e.refusal ≡ none → e.steps ≡ k + n
+    pub all : e.refusal ≡ None → e.steps ≡ k + n
     -- a refusal is of the step at the end: 11, 12 or 13
-    pub at_end : (f : Fault) → e.refusal ≡ some f → (11 ≤ f.number) × (f.number ≤ 13) × (f.place ≡ e.steps)
+    pub at_end : (f : Fault) → e.refusal ≡ Some f → (11 ≤ f.number) × (f.number ≤ 13) × (f.place ≡ e.steps)
 
   refused-there : (k n : ℕ) (said : Bool) (boxes : List ℕ) (number : ℕ) → 11 ≤ number → number ≤ 13
-      → Reaches k n (log_end k said boxes (some (fault number k)))
+      → Reaches k n (log_end k said boxes (Some (fault number k)))
   refused-there k n said boxes number l m =
       record {
         most = omega arith;
-        all = λ e. none≢some (sym e);
+        all = λ e. None≢Some (sym e);
         at_end = λ f e. let q : fault number k ≡ f = cc in
             (rw (← q) l, rw (← q) m, rw (← q) refl);
       }
@@ -70,7 +70,7 @@ module _ (P : Plan) where
 
   pub replay-reaches : (k : ℕ) (said : Bool) (boxes : List ℕ) (xs : List Step) → Reaches k (length xs) (replay_from P k said boxes xs)
   unfolding replay_by
-  replay-reaches k said boxes [] = record { most = omega arith; all = λ e. omega arith; at_end = λ f e. none≢some e }
+  replay-reaches k said boxes [] = record { most = omega arith; all = λ e. omega arith; at_end = λ f e. None≢Some e }
   replay-reaches k true boxes (x ∷ xs) = refused-there k _ true boxes 13 (omega arith) (omega arith)
   replay-reaches k false boxes (x ∷ xs) =
       judgement-all (Reaches k (length (x ∷ xs))) (judge P boxes x) _ _ _ _

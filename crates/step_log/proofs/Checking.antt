@@ -1,7 +1,7 @@
 -- Laws of the log checker in parts: the core's answer for a part as the log's, and the loop over the parts. Assumes nothing.
 use mathlib.Core.Path.{◌≡◌, refl, sym, ap, ◌∙◌, subst}
 use mathlib.Core.Bool.{Bool, true, false, false≢true}
-use mathlib.Core.Option.{Option, none, some}
+use Rattle.std.specs.Prelude.{Option, None, Some}
 use mathlib.Core.List.{List, ◌++◌}
 use Prim.Native.Nat.{ℕ, ◌+◌, ◌-◌, ◌≤◌, ◌<◌, min}
 use native.Mathlib.Omega.{arith}
@@ -9,7 +9,7 @@ use lib.ListN.{length, take, drop, take-append-drop, length-take, length-drop}
 use lib.Seq.{length-take-le, take_all, drop-drop}
 use borrow.Author.Tests.{leb-true, leb-false}
 use Rattle.units.specs.Choice.{on_option}
-use Rattle.units.proofs.Choices.{none≢some}
+use Rattle.units.proofs.Choices.{None≢Some}
 use Rattle.plan.specs.Plan.{Plan}
 use Rattle.plan.specs.Refusals.{Fault, Answer, refused, answered, answer_unless, fault_of}
 use Rattle.plan.specs.Faults.{input_fault}
@@ -33,27 +33,27 @@ use Rattle.step_log.proofs.Appending.{replay-append, goes_on, ends_there, replay
 -- ---- an answer and the end that it is of
 
 -- what a refusal and an acceptance say of the end
-pub refused_end : (e : LogEnd) (f : Fault) → refused f ≡ check_answer e → e.refusal ≡ some f
+pub refused_end : (e : LogEnd) (f : Fault) → refused f ≡ check_answer e → e.refusal ≡ Some f
 unfolding check_answer answer_unless
 refused_end e f q = go e.refusal q
   where
-    go : (o : Option Fault) → ◌≡◌ {A = Answer Accepted} (refused f) (answer_unless o (record { steps = e.steps; impossible = e.impossible })) → o ≡ some f
-    go none r = refused≢answered r
-    go (some g) r = cc
+    go : (o : Option Fault) → ◌≡◌ {A = Answer Accepted} (refused f) (answer_unless o (record { steps = e.steps; impossible = e.impossible })) → o ≡ Some f
+    go None r = refused≢answered r
+    go (Some g) r = cc
 
 pub accepted-end : (e : LogEnd) (k : ℕ) (said : Bool) → answered (record { steps = k; impossible = said }) ≡ check_answer e
-    → (e.refusal ≡ none) × (k ≡ e.steps) × (said ≡ e.impossible)
+    → (e.refusal ≡ None) × (k ≡ e.steps) × (said ≡ e.impossible)
 unfolding check_answer answer_unless
 accepted-end e k said q = go e.refusal q
   where
     go : (o : Option Fault)
         → ◌≡◌ {A = Answer Accepted} (answered (record { steps = k; impossible = said }))
         (answer_unless o (record { steps = e.steps; impossible = e.impossible }))
-        → (o ≡ none) × (k ≡ e.steps) × (said ≡ e.impossible)
-    go none r =
+        → (o ≡ None) × (k ≡ e.steps) × (said ≡ e.impossible)
+    go None r =
         let z : ◌≡◌ {A = Accepted} (record { steps = k; impossible = said }) (record { steps = e.steps; impossible = e.impossible }) = cc in
         (refl, ap (λ (a : Accepted). a.steps) z, ap (λ (a : Accepted). a.impossible) z)
-    go (some g) r = refused≢answered (sym r)
+    go (Some g) r = refused≢answered (sym r)
 
 -- ---- the core's faults, lent the first cells of three arrays
 
@@ -67,11 +67,11 @@ lent-fault P boxes ks ts hs n l m o =
 
 module _ (P : Plan) (boxes : List ℕ) (k : ℕ) (said : Bool) (steps : List Step) where
   -- a plan that passes: the end is the log's
-  pub from-passed : input_fault P boxes ≡ none → check_steps_from P k said boxes steps ≡ replay_from P k said boxes steps
+  pub from-passed : input_fault P boxes ≡ None → check_steps_from P k said boxes steps ≡ replay_from P k said boxes steps
   unfolding check_steps_from on_option
   from-passed e = rw e
 
-  from-refused : (f : Fault) → input_fault P boxes ≡ some f → check_steps_from P k said boxes steps ≡ log_end 0 false boxes (some f)
+  from-refused : (f : Fault) → input_fault P boxes ≡ Some f → check_steps_from P k said boxes steps ≡ log_end 0 false boxes (Some f)
   unfolding check_steps_from on_option
   from-refused f e = rw e
 
@@ -83,7 +83,7 @@ checked-as e count (checked.Refused r) left p q =
       answers = p;
       leaves = q;
       goes_on = λ m. absurd (false≢true m);
-      ends = λ m n. none≢some (sym n ∙ refused_end e (fault_of r) p);
+      ends = λ m n. None≢Some (sym n ∙ refused_end e (fault_of r) p);
     }
 checked-as e count (checked.Accepted k said) left p q =
     let (s, t, u) = accepted-end e k said p in
@@ -127,7 +127,7 @@ module _ (P : Plan) (boxes : List ℕ) (from : ℕ) (said : Bool) (part : Part) 
 
 -- the rest of a log, after a part of n steps from step k on that is accepted
 pub record Rest (P : Plan) (k n : ℕ) (ys : List Step) (whole end : LogEnd) : Type 0 where
-  pub passes : input_fault P end.boxes ≡ none
+  pub passes : input_fault P end.boxes ≡ None
   pub all : end.steps ≡ k + n
   pub rest : check_steps_from P end.steps end.impossible end.boxes ys ≡ whole
 
@@ -138,16 +138,16 @@ module _ (P : Plan) (k : ℕ) (said : Bool) (boxes : List ℕ) (xs ys : List Ste
   abbrev whole : LogEnd
   whole = check_steps_from P k said boxes (xs ++ ys)
 
-  pub part-accepted : end.refusal ≡ none → Rest P k (length xs) ys whole end
+  pub part-accepted : end.refusal ≡ None → Rest P k (length xs) ys whole end
   part-accepted a = go (input_fault P boxes) refl
     where
       go : (o : Option Fault) → input_fault P boxes ≡ o → Rest P k (length xs) ys whole end
-      go (some f) e = none≢some (sym a ∙ ap (λ (l : LogEnd). l.refusal) (from-refused P boxes k said xs f e))
-      go none e =
+      go (Some f) e = None≢Some (sym a ∙ ap (λ (l : LogEnd). l.refusal) (from-refused P boxes k said xs f e))
+      go None e =
           let is = from-passed P boxes k said xs e in
           let r = replay_from P k said boxes xs in
-          let none-refused : r.refusal ≡ none = ap (λ (l : LogEnd). l.refusal) (sym is) ∙ a in
-          let passes : input_fault P r.boxes ≡ none = replay-passes P k said boxes xs e in
+          let none-refused : r.refusal ≡ None = ap (λ (l : LogEnd). l.refusal) (sym is) ∙ a in
+          let passes : input_fault P r.boxes ≡ None = replay-passes P k said boxes xs e in
           subst (Rest P k (length xs) ys whole) (sym is)
           record {
             passes = passes;
@@ -157,14 +157,14 @@ module _ (P : Plan) (k : ℕ) (said : Bool) (boxes : List ℕ) (xs ys : List Ste
           }
 
   -- a part that is refused ends the log
-  pub part-refused : (f : Fault) → end.refusal ≡ some f → end ≡ whole
+  pub part-refused : (f : Fault) → end.refusal ≡ Some f → end ≡ whole
   part-refused f a = go (input_fault P boxes) refl
     where
       go : (o : Option Fault) → input_fault P boxes ≡ o → end ≡ whole
-      go (some g) e = from-refused P boxes k said xs g e ∙ sym (from-refused P boxes k said (xs ++ ys) g e)
-      go none e =
+      go (Some g) e = from-refused P boxes k said xs g e ∙ sym (from-refused P boxes k said (xs ++ ys) g e)
+      go None e =
           let is = from-passed P boxes k said xs e in
-          let some-refused : (replay_from P k said boxes xs).refusal ≡ some f = ap (λ (l : LogEnd). l.refusal) (sym is) ∙ a in
+          let some-refused : (replay_from P k said boxes xs).refusal ≡ Some f = ap (λ (l : LogEnd). l.refusal) (sym is) ∙ a in
           is ∙ sym (from-passed P boxes k said (xs ++ ys) e ∙ replay-append P k said boxes xs ys ∙ ends_there P (replay_from P k said boxes xs) ys f
           some-refused)
 
@@ -221,9 +221,9 @@ module _ (P : Plan) (opening : List ℕ) (log : List Step) (from : ℕ) (said : 
     last-part more = go part_end.refusal refl
       where
         go : (o : Option Fault) → part_end.refusal ≡ o → part_end ≡ check_steps P opening log
-        go (some f) e =
+        go (Some f) e =
             part-refused P from said boxes (part_steps steps) (drop part_size (drop from log)) f e ∙ ap (check_steps_from P from said boxes) parts ∙ g.ends
-        go none e =
+        go None e =
             let short : length (drop from log) ≤ part_size = rw (length-drop from log) (omega (arith, c.ends more e, count-is)) in
             ap (check_steps_from P from said boxes) (is ∙ take_all part_size (drop from log) short) ∙ g.ends
 

@@ -1,6 +1,6 @@
 -- The claims that the contracts over step records carry. Assumes nothing.
 use mathlib.Core.Path.{◌≡◌, refl}
-use mathlib.Core.Option.{none}
+use Rattle.std.specs.Prelude.{None}
 use mathlib.Core.List.{List}
 use Prim.Native.Nat.{ℕ}
 use lib.ListN.{length, take}
@@ -20,7 +20,7 @@ use Rattle.steps.proofs.Contracts.{first-fault, first-sized, tested-holds, no-ru
 use Rattle.steps.proofs.Claim.{LeftBy, logs-hold-by}
 use Rattle.step_log.specs.Entry.{check_steps, StepsEnd, logged_steps, filter_steps, left_steps}
 
-module _ (P : Plan) (boxes : List ℕ) (passes : input_fault P boxes ≡ none) where
+module _ (P : Plan) (boxes : List ℕ) (passes : input_fault P boxes ≡ None) where
   steps-replay : (log : List Step) → check_steps P boxes log ≡ replay P boxes log
   unfolding check_steps on_option
   steps-replay log = rw passes

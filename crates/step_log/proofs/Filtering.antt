@@ -2,7 +2,7 @@
 use mathlib.Core.Path.{◌≡◌, refl, sym, ap, ◌∙◌, subst}
 use mathlib.Core.Logic.{◌≢◌}
 use mathlib.Core.Bool.{Bool, true, false, false≢true}
-use mathlib.Core.Option.{Option, none, some}
+use Rattle.std.specs.Prelude.{Option, None, Some}
 use mathlib.Core.List.{List, [], ◌∷◌, ◌++◌, map, append_assoc}
 use Prim.Native.Nat.{ℕ, suc, ◌+◌, ◌-◌, ◌≤◌, ◌<◌, min}
 use native.Mathlib.Nat.{suc-add}
@@ -13,7 +13,7 @@ use lib.Seq.{length-take-le, take_at, drop_at, drop-drop}
 use borrow.Author.Tests.{ltb-true, ltb-false, eqb-true, eqb-false}
 use Rattle.units.specs.Choice.{on_option}
 use Rattle.units.specs.Cells.{written}
-use Rattle.units.proofs.Choices.{none≢some}
+use Rattle.units.proofs.Choices.{None≢Some}
 use Rattle.plan.specs.Plan.{Plan}
 use Rattle.plan.specs.Refusals.{Fault}
 use Rattle.plan.specs.Faults.{input_fault}
@@ -76,7 +76,7 @@ module _ (P : Plan) where
           ap (run P boxes) e ∙ run_more m (n - m) boxes (λ w. ne (omega (arith, h w)))
 
   -- the boxes that it leaves pass the tests again
-  pub run-passes : (a : ℕ) (boxes : List ℕ) → input_fault P boxes ≡ none → input_fault P (run P boxes a).boxes ≡ none
+  pub run-passes : (a : ℕ) (boxes : List ℕ) → input_fault P boxes ≡ None → input_fault P (run P boxes a).boxes ≡ None
   unfolding replay
   run-passes a boxes e =
       ap (λ (l : LogEnd). input_fault P l.boxes) (sym (run-replays P boxes a)) ∙ replay-passes P 0 false boxes (run P boxes a).log e
@@ -169,11 +169,11 @@ module _ (cells : ℕ) (l : cells ≤ part_size) where
     abbrev ran : Run
     ran = run P boxes cells
 
-    core-refused : (f : Fault) → input_fault P boxes ≡ some f → core ≡ filter_end (refused_by f) boxes (take cells blank) (take cells blank) (take cells blank)
+    core-refused : (f : Fault) → input_fault P boxes ≡ Some f → core ≡ filter_end (refused_by f) boxes (take cells blank) (take cells blank) (take cells blank)
     unfolding filter_from on_option
     core-refused f e = rw (lent-fault P boxes blank blank blank cells inside inside inside, e)
 
-    core-runs : input_fault P boxes ≡ none → core ≡ logged_from taken ran (take cells blank) (take cells blank) (take cells blank)
+    core-runs : input_fault P boxes ≡ None → core ≡ logged_from taken ran (take cells blank) (take cells blank) (take cells blank)
     unfolding filter_from on_option
     core-runs e =
         rw (lent-fault P boxes blank blank blank cells inside inside inside, e)
@@ -185,20 +185,20 @@ module _ (cells : ℕ) (l : cells ≤ part_size) where
       count-inside = go (input_fault P boxes) refl
         where
           go : (o : Option Fault) → input_fault P boxes ≡ o → taken ≤ count_of taken (filter_answer a)
-          go (some f) e = omega (arith, ap (λ (x : FilterEnd). count_of taken x.answer) (is ∙ core-refused f e))
-          go none e =
+          go (Some f) e = omega (arith, ap (λ (x : FilterEnd). count_of taken x.answer) (is ∙ core-refused f e))
+          go None e =
               omega
               (arith, ap (λ (x : FilterEnd). count_of taken x.answer) (is ∙ core-runs e), count-ending ran.ending taken (taken + count ran))
 
       module _ (room : ℕ) (few : cells ≡ min part_size (room - taken)) (f : PartFiltered)
           (made : f ≡ filtered_part a taken room (ks ++ drop cells blank) (ts ++ drop cells blank) (hs ++ drop cells blank)) where
-        made-refused : (g : Fault) → input_fault P boxes ≡ some g → RefusedAs g boxes f left
+        made-refused : (g : Fault) → input_fault P boxes ≡ Some g → RefusedAs g boxes f left
         made-refused g e =
             rw made
             (refused_as a g boxes left taken room _ _ _ (ap (λ (x : FilterEnd). x.answer) (is ∙ core-refused g e))
             (ap (λ (x : FilterEnd). x.boxes) (is ∙ core-refused g e)))
 
-        made-ran : input_fault P boxes ≡ none → RanAs ran taken room f left
+        made-ran : input_fault P boxes ≡ None → RanAs ran taken room f left
         unfolding logged_from written
         made-ran e =
             let past : List ℕ → List ℕ = λ l. drop (length l) (take cells blank) in
@@ -239,8 +239,8 @@ pub record Running (P : Plan) (opening : List ℕ) (cells : List Step) (taken : 
   pub number : length steps ≡ taken
   pub inside : taken ≤ length cells
   pub logs : log ≡ steps ++ drop taken cells
-  pub goes_on : input_fault P opening ≡ none → (input_fault P boxes ≡ none) × (run P opening (length cells) ≡ resumed steps (run P boxes (length cells - taken)))
-  pub refuses : (f : Fault) → input_fault P opening ≡ some f → (boxes ≡ opening) × (taken ≡ 0)
+  pub goes_on : input_fault P opening ≡ None → (input_fault P boxes ≡ None) × (run P opening (length cells) ≡ resumed steps (run P boxes (length cells - taken)))
+  pub refuses : (f : Fault) → input_fault P opening ≡ Some f → (boxes ≡ opening) × (taken ≡ 0)
   pub same : length boxes ≡ length opening
 
 pub running-opens : (P : Plan) (opening : List ℕ) (cells : List Step) → Running P opening cells 0 opening cells
@@ -273,9 +273,9 @@ module _ (P : Plan) (opening : List ℕ) (cells : List Step) (taken : ℕ) (boxe
     steps-inside = go (input_fault P boxes) refl
       where
         go : (o : Option Fault) → input_fault P boxes ≡ o → (taken + f.steps.count ≤ length log) × (f.steps.count ≤ part_size)
-        go (some g) e =
+        go (Some g) e =
             (omega (arith, same_log, t.inside, (c.refuses g e).number), omega (arith, (c.refuses g e).number))
-        go none e =
+        go None e =
             let fits = run_fits (next P) boxes (min part_size (room - taken)) in
             let number = (c.runs e).number in
             (omega (arith, same_log, t.inside, fits, number), omega (arith, fits, number))
@@ -294,20 +294,20 @@ module _ (P : Plan) (opening : List ℕ) (cells : List Step) (taken : ℕ) (boxe
           ∙ ap (λ (s : List Step). t.steps ++ (l ++ s)) (drop-drop (length l) taken cells)
           ∙ sym (append_assoc t.steps l (drop (taken + length l) cells))
 
-      passed-opening : input_fault P boxes ≡ none → input_fault P opening ≡ none
+      passed-opening : input_fault P boxes ≡ None → input_fault P opening ≡ None
       passed-opening e = go (input_fault P opening) refl
         where
-          go : (o : Option Fault) → input_fault P opening ≡ o → input_fault P opening ≡ none
-          go none q = q
-          go (some g) q = none≢some (sym e ∙ ap (input_fault P) (t.refuses g q).0 ∙ q)
+          go : (o : Option Fault) → input_fault P opening ≡ o → input_fault P opening ≡ None
+          go None q = q
+          go (Some g) q = None≢Some (sym e ∙ ap (input_fault P) (t.refuses g q).0 ∙ q)
 
       pub part-runs-on : length left ≡ length boxes → f.more ≡ true → Running P opening cells f.taken left new × (taken < f.taken)
       unfolding part_run
       part-runs-on kept more = go (input_fault P boxes) refl
         where
           go : (o : Option Fault) → input_fault P boxes ≡ o → Running P opening cells f.taken left new × (taken < f.taken)
-          go (some g) e = absurd (false≢true (sym (c.refuses g e).ends ∙ more))
-          go none e =
+          go (Some g) e = absurd (false≢true (sym (c.refuses g e).ends ∙ more))
+          go None e =
               let ran = c.runs e in
               let (full, number, inside) = ran.goes_on more in
               let m = min part_size (room - taken) in
@@ -328,7 +328,7 @@ module _ (P : Plan) (opening : List ℕ) (cells : List Step) (taken : ℕ) (boxe
                         ∙ ap (λ (l : List Step). ended (run P left (room - f.taken)).ending l (run P left (room - f.taken)).boxes)
                         (sym (append_assoc t.steps r.log (run P left (room - f.taken)).log)),
                   );
-                  refuses = λ g q. none≢some (sym opened ∙ q);
+                  refuses = λ g q. None≢Some (sym opened ∙ q);
                   same = kept ∙ t.same;
                 },
                 omega (arith, all, number, inside, t.inside),
@@ -339,15 +339,15 @@ module _ (P : Plan) (opening : List ℕ) (cells : List Step) (taken : ℕ) (boxe
       part-leaves more = go (input_fault P boxes) refl
         where
           go : (o : Option Fault) → input_fault P boxes ≡ o → steps_end (filter_answer f.answer) left new ≡ filter_steps P opening cells
-          go (some g) e = refused-so g e (input_fault P opening) refl
+          go (Some g) e = refused-so g e (input_fault P opening) refl
             where
-              refused-so : (g : Fault) → input_fault P boxes ≡ some g → (o : Option Fault) → input_fault P opening ≡ o
+              refused-so : (g : Fault) → input_fault P boxes ≡ Some g → (o : Option Fault) → input_fault P opening ≡ o
                   → steps_end (filter_answer f.answer) left new ≡ filter_steps P opening cells
-              refused-so g e none q = none≢some (sym (t.goes_on q).0 ∙ e)
-              refused-so g e (some h) q =
+              refused-so g e None q = None≢Some (sym (t.goes_on q).0 ∙ e)
+              refused-so g e (Some h) q =
                   let (b, z) = t.refuses h q in
                   let no_steps : t.steps ≡ [] = empty t.steps (t.number ∙ z) in
-                  let same-fault : g ≡ h = let w : some g ≡ some h = sym e ∙ ap (input_fault P) b ∙ q in cc in
+                  let same-fault : g ≡ h = let w : Some g ≡ Some h = sym e ∙ ap (input_fault P) b ∙ q in cc in
                   rw q
                   (same_end ((c.refuses g e).answers ∙ ap refused_by same-fault) ((c.refuses g e).leaves ∙ b)
                   (logs_more [] (c.refuses g e).steps
@@ -357,7 +357,7 @@ module _ (P : Plan) (opening : List ℕ) (cells : List Step) (taken : ℕ) (boxe
                   empty : (l : List Step) → length l ≡ 0 → l ≡ []
                   empty [] e = refl
                   empty (x ∷ xs) e = absurd (omega (arith, e))
-          go none e =
+          go None e =
               let ran = c.runs e in
               let opened = passed-opening e in
               let m = min part_size (room - taken) in

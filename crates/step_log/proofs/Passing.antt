@@ -1,7 +1,7 @@
 -- A plan that passes the tests passes them again with the boxes that the steps of a log leave. Assumes nothing.
 use mathlib.Core.Path.{◌≡◌}
 use mathlib.Core.Bool.{Bool, true, false}
-use mathlib.Core.Option.{none}
+use Rattle.std.specs.Prelude.{None}
 use mathlib.Core.List.{List, [], ◌∷◌}
 use Prim.Native.Nat.{ℕ, ◌+◌}
 use Rattle.plan.specs.Plan.{Plan}
@@ -16,9 +16,9 @@ use Rattle.steps.proofs.Changes.{judge-change, change-length, change-passes}
 -- with the boxes at the end of any log
 module _ (P : Plan) where
   abbrev Passes : LogEnd → Type 0
-  Passes e = input_fault P e.boxes ≡ none
+  Passes e = input_fault P e.boxes ≡ None
 
-  pub replay-passes : (k : ℕ) (said : Bool) (boxes : List ℕ) (log : List Step) → input_fault P boxes ≡ none → Passes (replay_from P k said boxes log)
+  pub replay-passes : (k : ℕ) (said : Bool) (boxes : List ℕ) (log : List Step) → input_fault P boxes ≡ None → Passes (replay_from P k said boxes log)
   unfolding replay_by
   replay-passes k said boxes [] e = e
   replay-passes k true boxes (x ∷ xs) e = e

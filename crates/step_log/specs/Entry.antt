@@ -1,7 +1,7 @@
 -- The log checker and the filter over a log that is a list of step records: what each answers and leaves in lent memory (01, "Steps", the order
 -- of refusals, and "Where each language form goes").
 use Rattle.std.specs.Prelude.{false, List, ℕ, length, take}
-use Rattle.std.proofs.Math.Option.{some}
+use Rattle.std.specs.Prelude.{Some}
 use Rattle.units.specs.Choice.{on_option}
 use Rattle.units.specs.Cells.{written}
 use Rattle.plan.specs.Plan.{Plan}
@@ -13,7 +13,7 @@ use Rattle.steps.specs.Entry.{FilterAnswer, refused_by, ending_answer, FilterLef
 
 -- The log checker: the log's end, or at once a refusal (31, then the plan's tests) that changes nothing.
 unfoldable pub check_steps : Plan → List ℕ → List Step → LogEnd
-check_steps P boxes log = on_option (input_fault P boxes) (replay P boxes log) (λ f. log_end 0 false boxes (some f))
+check_steps P boxes log = on_option (input_fault P boxes) (replay P boxes log) (λ f. log_end 0 false boxes (Some f))
 
 -- What the filter leaves: its answer, the boxes, and the log.
 pub record StepsEnd : Type 0 where

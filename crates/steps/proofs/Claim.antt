@@ -1,7 +1,7 @@
 -- The whole claim about logs holds for every plan that passes the tests, with boxes of the right number: for any log checker that replays the log
 -- and any filter that leaves what the run leaves, and so for those over three slices. Assumes nothing.
 use mathlib.Core.Path.{◌≡◌, refl, sym, subst}
-use mathlib.Core.Option.{none}
+use Rattle.std.specs.Prelude.{None}
 use mathlib.Core.List.{List}
 use Prim.Native.Nat.{ℕ}
 use lib.ListN.{length, length-map}
@@ -22,7 +22,7 @@ pub record LeftBy (r : Run) (l : FilterLeft) : Type 0 where
   pub boxes : l.boxes ≡ r.boxes
   pub log : l.first (count r) ≡ r.log
 
-module _ (P : Plan) (opening : List ℕ) (check : List Step → LogEnd) (filter : List Step → FilterLeft) (passes : input_fault P opening ≡ none)
+module _ (P : Plan) (opening : List ℕ) (check : List Step → LogEnd) (filter : List Step → FilterLeft) (passes : input_fault P opening ≡ None)
     (replays : (log : List Step) → check log ≡ replay P opening log)
     (runs : (cells : List Step) → LeftBy (run P opening (length cells)) (filter cells)) where
   filters : (cells : List Step)
@@ -35,13 +35,13 @@ module _ (P : Plan) (opening : List ℕ) (check : List Step → LogEnd) (filter 
   logs-hold-by =
       record {
         checks = λ log.
-            subst (λ (e : LogEnd). CheckedHolds P opening none log (check_answer e) e.boxes) (sym (replays log))
-            (replayed-holds P opening none log (first-sized P opening passes));
+            subst (λ (e : LogEnd). CheckedHolds P opening None log (check_answer e) e.boxes) (sym (replays log))
+            (replayed-holds P opening None log (first-sized P opening passes));
         ends = λ cells. let r = run P opening (length cells) in (r.ending, count r, (runs cells).answer);
         filters = filters;
       }
 
-module _ (P : Plan) (opening : List ℕ) (passes : input_fault P opening ≡ none) where
+module _ (P : Plan) (opening : List ℕ) (passes : input_fault P opening ≡ None) where
   left-by-run : (cells : List Step) → LeftBy (run P opening (length cells)) (filter_records P opening cells)
   unfolding filter_records left_by filter_plan on_option logged written
   left-by-run cells =

@@ -1,7 +1,7 @@
 -- The claims that the contracts of the log checker and of the filter carry, over their definitions. Assumes nothing.
 use mathlib.Core.Path.{◌≡◌, refl, sym, ap, ◌∙◌, subst}
 use mathlib.Core.Bool.{Bool, true, false, false≢true}
-use mathlib.Core.Option.{Option, none, some}
+use Rattle.std.specs.Prelude.{Option, None, Some}
 use mathlib.Core.List.{List, [], ◌∷◌, ◌++◌, map, append-nil}
 use Prim.Native.Nat.{ℕ, zero, suc, ◌+◌, ◌*◌, ◌<◌}
 use native.Mathlib.Numerals.{add-one}
@@ -10,7 +10,7 @@ use lib.ListN.{length, length-map}
 use borrow.Author.Tests.{eq-eqb, eqb-true}
 use Rattle.units.specs.Cells.{written}
 use Rattle.units.specs.Choice.{◌and◌, on_option, ◌or_else◌}
-use Rattle.units.proofs.Choices.{and_both, and_left, and_right, none≢some, option-all, neither}
+use Rattle.units.proofs.Choices.{and_both, and_left, and_right, None≢Some, option-all, neither}
 use Rattle.plan.specs.Plan.{Plan, task_count}
 use Rattle.plan.specs.Boxes.{bounds_at}
 use Rattle.plan.specs.Refusals.{Fault, fault, unless, refused, answered, answer_unless}
@@ -38,23 +38,23 @@ pub not-13 : Fault → Type 0
 not-13 f = f.number ≡ 13 → ⊥
 
 module _ (P : Plan) (boxes : List ℕ) (f : Fault) where
-  pub first-fault : input_fault P boxes ≡ some f → not-13 f
+  pub first-fault : input_fault P boxes ≡ Some f → not-13 f
   unfolding not-13
   first-fault e q = (input-numbers P boxes).other e (omega arith)
 
-  entry-fault : (kinds tasks hours : List ℕ) → entry_fault P boxes kinds tasks hours ≡ some f → not-13 f
+  entry-fault : (kinds tasks hours : List ℕ) → entry_fault P boxes kinds tasks hours ≡ Some f → not-13 f
   unfolding entry_fault not-13
   entry-fault kinds tasks hours e q = (by-either (by-unless _ 31 0 (λ s. omega arith)) (plan-numbers P boxes)).other e (omega arith)
 
 -- where they find none, the boxes number one for each task
 module _ (P : Plan) (boxes : List ℕ) where
-  pub first-sized : input_fault P boxes ≡ none → length boxes ≡ 6 * task_count P
+  pub first-sized : input_fault P boxes ≡ None → length boxes ≡ 6 * task_count P
   unfolding input_fault one_for_each_task task_count
   first-sized e = eqb-true _ _ (and_right _ _ (and_right _ _ (unless-none _ 31 0 (neither _ _ e).0)))
 
   -- the tests of a log checker and of a filter are those of the plan and the boxes, and that of the log's slices; where these are of one length, just
   -- the former
-  entry-input : (kinds tasks hours : List ℕ) → entry_fault P boxes kinds tasks hours ≡ none → input_fault P boxes ≡ none
+  entry-input : (kinds tasks hours : List ℕ) → entry_fault P boxes kinds tasks hours ≡ None → input_fault P boxes ≡ None
   unfolding entry_fault input_fault
   entry-input kinds tasks hours e =
       let faults = neither _ _ e in
@@ -76,14 +76,14 @@ module _ (P : Plan) (boxes : List ℕ) where
 
 -- a record that follows one which said impossible is refused by 13, and only such a one
 After-impossible : LogEnd → Type 0
-After-impossible e = (k : ℕ) → e.refusal ≡ some (fault 13 k) → e.impossible ≡ true
+After-impossible e = (k : ℕ) → e.refusal ≡ Some (fault 13 k) → e.impossible ≡ true
 
-other-number : {C : Type 0} (f g : Fault) → (f.number ≡ g.number → ⊥) → some f ≡ some g → C
+other-number : {C : Type 0} (f g : Fault) → (f.number ≡ g.number → ⊥) → Some f ≡ Some g → C
 other-number f g ne e = absurd (ne (let z : f ≡ g = cc in ap (λ (h : Fault). h.number) z))
 
 refused-13 : (P : Plan) (k : ℕ) (boxes : List ℕ) (log : List Step) → After-impossible (replay_from P k false boxes log)
 unfolding After-impossible replay_by
-refused-13 P k boxes [] = λ n e. none≢some e
+refused-13 P k boxes [] = λ n e. None≢Some e
 refused-13 P k boxes (x ∷ xs) =
     judgement-all After-impossible (judge P boxes x) _ _ _ _
     (λ e n q. other-number _ _ (λ z. omega arith) q)
@@ -95,22 +95,22 @@ refused-13 P k boxes (x ∷ xs) =
     last [] = λ n q. refl
     last (y ∷ ys) = λ n q. refl
 
-answer-none : {A : Type 0} (o : Option Fault) (a b : A) → answer_unless o a ≡ answered b → (o ≡ none) × (a ≡ b)
+answer-none : {A : Type 0} (o : Option Fault) (a b : A) → answer_unless o a ≡ answered b → (o ≡ None) × (a ≡ b)
 unfolding answer_unless
-answer-none none a b e = (refl, cc)
-answer-none (some f) a b e = refused≢answered e
+answer-none None a b e = (refl, cc)
+answer-none (Some f) a b e = refused≢answered e
 
-answer-some : {A : Type 0} (o : Option Fault) (a : A) (f : Fault) → answer_unless o a ≡ refused f → o ≡ some f
+answer-some : {A : Type 0} (o : Option Fault) (a : A) (f : Fault) → answer_unless o a ≡ refused f → o ≡ Some f
 unfolding answer_unless
-answer-some none a f e = refused≢answered (sym e)
-answer-some (some g) a f e = cc
+answer-some None a f e = refused≢answered (sym e)
+answer-some (Some g) a f e = cc
 
 module _ (P : Plan) (boxes : List ℕ) (found : Option Fault) (log : List Step) where
-  refused-holds : (f : Fault) → found ≡ some f → not-13 f → CheckedHolds P boxes found log (refused f) boxes
+  refused-holds : (f : Fault) → found ≡ Some f → not-13 f → CheckedHolds P boxes found log (refused f) boxes
   unfolding not-13
   refused-holds f e other =
       record {
-        exactly = λ q. none≢some (sym q ∙ e);
+        exactly = λ q. None≢Some (sym q ∙ e);
         counted = λ a q. refused≢answered q;
         keeps = λ σ F. F.inside;
         no_schedule = λ steps q. refused≢answered q;
@@ -143,9 +143,9 @@ module _ (P : Plan) (boxes : List ℕ) (found : Option Fault) (log : List Step) 
 
   -- the log's end, or at once a refusal that changes nothing
   abbrev tested : LogEnd
-  tested = on_option found end (λ f. log_end 0 false boxes (some f))
+  tested = on_option found end (λ f. log_end 0 false boxes (Some f))
 
-  pub tested-holds : (found ≡ none → length boxes ≡ 6 * task_count P) → ((f : Fault) → found ≡ some f → not-13 f)
+  pub tested-holds : (found ≡ None → length boxes ≡ 6 * task_count P) → ((f : Fault) → found ≡ Some f → not-13 f)
       → CheckedHolds P boxes found log (check_answer tested) tested.boxes
   tested-holds size other =
       option-all (λ (e : LogEnd). CheckedHolds P boxes found log (check_answer e) e.boxes) found _ _
@@ -259,13 +259,13 @@ slices-of (a ∷ ks) (b ∷ ts) (c ∷ hs) t h =
 
 module _ (P : Plan) (boxes : List ℕ) where
   -- they are of one length
-  pub records-pass : input_fault P boxes ≡ none
-      → (log : List Step) → entry_fault P boxes (map (λ x. x.kind) log) (map (λ x. x.task) log) (map (λ x. x.hour) log) ≡ none
+  pub records-pass : input_fault P boxes ≡ None
+      → (log : List Step) → entry_fault P boxes (map (λ x. x.kind) log) (map (λ x. x.task) log) (map (λ x. x.hour) log) ≡ None
   records-pass e log =
       let same = sym (length-map log (λ x. x.kind)) in
       same-fault P boxes _ _ _ (length-map log (λ x. x.task) ∙ same) (length-map log (λ x. x.hour) ∙ same) ∙ e
 
-  pub records-replay : input_fault P boxes ≡ none → (log : List Step) → check_records P boxes log ≡ replay P boxes log
+  pub records-replay : input_fault P boxes ≡ None → (log : List Step) → check_records P boxes log ≡ replay P boxes log
   unfolding check_records check_log on_option
   records-replay e log = rw (records-pass e log, records-in log)
 

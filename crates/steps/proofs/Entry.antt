@@ -1,7 +1,7 @@
 -- Laws of the entry points' own tests: what each outcome makes of the log checker's contract and of the filter's. Assumes nothing.
 use mathlib.Core.Path.{◌≡◌, ◌∙◌}
 use mathlib.Core.Bool.{Bool, true, false}
-use mathlib.Core.Option.{none, some}
+use Rattle.std.specs.Prelude.{None, Some}
 use mathlib.Core.List.{List}
 use Prim.Native.Nat.{ℕ}
 use native.Mathlib.Nat.{zero-add}
@@ -34,11 +34,11 @@ module _ (P : Plan) (boxes kinds tasks hours : List ℕ) where
   abbrev Steps : Bool
   Steps = one_for_each_step kinds tasks hours
 
-  pub other-tasks : Tasks ≡ false → entry_fault P boxes kinds tasks hours ≡ some (fault 31 0)
+  pub other-tasks : Tasks ≡ false → entry_fault P boxes kinds tasks hours ≡ Some (fault 31 0)
   unfolding entry_fault
   other-tasks e = refuse _ 31 0 _ (not_left _ _ e)
 
-  pub other-steps : Steps ≡ false → entry_fault P boxes kinds tasks hours ≡ some (fault 31 0)
+  pub other-steps : Steps ≡ false → entry_fault P boxes kinds tasks hours ≡ Some (fault 31 0)
   unfolding entry_fault
   other-steps e = refuse _ 31 0 _ (not_right _ _ e)
 
@@ -47,7 +47,7 @@ module _ (P : Plan) (boxes kinds tasks hours : List ℕ) where
   right-size a b = go_on _ 31 0 _ (and_both _ _ a b)
 
   -- what passes
-  pub passes : entry_fault P boxes kinds tasks hours ≡ none → Passed P boxes × (Steps ≡ true)
+  pub passes : entry_fault P boxes kinds tasks hours ≡ None → Passed P boxes × (Steps ≡ true)
   unfolding entry_fault
   passes e =
       let faults = neither _ _ e in
@@ -59,11 +59,11 @@ module _ (P : Plan) (boxes kinds tasks hours : List ℕ) where
   ChecksFrom k said answer left =
       (answer ≡ check_answer (check_from P boxes kinds tasks hours k said)) × (left ≡ (check_from P boxes kinds tasks hours k said).boxes)
 
-  pub from-refuses : (k : ℕ) (said : Bool) (f : Fault) → entry_fault P boxes kinds tasks hours ≡ some f → ChecksFrom k said (refused f) boxes
+  pub from-refuses : (k : ℕ) (said : Bool) (f : Fault) → entry_fault P boxes kinds tasks hours ≡ Some f → ChecksFrom k said (refused f) boxes
   unfolding check_from check_answer answer_unless on_option
   from-refuses k said f e = (rw e, rw e)
 
-  pub from-replays : (k : ℕ) (said : Bool) → entry_fault P boxes kinds tasks hours ≡ none → (answer : Answer Accepted) (left : List ℕ)
+  pub from-replays : (k : ℕ) (said : Bool) → entry_fault P boxes kinds tasks hours ≡ None → (answer : Answer Accepted) (left : List ℕ)
       → (answer ≡ check_answer (replay_from P k said boxes (steps_in kinds tasks hours)))
       × (left ≡ (replay_from P k said boxes (steps_in kinds tasks hours)).boxes)
       → ChecksFrom k said answer left
@@ -81,12 +81,12 @@ module _ (P : Plan) (boxes kinds tasks hours : List ℕ) where
   abbrev pub FiltersFrom : ℕ → FilterEnd → Type 0
   FiltersFrom taken e = e ≡ filter_from P boxes kinds tasks hours taken
 
-  pub filter-refuses : (taken : ℕ) (f : Fault) → entry_fault P boxes kinds tasks hours ≡ some f
+  pub filter-refuses : (taken : ℕ) (f : Fault) → entry_fault P boxes kinds tasks hours ≡ Some f
       → FiltersFrom taken (filter_end (refused_by f) boxes kinds tasks hours)
   unfolding filter_from on_option
   filter-refuses taken f e = rw e
 
-  pub filter_runs : (taken : ℕ) → entry_fault P boxes kinds tasks hours ≡ none → (end : FilterEnd)
+  pub filter_runs : (taken : ℕ) → entry_fault P boxes kinds tasks hours ≡ None → (end : FilterEnd)
       → end ≡ logged_from taken (run P boxes (length kinds)) kinds tasks hours → FiltersFrom taken end
   unfolding filter_from on_option
   filter_runs taken e end l = rw e l

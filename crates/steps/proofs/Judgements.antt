@@ -110,7 +110,7 @@ module _ (P : Plan) (boxes : List ℕ) (i t : ℕ) where
       (λ a. tt))
 
   known : (k : Kind) → is_step (room_count P) (task_count P) P.shifts.hours k i t ≡ true → Known k (judge_kind P boxes k i t)
-  unfolding judge_kind is_step is_hour is_room_number
+  unfolding judge_kind is_step
   known kind_c e = known-C (ltb-true _ _ (and_left _ _ e))
   known kind_o e = known-O (ltb-true _ _ (and_left _ _ e)) (ltb-true _ _ (and_right _ _ e))
   known kind_l e = known-L (ltb-true _ _ (and_left _ _ e)) (ltb-true _ _ (and_right _ _ e))

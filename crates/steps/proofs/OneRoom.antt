@@ -3,7 +3,7 @@ use Rattle.std.specs.Prelude.{if◌then◌else◌}
 use mathlib.Core.Path.{◌≡◌, refl, sym, ap, ap₂, ◌∙◌}
 use mathlib.Core.Logic.{◌≢◌}
 use mathlib.Core.Bool.{Bool, true, false, not}
-use mathlib.Core.Option.{Option, none, some}
+use Rattle.std.specs.Prelude.{Option, None, Some}
 use mathlib.Core.List.{List}
 use Prim.Native.Nat.{ℕ, ◌+◌, ◌<◌}
 use native.Mathlib.Nat.{zero-mul}
@@ -31,10 +31,10 @@ use Rattle.steps.specs.OneRoom as before
 use Rattle.steps.specs.OneRoom.{AsBefore}
 
 -- nothing to follow
-else-end : {A : Type 0} (x : Option A) → (x or_else none) ≡ x
+else-end : {A : Type 0} (x : Option A) → (x or_else None) ≡ x
 unfolding ◌or_else◌
-else-end none = refl
-else-end (some a) = refl
+else-end None = refl
+else-end (Some a) = refl
 
 -- functions that agree everywhere
 agree : {A B : Type 0} {f g : A → B} → ((a : A) → f a ≡ g a) → f ≡ g
@@ -98,7 +98,6 @@ module _ (P : Plan) (one : room_count P ≡ 1) where
 
   -- room 0 is the one that there is
   room-zero : (i : ℕ) → is_room_number (room_count P) i ≡ eqb i 0
-  unfolding is_room_number
   room-zero i = go (eqb i 0) refl
     where
       go : (b : Bool) → eqb i 0 ≡ b → ltb i (room_count P) ≡ eqb i 0
@@ -139,7 +138,7 @@ module _ (P : Plan) (one : room_count P ≡ 1) where
 
   admitted-is : (boxes : List ℕ) → if_admitted P boxes ≡ before.if_admitted P boxes
   unfolding if_admitted before.if_admitted
-  admitted-is boxes = agree (λ x. ap (λ (j : Judgement). on_judgement j none none (some (stops x)) (λ left. some (moves x left))) (judge-is boxes x))
+  admitted-is boxes = agree (λ x. ap (λ (j : Judgement). on_judgement j None None (Some (stops x)) (λ left. Some (moves x left))) (judge-is boxes x))
 
   next-is : (boxes : List ℕ) → next P boxes ≡ before.next P boxes
   unfolding next_by first_by first_of_kind filter_order before.next

@@ -2,12 +2,12 @@
 -- plan's steps. Assumes nothing.
 use mathlib.Core.Path.{◌≡◌, refl, sym, ◌∙◌}
 use mathlib.Core.Bool.{true, false}
-use mathlib.Core.Option.{none}
+use Rattle.std.specs.Prelude.{None}
 use mathlib.Core.List.{List, [], ◌∷◌}
 use Prim.Native.Nat.{ℕ, ◌+◌, ◌*◌, ◌≤◌}
 use native.Mathlib.Omega.{arith}
 use lib.ListN.{length}
-use Rattle.units.proofs.Choices.{none≢some}
+use Rattle.units.proofs.Choices.{None≢Some}
 use Rattle.plan.specs.Plan.{Plan, task_count}
 use Rattle.calendar.specs.declared.Triple.{Triple}
 use Rattle.schedule.specs.Schedule.{Feasible}
@@ -23,24 +23,24 @@ use Rattle.steps.proofs.Changes.{judge-change, judge-impossible, change-length, 
 module _ (judge_at : List ℕ → Step → Judgement) where
   -- accepted exactly when each step is admitted at its turn and nothing follows one that says impossible
   alone-last : (k : ℕ) (boxes : List ℕ) (x : Step) (xs : List Step) → judge_at boxes x ≡ impossible
-      → (replay_by judge_at k true boxes xs).refusal ≡ none → AdmittedBy judge_at boxes (x ∷ xs)
+      → (replay_by judge_at k true boxes xs).refusal ≡ None → AdmittedBy judge_at boxes (x ∷ xs)
   unfolding replay_by
   alone-last k boxes x [] e q = last_step e
-  alone-last k boxes x (y ∷ ys) e q = none≢some (sym q)
+  alone-last k boxes x (y ∷ ys) e q = None≢Some (sym q)
 
-  pub accepted-from : (k : ℕ) (boxes : List ℕ) (log : List Step) → (replay_by judge_at k false boxes log).refusal ≡ none → AdmittedBy judge_at boxes log
+  pub accepted-from : (k : ℕ) (boxes : List ℕ) (log : List Step) → (replay_by judge_at k false boxes log).refusal ≡ None → AdmittedBy judge_at boxes log
   unfolding replay_by
   accepted-from k boxes [] = λ q. no_step
   accepted-from k boxes (x ∷ xs) =
-      judgement-all (λ (e : LogEnd). e.refusal ≡ none → AdmittedBy judge_at boxes (x ∷ xs)) (judge_at boxes x) _ _ _ _
-      (λ e q. none≢some (sym q))
-      (λ e q. none≢some (sym q))
+      judgement-all (λ (e : LogEnd). e.refusal ≡ None → AdmittedBy judge_at boxes (x ∷ xs)) (judge_at boxes x) _ _ _ _
+      (λ e q. None≢Some (sym q))
+      (λ e q. None≢Some (sym q))
       (λ e q. alone-last (k + 1) boxes x xs e q)
       (λ left e q. next_step e (accepted-from (k + 1) left xs q))
 
   -- accepted, with all its steps counted
   pub admitted-from : {boxes : List ℕ} {log : List Step} → AdmittedBy judge_at boxes log → (k : ℕ)
-      → ((replay_by judge_at k false boxes log).refusal ≡ none) × ((replay_by judge_at k false boxes log).steps ≡ k + length log)
+      → ((replay_by judge_at k false boxes log).refusal ≡ None) × ((replay_by judge_at k false boxes log).steps ≡ k + length log)
   unfolding replay_by on_judgement
   admitted-from no_step k = (refl, omega arith)
   admitted-from (last_step e) k = rw e (refl, refl)
@@ -81,15 +81,15 @@ module _ (P : Plan) where
   size-kept boxes left x sized e = change-length P boxes left (judge-change P boxes x left e) ∙ sized
 
   module _ (boxes : List ℕ) (log : List Step) where
-    pub accepted-admitted : (replay P boxes log).refusal ≡ none → AllAdmitted P boxes log
+    pub accepted-admitted : (replay P boxes log).refusal ≡ None → AllAdmitted P boxes log
     unfolding replay
     accepted-admitted q = accepted-from (judge P) 0 boxes log q
 
-    pub admitted-accepted : AllAdmitted P boxes log → (replay P boxes log).refusal ≡ none
+    pub admitted-accepted : AllAdmitted P boxes log → (replay P boxes log).refusal ≡ None
     unfolding replay
     admitted-accepted a = (admitted-from (judge P) a 0).0
 
-    pub accepted-steps : (replay P boxes log).refusal ≡ none → (replay P boxes log).steps ≡ length log
+    pub accepted-steps : (replay P boxes log).refusal ≡ None → (replay P boxes log).steps ≡ length log
     unfolding replay
     accepted-steps q = (admitted-from (judge P) (accepted-admitted q) 0).1 ∙ omega arith
 

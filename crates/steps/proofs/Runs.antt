@@ -2,7 +2,7 @@
 -- on; then for the filter. Assumes nothing.
 use mathlib.Core.Path.{◌≡◌, refl, ap, ◌∙◌}
 use mathlib.Core.Bool.{false}
-use mathlib.Core.Option.{Option, none, some}
+use Rattle.std.specs.Prelude.{Option, None, Some}
 use mathlib.Core.List.{List, [], ◌∷◌, ◌++◌}
 use Prim.Native.Nat.{ℕ, zero, suc, ◌+◌, ◌*◌, ◌≤◌}
 use native.Mathlib.Nat.{zero-add, suc-add}
@@ -30,44 +30,44 @@ module _ (next_at : List ℕ → Option Admitted) where
   -- ---- one turn
 
   module _ (boxes : List ℕ) where
-    pub run_settled : (room : ℕ) → next_at boxes ≡ none → run_by next_at boxes room ≡ ended settled [] boxes
+    pub run_settled : (room : ℕ) → next_at boxes ≡ None → run_by next_at boxes room ≡ ended settled [] boxes
     unfolding run_by on_option
     run_settled zero e = rw e
     run_settled (suc room) e = rw e
 
-    pub run-full : (a : Admitted) → next_at boxes ≡ some a → run_by next_at boxes 0 ≡ ended no_room [] boxes
+    pub run-full : (a : Admitted) → next_at boxes ≡ Some a → run_by next_at boxes 0 ≡ ended no_room [] boxes
     unfolding run_by on_option
     run-full a e = rw e
 
-    pub run-stops : (room : ℕ) (x : Step) → next_at boxes ≡ some (stops x) → run_by next_at boxes (suc room) ≡ ended impossible (x ∷ []) boxes
+    pub run-stops : (room : ℕ) (x : Step) → next_at boxes ≡ Some (stops x) → run_by next_at boxes (suc room) ≡ ended impossible (x ∷ []) boxes
     unfolding run_by on_option on_admitted
     run-stops room x e = rw e
 
-    pub run-moves : (room : ℕ) (x : Step) (left : List ℕ) → next_at boxes ≡ some (moves x left)
+    pub run-moves : (room : ℕ) (x : Step) (left : List ℕ) → next_at boxes ≡ Some (moves x left)
         → run_by next_at boxes (suc room) ≡ after x (run_by next_at left room)
     unfolding run_by on_option on_admitted
     run-moves room x left e = rw e
 
   -- a fact of every run, from the fact of each turn
   module _ (C : List ℕ → ℕ → Run → Type 0)
-      (rest : (boxes : List ℕ) (room : ℕ) → next_at boxes ≡ none → C boxes room (ended settled [] boxes))
+      (rest : (boxes : List ℕ) (room : ℕ) → next_at boxes ≡ None → C boxes room (ended settled [] boxes))
       (full : (boxes : List ℕ) → C boxes 0 (ended no_room [] boxes))
-      (stop : (boxes : List ℕ) (room : ℕ) (x : Step) → next_at boxes ≡ some (stops x) → C boxes (suc room) (ended impossible (x ∷ []) boxes))
-      (move : (boxes left : List ℕ) (room : ℕ) (x : Step) (r : Run) → next_at boxes ≡ some (moves x left) → C left room r
+      (stop : (boxes : List ℕ) (room : ℕ) (x : Step) → next_at boxes ≡ Some (stops x) → C boxes (suc room) (ended impossible (x ∷ []) boxes))
+      (move : (boxes left : List ℕ) (room : ℕ) (x : Step) (r : Run) → next_at boxes ≡ Some (moves x left) → C left room r
       → C boxes (suc room) (after x r)) where
     pub run-all : (room : ℕ) (boxes : List ℕ) → C boxes room (run_by next_at boxes room)
     run-all zero boxes = go (next_at boxes) refl
       where
         go : (o : Option Admitted) → next_at boxes ≡ o → C boxes 0 (run_by next_at boxes 0)
-        go none e = rw (run_settled boxes 0 e) (rest boxes 0 e)
-        go (some a) e = rw (run-full boxes a e) (full boxes)
+        go None e = rw (run_settled boxes 0 e) (rest boxes 0 e)
+        go (Some a) e = rw (run-full boxes a e) (full boxes)
     run-all (suc room) boxes = go (λ left. run-all room left) (next_at boxes) refl
       where
         go : ((left : List ℕ) → C left room (run_by next_at left room)) → (o : Option Admitted) → next_at boxes ≡ o
             → C boxes (suc room) (run_by next_at boxes (suc room))
-        go below none e = rw (run_settled boxes (suc room) e) (rest boxes (suc room) e)
-        go below (some (stops x)) e = rw (run-stops boxes room x e) (stop boxes room x e)
-        go below (some (moves x left)) e = rw (run-moves boxes room x left e) (move boxes left room x (run_by next_at left room) e (below left))
+        go below None e = rw (run_settled boxes (suc room) e) (rest boxes (suc room) e)
+        go below (Some (stops x)) e = rw (run-stops boxes room x e) (stop boxes room x e)
+        go below (Some (moves x left)) e = rw (run-moves boxes room x left e) (move boxes left room x (run_by next_at left room) e (below left))
 
   module _ (boxes : List ℕ) (room : ℕ) where
     pub run_fits : count (run_by next_at boxes room) ≤ room
@@ -81,10 +81,10 @@ module _ (next_at : List ℕ → Option Admitted) where
         room
         boxes
 
-    pub run-rests : (run_by next_at boxes room).ending ≡ settled → next_at (run_by next_at boxes room).boxes ≡ none
+    pub run-rests : (run_by next_at boxes room).ending ≡ settled → next_at (run_by next_at boxes room).boxes ≡ None
     unfolding after
     run-rests =
-        run-all (λ boxes room r. r.ending ≡ settled → next_at r.boxes ≡ none)
+        run-all (λ boxes room r. r.ending ≡ settled → next_at r.boxes ≡ None)
         (λ boxes room e q. e)
         (λ boxes q. absurd (let z : ◌≡◌ {A = ℕ} 0 1 = cc in omega arith))
         (λ boxes room x e q. absurd (let z : ◌≡◌ {A = ℕ} 0 1 = cc in omega arith))
@@ -110,7 +110,7 @@ module _ (next_at : List ℕ → Option Admitted) where
 -- as steps k, k + 1, ..
 pub Replays : (List ℕ → Step → Judgement) → List ℕ → ℕ → Run → Type 0
 Replays judge_at boxes room r =
-    (k : ℕ) → replay_by judge_at k false boxes r.log ≡ log_end (k + count r) (said_impossible r.ending) r.boxes none
+    (k : ℕ) → replay_by judge_at k false boxes r.log ≡ log_end (k + count r) (said_impossible r.ending) r.boxes None
 
 module _ (judge_at : List ℕ → Step → Judgement) where
   no_step_lem : (boxes : List ℕ) (room : ℕ) (end : Ending) → said_impossible end ≡ false → Replays judge_at boxes room (ended end [] boxes)
@@ -126,11 +126,11 @@ module _ (judge_at : List ℕ → Step → Judgement) where
       → Replays judge_at boxes (suc room) (after x r)
   unfolding Replays replay_by on_judgement after
   more-steps boxes left room x r e h k =
-      rw e (h (k + 1) ∙ ap (λ (n : ℕ). log_end n (said_impossible r.ending) r.boxes none) (omega arith))
+      rw e (h (k + 1) ∙ ap (λ (n : ℕ). log_end n (said_impossible r.ending) r.boxes None) (omega arith))
 
   module _ (next_at : List ℕ → Option Admitted)
-      (stopping : (boxes : List ℕ) (x : Step) → next_at boxes ≡ some (stops x) → judge_at boxes x ≡ judged.impossible)
-      (moving : (boxes left : List ℕ) (x : Step) → next_at boxes ≡ some (moves x left) → judge_at boxes x ≡ moved left) where
+      (stopping : (boxes : List ℕ) (x : Step) → next_at boxes ≡ Some (stops x) → judge_at boxes x ≡ judged.impossible)
+      (moving : (boxes left : List ℕ) (x : Step) → next_at boxes ≡ Some (moves x left) → judge_at boxes x ≡ moved left) where
     pub replays-from : (room : ℕ) (boxes : List ℕ) → Replays judge_at boxes room (run_by next_at boxes room)
     unfolding said_impossible
     replays-from =
@@ -144,7 +144,7 @@ module _ (judge_at : List ℕ → Step → Judgement) where
 
 module _ (P : Plan) (boxes : List ℕ) (room : ℕ) where
   pub run-replays : replay P boxes (run P boxes room).log
-      ≡ log_end (count (run P boxes room)) (said_impossible (run P boxes room).ending) (run P boxes room).boxes none
+      ≡ log_end (count (run P boxes room)) (said_impossible (run P boxes room).ending) (run P boxes room).boxes None
   unfolding Replays replay Rightly
   run-replays =
       replays-from (judge P) _
@@ -153,7 +153,7 @@ module _ (P : Plan) (boxes : List ℕ) (room : ℕ) where
       room
       boxes
       0
-      ∙ ap (λ (n : ℕ). log_end n (said_impossible (run P boxes room).ending) (run P boxes room).boxes none) (omega arith)
+      ∙ ap (λ (n : ℕ). log_end n (said_impossible (run P boxes room).ending) (run P boxes room).boxes None) (omega arith)
 
   pub run_short : length boxes ≡ 6 * task_count P → count (run P boxes room) ≤ 1 + widths P boxes
   run_short sized = admitted-short P (accepted-admitted P boxes (run P boxes room).log (ap (λ (e : LogEnd). e.refusal) run-replays)) sized

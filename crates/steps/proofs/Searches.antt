@@ -2,14 +2,14 @@
 -- it finds none in an order that has every kind, no step at all is. Assumes nothing.
 use mathlib.Core.Path.{◌≡◌, refl, sym, ap₂, ◌∙◌, subst}
 use mathlib.Core.Bool.{Bool, true, false, false≢true}
-use mathlib.Core.Option.{Option, none, some}
+use Rattle.std.specs.Prelude.{Option, None, Some}
 use mathlib.Core.List.{List, [], ◌∷◌}
 use Prim.Native.Nat.{ℕ}
 use lib.Dec.{eqb}
 use borrow.Author.Tests.{eqb-true, ltb-true}
 use Rattle.units.specs.Choice.{on_option, ◌or_else◌}
 use Rattle.units.specs.Limits.{is_hour, is_room_number}
-use Rattle.units.proofs.Choices.{and_left, and_right, if-false, if-all, none≢some, else-case, neither, first-at, first-none, else-on, first_on}
+use Rattle.units.proofs.Choices.{and_left, and_right, if-false, if-all, None≢Some, else-case, neither, first-at, first-none, else-on, first_on}
 use Rattle.plan.specs.Plan.{Plan, room_count, task_count}
 use Rattle.steps.specs.declared.Step.{Step}
 use Rattle.steps.specs.Steps.{step, letter_c, letter_o, letter_l, letter_u, Kind, kind_c, kind_o, kind_l}
@@ -22,7 +22,7 @@ use Rattle.steps.proofs.Judgements.{judgement-all}
 
 module _ {A : Type 0} (rooms tasks hours : ℕ) (f : Step → Option A) where
   -- what the search finds, f finds at some step
-  kind-found : (k : Kind) (a : A) → first_of_kind rooms tasks hours f k ≡ some a → (x : Step) × (f x ≡ some a)
+  kind-found : (k : Kind) (a : A) → first_of_kind rooms tasks hours f k ≡ Some a → (x : Step) × (f x ≡ Some a)
   unfolding first_of_kind
   kind-found kind_c a e = let (i, l, h) = first-at _ _ a e in (step letter_c i 0, h)
   kind-found kind_o a e =
@@ -37,17 +37,17 @@ module _ {A : Type 0} (rooms tasks hours : ℕ) (f : Step → Option A) where
       let (i, l, g) = first-at _ _ a e in
       let (t, m, h) = first-at _ _ a g in
       (step letter_u i t, h)
-  kind-found unknown_kind a e = none≢some e
+  kind-found unknown_kind a e = None≢Some e
 
-  pub first_found : (order : List Kind) (a : A) → first_by rooms tasks hours f order ≡ some a → (x : Step) × (f x ≡ some a)
+  pub first_found : (order : List Kind) (a : A) → first_by rooms tasks hours f order ≡ Some a → (x : Step) × (f x ≡ Some a)
   unfolding first_by
-  first_found [] a e = none≢some e
+  first_found [] a e = None≢Some e
   first_found (k ∷ ks) a e = else-case _ _ _ e (λ q r. first_found ks a r) (λ b q r. kind-found k a (q ∙ r))
 
 -- where each test finds what the other makes of its finding, so do the searches
 module _ {A B : Type 0} (rooms tasks hours : ℕ) (φ : A → B) (g : Step → Option A) (h : Step → Option B)
-    (maps : (x : Step) → h x ≡ on_option (g x) none (λ a. some (φ a))) where
-  kind-maps : (k : Kind) → first_of_kind rooms tasks hours h k ≡ on_option (first_of_kind rooms tasks hours g k) none (λ a. some (φ a))
+    (maps : (x : Step) → h x ≡ on_option (g x) None (λ a. Some (φ a))) where
+  kind-maps : (k : Kind) → first_of_kind rooms tasks hours h k ≡ on_option (first_of_kind rooms tasks hours g k) None (λ a. Some (φ a))
   unfolding first_of_kind
   kind-maps kind_c = first_on φ _ _ tasks (λ i. maps (step letter_c i 0))
   kind-maps kind_o = first_on φ _ _ rooms (λ r. first_on φ _ _ hours (λ t. maps (step letter_o r t)))
@@ -55,7 +55,7 @@ module _ {A B : Type 0} (rooms tasks hours : ℕ) (φ : A → B) (g : Step → O
   kind-maps kind_u = first_on φ _ _ tasks (λ i. first_on φ _ _ hours (λ t. maps (step letter_u i t)))
   kind-maps unknown_kind = unfold on_option in refl
 
-  pub first-maps : (order : List Kind) → first_by rooms tasks hours h order ≡ on_option (first_by rooms tasks hours g order) none (λ a. some (φ a))
+  pub first-maps : (order : List Kind) → first_by rooms tasks hours h order ≡ on_option (first_by rooms tasks hours g order) None (λ a. Some (φ a))
   unfolding first_by
   first-maps [] = unfold on_option in refl
   first-maps (k ∷ ks) = ap₂ ◌or_else◌ (kind-maps k) (first-maps ks) ∙ sym (else-on φ _ _)
@@ -94,9 +94,9 @@ letter n =
     (λ not_l. if-all (λ (k : Kind). Letter k n) (eqb n letter_u) _ _ (λ e. eqb-true _ _ e) (λ not_u. tt))))
 
 module _ {A : Type 0} (rooms tasks hours : ℕ) (f : Step → Option A) where
-  none-of-kind : (k : Kind) → first_of_kind rooms tasks hours f k ≡ none → (n i t : ℕ) → Letter k n → is_step rooms tasks hours k i t ≡ true
-      → f (step n i t) ≡ none
-  unfolding first_of_kind Letter is_step is_hour is_room_number
+  none-of-kind : (k : Kind) → first_of_kind rooms tasks hours f k ≡ None → (n i t : ℕ) → Letter k n → is_step rooms tasks hours k i t ≡ true
+      → f (step n i t) ≡ None
+  unfolding first_of_kind Letter is_step
   none-of-kind kind_c e n i t q w =
       let z : t ≡ 0 = eqb-true _ _ (and_right _ _ w) in
       rw (q, z) (first-none _ _ e i (ltb-true _ _ (and_left _ _ w)))
@@ -105,14 +105,14 @@ module _ {A : Type 0} (rooms tasks hours : ℕ) (f : Step → Option A) where
   none-of-kind kind_u e n i t q w = rw q (first-none _ _ (first-none _ _ e i (ltb-true _ _ (and_left _ _ w))) t (ltb-true _ _ (and_right _ _ w)))
   none-of-kind unknown_kind e n i t q w = absurd (false≢true w)
 
-  none_in : {k : Kind} {order : List Kind} → In k order → first_by rooms tasks hours f order ≡ none → first_of_kind rooms tasks hours f k ≡ none
+  none_in : {k : Kind} {order : List Kind} → In k order → first_by rooms tasks hours f order ≡ None → first_of_kind rooms tasks hours f k ≡ None
   unfolding first_by
   none_in here e = (neither _ _ e).0
   none_in (there p) e = none_in p (neither _ _ e).1
 
   -- where the search finds none in such an order, f finds none at any step that there is
-  pub none_found : {order : List Kind} → Complete order → first_by rooms tasks hours f order ≡ none → (x : Step)
-      → is_step rooms tasks hours (kind_of x.kind) x.task x.hour ≡ true → f x ≡ none
+  pub none_found : {order : List Kind} → Complete order → first_by rooms tasks hours f order ≡ None → (x : Step)
+      → is_step rooms tasks hours (kind_of x.kind) x.task x.hour ≡ true → f x ≡ None
   none_found all e x w =
       none-of-kind (kind_of x.kind) (none_in (all (kind_of x.kind) (known (kind_of x.kind) w)) e) x.kind x.task x.hour (letter x.kind) w
     where
@@ -127,24 +127,24 @@ module _ (P : Plan) (boxes : List ℕ) where
   Rightly (stops x) = judge P boxes x ≡ impossible
   Rightly (moves x left) = judge P boxes x ≡ moved left
 
-  if-rightly : (x : Step) (a : Admitted) → if_admitted P boxes x ≡ some a → Rightly a
+  if-rightly : (x : Step) (a : Admitted) → if_admitted P boxes x ≡ Some a → Rightly a
   unfolding if_admitted Rightly
   if-rightly x a =
-      judgement-all (λ (o : Option Admitted). o ≡ some a → Rightly a) (judge P boxes x) _ _ _ _
-      (λ e q. none≢some q)
-      (λ e q. none≢some q)
+      judgement-all (λ (o : Option Admitted). o ≡ Some a → Rightly a) (judge P boxes x) _ _ _ _
+      (λ e q. None≢Some q)
+      (λ e q. None≢Some q)
       (λ e q. let s : stops x ≡ a = cc in subst Rightly s e)
       (λ left e q. let s : moves x left ≡ a = cc in subst Rightly s e)
 
   module _ (order : List Kind) where
-    pub next-rightly : (a : Admitted) → next_by order P boxes ≡ some a → Rightly a
+    pub next-rightly : (a : Admitted) → next_by order P boxes ≡ Some a → Rightly a
     unfolding next_by
     next-rightly a e = let (x, h) = first_found (room_count P) (task_count P) P.shifts.hours (if_admitted P boxes) order a e in if-rightly x a h
 
-    pub next-none : Complete order → next_by order P boxes ≡ none → (x : Step) → if_admitted P boxes x ≡ none
+    pub next-none : Complete order → next_by order P boxes ≡ None → (x : Step) → if_admitted P boxes x ≡ None
     unfolding next_by
     next-none all e x = go (is_step (room_count P) (task_count P) P.shifts.hours (kind_of x.kind) x.task x.hour) refl
       where
-        go : (b : Bool) → is_step (room_count P) (task_count P) P.shifts.hours (kind_of x.kind) x.task x.hour ≡ b → if_admitted P boxes x ≡ none
+        go : (b : Bool) → is_step (room_count P) (task_count P) P.shifts.hours (kind_of x.kind) x.task x.hour ≡ b → if_admitted P boxes x ≡ None
         go true w = none_found (room_count P) (task_count P) P.shifts.hours (if_admitted P boxes) all e x w
         go false w = unfold if_admitted judge on_judgement in (rw (if-false _ _ _ w))

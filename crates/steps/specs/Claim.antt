@@ -1,7 +1,7 @@
 -- The whole claim about logs (01, "Steps", its last three paragraphs): over every plan, every list of step records and every room. What it says of
 -- one call of the log checker, of one call of the filter, and of both as they are called on a plan that passes the tests.
 use Rattle.std.specs.Prelude.{◌≡◌, ◌↔◌, Bool, true, false, List, ℕ, ◌+◌, ◌≤◌, ◌<◌, length}
-use Rattle.std.proofs.Math.Option.{Option, none}
+use Rattle.std.specs.Prelude.{Option, None}
 use Rattle.plan.specs.Plan.{Plan, task_count}
 use Rattle.plan.specs.Boxes.{bounds_at}
 use Rattle.plan.specs.Refusals.{Fault, fault, Answer, refused, answered}
@@ -25,7 +25,7 @@ said_impossible no_room = false
 pub record CheckedHolds (P : Plan) (opening : List ℕ) (found : Option Fault) (log : List Step) (answer : Answer Accepted) (left : List ℕ) : Type 0 where
   -- for a plan that passes the tests and memory of the right size: accepted exactly when each step is admitted at its turn and nothing follows
   -- one that says impossible
-  pub exactly : found ≡ none → ((a : Accepted) × (answer ≡ answered a)) ↔ AllAdmitted P opening log
+  pub exactly : found ≡ None → ((a : Accepted) × (answer ≡ answered a)) ↔ AllAdmitted P opening log
   -- accepting, it answers the number of steps
   pub counted : (a : Accepted) → answer ≡ answered a → a.steps ≡ length log
   -- accepted or refused, a schedule that lies in the opening boxes and meets the definitions lies in the boxes left
@@ -40,12 +40,12 @@ pub record CheckedHolds (P : Plan) (opening : List ℕ) (found : Option Fault) (
 pub record FilterHolds (P : Plan) (opening : List ℕ) (check : List Step → LogEnd) (room : ℕ) (answer : FilterAnswer) (left : List ℕ) (first : ℕ → List Step) :
     Type 0 where
   -- its own log is accepted by the checker, with its count, its boxes, and impossible exactly when it says so
-  pub own : (e : Ending) (n : ℕ) → answer ≡ ending_answer e n → check (first n) ≡ log_end n (said_impossible e) left none
+  pub own : (e : Ending) (n : ℕ) → answer ≡ ending_answer e n → check (first n) ≡ log_end n (said_impossible e) left None
   -- the count is at most the room, and at most one more than the opening boxes' widths
   pub fits : (e : Ending) (n : ℕ) → answer ≡ ending_answer e n → n ≤ room
   pub short : (e : Ending) (n : ℕ) → answer ≡ ending_answer e n → n ≤ 1 + widths P opening
   -- settled: no step is admitted
-  pub settles : (n : ℕ) → answer ≡ settled_after n → (x : Step) → if_admitted P left x ≡ none
+  pub settles : (n : ℕ) → answer ≡ settled_after n → (x : Step) → if_admitted P left x ≡ None
   -- no feasible schedule is lost, and impossible is true
   pub keeps : (σ : ℕ → Triple) → Feasible P opening σ → (i : ℕ) → i < task_count P → in_bounds (bounds_at left i) (σ i) ≡ true
   pub no_schedule : (n : ℕ) → answer ≡ impossible_after n → (σ : ℕ → Triple) → Feasible P opening σ → ⊥
@@ -54,7 +54,7 @@ pub record FilterHolds (P : Plan) (opening : List ℕ) (check : List Step → Lo
 -- the filter of any log lent as its room.
 pub record LogsHold (P : Plan) (opening : List ℕ) (check : List Step → LogEnd) (filter : List Step → FilterLeft) : Type 0 where
   -- no test refuses a log
-  pub checks : (log : List Step) → CheckedHolds P opening none log (check_answer (check log)) (check log).boxes
+  pub checks : (log : List Step) → CheckedHolds P opening None log (check_answer (check log)) (check log).boxes
   -- nor the filter: it ends settled, impossible or without room
   pub ends : (cells : List Step) → (e : Ending) × (n : ℕ) × ((filter cells).answer ≡ ending_answer e n)
   pub filters : (cells : List Step)

@@ -1,6 +1,6 @@
 -- The log checker and the filter as entry points: what each answers and leaves in lent memory (01, "Steps", and the order of refusals).
 use Rattle.std.specs.Prelude.{Bool, false, List, [], ◌∷◌, map, ℕ, zero, suc, ◌+◌, eqb, length, get_or}
-use Rattle.std.proofs.Math.Option.{Option, some}
+use Rattle.std.specs.Prelude.{Option, Some}
 use Rattle.units.specs.Choice.{◌and◌, on_option, ◌or_else◌}
 use Rattle.units.specs.Cells.{written}
 use Rattle.plan.specs.Plan.{Plan}
@@ -40,7 +40,7 @@ entry_fault P boxes kinds tasks hours =
 -- The log checker: the log's end, or at once a refusal that changes nothing. The boxes lent become those at the log's end.
 unfoldable pub check_log : Plan → List ℕ → List ℕ → List ℕ → List ℕ → LogEnd
 check_log P boxes kinds tasks hours =
-    on_option (entry_fault P boxes kinds tasks hours) (replay P boxes (steps_in kinds tasks hours)) (λ f. log_end 0 false boxes (some f))
+    on_option (entry_fault P boxes kinds tasks hours) (replay P boxes (steps_in kinds tasks hours)) (λ f. log_end 0 false boxes (Some f))
 
 -- accepting, it answers the number of steps and whether the last said impossible
 pub record Accepted : Type 0 where

@@ -1,5 +1,5 @@
 -- The filter (01, "Steps"; rooms: 02, W-202): the first admitted step of each turn, until none is admitted, one says impossible, or the log has no room.
-use Rattle.std.proofs.Math.Option.{Option, none, some}
+use Rattle.std.specs.Prelude.{Option, None, Some}
 use Rattle.std.specs.Prelude.{List, [], ◌∷◌, ℕ, zero, suc, length}
 use Rattle.units.specs.Choice.{on_option, ◌or_else◌, first_of}
 use Rattle.plan.specs.Plan.{Plan, room_count, task_count}
@@ -21,7 +21,7 @@ on_admitted (moves x left) f g = g x left
 
 -- the step, if it is admitted
 unfoldable pub if_admitted : Plan → List ℕ → Step → Option Admitted
-if_admitted P boxes x = on_judgement (judge P boxes x) none none (some (stops x)) (λ left. some (moves x left))
+if_admitted P boxes x = on_judgement (judge P boxes x) None None (Some (stops x)) (λ left. Some (moves x left))
 
 -- the first that f finds among the steps of a kind: C by task; O by room, then hour; L by task, then hour; U by task, then hour
 module _ {A : Type 0} (rooms tasks hours : ℕ) (f : Step → Option A) where
@@ -30,11 +30,11 @@ module _ {A : Type 0} (rooms tasks hours : ℕ) (f : Step → Option A) where
   first_of_kind kind_o = first_of (λ room. first_of (λ t. f (step letter_o room t)) hours) rooms
   first_of_kind kind_l = first_of (λ i. first_of (λ t. f (step letter_l i t)) hours) tasks
   first_of_kind kind_u = first_of (λ i. first_of (λ t. f (step letter_u i t)) hours) tasks
-  first_of_kind unknown_kind = none
+  first_of_kind unknown_kind = None
 
   -- and in an order of kinds
   unfoldable pub first_by : List Kind → Option A
-  first_by [] = none
+  first_by [] = None
   first_by (k ∷ ks) = first_of_kind k or_else first_by ks
 
 -- the filter's order

@@ -1,6 +1,6 @@
 -- The replay of a log (01, "Steps", the paragraphs on the log and its end).
 use Rattle.std.specs.Prelude.{Bool, true, false, List, [], ◌∷◌, ◌≡◌, ℕ, ◌+◌}
-use Rattle.std.proofs.Math.Option.{Option, none, some}
+use Rattle.std.specs.Prelude.{Option, None, Some}
 use Rattle.plan.specs.Plan.{Plan}
 use Rattle.plan.specs.Refusals.{Fault, fault}
 use Rattle.steps.specs.declared.Step.{Step}
@@ -24,12 +24,12 @@ log_end steps impossible boxes refusal = record { steps = steps; impossible = im
 -- one said impossible.
 module _ (judge_at : List ℕ → Step → Judgement) where
   unfoldable pub replay_by : ℕ → Bool → List ℕ → List Step → LogEnd
-  replay_by k said boxes [] = log_end k said boxes none
-  replay_by k true boxes (x ∷ xs) = log_end k true boxes (some (fault 13 k))
+  replay_by k said boxes [] = log_end k said boxes None
+  replay_by k true boxes (x ∷ xs) = log_end k true boxes (Some (fault 13 k))
   replay_by k false boxes (x ∷ xs) =
       on_judgement (judge_at boxes x)
-      (log_end k false boxes (some (fault 11 k)))
-      (log_end k false boxes (some (fault 12 k)))
+      (log_end k false boxes (Some (fault 11 k)))
+      (log_end k false boxes (Some (fault 12 k)))
       (replay_by (k + 1) true boxes xs)
       (λ left. replay_by (k + 1) false left xs)
 

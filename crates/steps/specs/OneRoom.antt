@@ -1,7 +1,7 @@
 -- A plan of one room as 01 speaks of it: what 02, W-202, gave each room, in 01's words, of the capacity and of one height a task. That a plan of one
 -- room answers by these as before is proved.
 use Rattle.std.specs.Prelude.{Bool, true, false, not, List, ◌↔◌, ◌≡◌, ℕ, ◌+◌, ◌-◌, ◌≤◌, ◌<◌, leb, ltb, eqb, get_or, if◌then◌else◌}
-use Rattle.std.proofs.Math.Option.{Option, none, some}
+use Rattle.std.specs.Prelude.{Option, None, Some}
 use Rattle.units.specs.Choice.{◌and◌, ◌or_else◌, first_of}
 use Rattle.units.specs.Limits.{is_hour, with_earliest, with_latest}
 use Rattle.units.specs.Sums.{sum_where}
@@ -103,7 +103,7 @@ module _ (P : Plan) where
       else unknown
 
   unfoldable pub if_admitted : List ℕ → Step → Option Admitted
-  if_admitted boxes x = on_judgement (judge boxes x) none none (some (stops x)) (λ left. some (moves x left))
+  if_admitted boxes x = on_judgement (judge boxes x) None None (Some (stops x)) (λ left. Some (moves x left))
 
   -- the first admitted step: C by task; O by hour; L by task, then hour; U by task, then hour
   unfoldable pub next : List ℕ → Option Admitted

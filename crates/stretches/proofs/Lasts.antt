@@ -38,14 +38,14 @@ module _ (test : ℕ → Bool) (s : ℕ) where
   pub last-regulars : (cal : List ℕ) → ((t : ℕ) → test t ≡ false → is_kind regular cal t ≡ false) → (e : ℕ)
       → hours_of regular cal s (up_to_last test s e) ≡ hours_of regular cal s e
   unfolding up_to_last
-  last-regulars cal none zero = refl
-  last-regulars cal none (suc e) =
+  last-regulars cal None zero = refl
+  last-regulars cal None (suc e) =
       if-all (λ (k : ℕ). hours_of regular cal s k ≡ hours_of regular cal s (suc e)) (test (s + e)) _ _
-      (λ h. refl) (λ h. last-regulars cal none e ∙ sym (rest h))
+      (λ h. refl) (λ h. last-regulars cal None e ∙ sym (rest h))
     where
       rest : test (s + e) ≡ false → hours_of regular cal s (suc e) ≡ hours_of regular cal s e
       rest h =
-          let no-hour = ap one_if (none (s + e) h) in
+          let no-hour = ap one_if (None (s + e) h) in
           let m : suc e ≡ e + 1 = omega arith in
           rw m (omega (arith, hours-more regular cal s e, no-hour))
 

@@ -57,12 +57,12 @@ module _ {cal : List ℕ} {s : ℕ} {a : Stretch} (st : IsStretch cal s a) where
   -- no hours are no hours from the next on
   pub no-rest : a.hours.0 < 1 → a ≡ stretch_of cal (s + 1) (a.hours.0 - 1)
   no-rest l =
-      let none : a.hours.0 ≡ 0 = omega arith in
+      let None : a.hours.0 ≡ 0 = omega arith in
       let rest : 0 ≡ a.hours.0 - 1 = omega arith in
-      st.is ∙ ap (stretch_of cal s) none ∙ sym (no-stretch cal s) ∙ no-stretch cal (s + 1) ∙ ap (stretch_of cal (s + 1)) rest
+      st.is ∙ ap (stretch_of cal s) None ∙ sym (no-stretch cal s) ∙ no-stretch cal (s + 1) ∙ ap (stretch_of cal (s + 1)) rest
 
   -- the counts of the first hour are among those of a stretch of some hours; the stretch without it
-  module _ (some : 1 ≤ a.hours.0) where
+  module _ (Some : 1 ≤ a.hours.0) where
     first : a.hours.0 ≡ a.hours.0 - 1 + 1
     first = omega arith
 
@@ -249,18 +249,18 @@ module _ {cal : List ℕ} {s : ℕ} {a : Stretch} (h : HasRoom cal s a) where
           one : a.hours.0 ≡ 0 → 1 ≡ hours_of regular cal (s + 1) (a.hours.0 + 1 - 2) + min (a.hours.0 + 1) 2
           one q =
               let m : a.hours.0 + 1 - 2 ≡ 0 = omega arith in
-              let none = ap (hours_of regular cal (s + 1)) m in
-              omega (arith, none, hours-none regular cal (s + 1))
+              let None = ap (hours_of regular cal (s + 1)) m in
+              omega (arith, None, hours-none regular cal (s + 1))
 
       pub ends-work : 1 ≤ a.hours.0 → {w : ℕ} → w ≡ one_if (is_kind regular cal s)
           → leb (a.counts.regular - w + 2) p ≡ may_last cal p b s (a.hours.0 + 1)
-      ends-work some {w} is-w = lasts-by-work cal p b s (a.hours.0 + 1) (a.counts.regular - w + 2) two (omega arith) few
+      ends-work Some {w} is-w = lasts-by-work cal p b s (a.hours.0 + 1) (a.counts.regular - w + 2) two (omega arith) few
         where
           two : a.counts.regular - w + 2 ≡ hours_of regular cal (s + 1) (a.hours.0 + 1 - 2) + min (a.hours.0 + 1) 2
           two =
               let m : a.hours.0 + 1 - 2 ≡ a.hours.0 - 1 = omega arith in
               let between = ap (hours_of regular cal (s + 1)) m in
-              omega (arith, is-w, between, first-regular h.stretch some)
+              omega (arith, is-w, between, first-regular h.stretch Some)
 
 -- ---- where a stretch stops
 
@@ -277,7 +277,7 @@ module _ (cal : List ℕ) (p : ℕ) (b : Bounds) (s : ℕ) (shortest : Bool) whe
 
 module _ (cal : List ℕ) (p : ℕ) (b : Bounds) (s e : ℕ) where
   pub end-next : 1 ≤ b.shortest.0 → may_end p b (stretch_of cal s (e + 1)) ≡ false → may_end p b (stretch_of cal (s + 1) e) ≡ false
-  end-next some = untrue _ _ (λ h. ends-may _ _ _ (go (may-end _ _ _ h)))
+  end-next Some = untrue _ _ (λ h. ends-may _ _ _ (go (may-end _ _ _ h)))
     where
       go : MayEnd p b (stretch_of cal (s + 1) e) → MayEnd p b (stretch_of cal s (e + 1))
       go m =
@@ -306,5 +306,5 @@ module _ (cal : List ℕ) (p : ℕ) (b : Bounds) (s e : ℕ) where
               omega (arith, m.worked, more, hours-first regular cal (s + 1) (e - 2))
           inner m (no l) =
               let q : e - 2 ≡ 0 = omega arith in
-              let none = ap (hours_of regular cal (s + 1 + 1)) q in
-              omega (arith, m.worked, none, hours-none regular cal (s + 1 + 1))
+              let None = ap (hours_of regular cal (s + 1 + 1)) q in
+              omega (arith, m.worked, None, hours-none regular cal (s + 1 + 1))

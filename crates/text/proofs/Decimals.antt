@@ -2,7 +2,7 @@
 use Rattle.std.specs.Prelude.{if◌then◌else◌}
 use mathlib.Core.Path.{◌≡◌, refl, ap, ◌∙◌}
 use mathlib.Core.Bool.{Bool, true, false, not}
-use mathlib.Core.Option.{some}
+use Rattle.std.specs.Prelude.{Some}
 use mathlib.Core.List.{List, [], ◌∷◌, ◌++◌}
 use Prim.Native.Nat.{ℕ, zero, suc, ◌+◌, ◌-◌, ◌*◌, ◌/◌, ◌%◌, ◌≤◌, ◌<◌}
 use native.Mathlib.Omega.{arith}
@@ -96,11 +96,11 @@ plain-text =
     })
 
 -- a number of plan text is read back as that number
-pub number_read : (n : ℕ) → n ≤ most_number → number_of (decimal_text n) ≡ some n
+pub number_read : (n : ℕ) → n ≤ most_number → number_of (decimal_text n) ≡ Some n
 unfolding is_plain
 number_read n l =
     let p = plain-text n in
-    number_is _ p.some_digit p.digits plain (omega (arith, decimal-read n)) ∙ ap some (decimal-read n)
+    number_is _ p.some_digit p.digits plain (omega (arith, decimal-read n)) ∙ ap Some (decimal-read n)
   where
     plain : is_plain (decimal_text n) ≡ true
     plain = unfold is_plain in by (ltb n 10) refl

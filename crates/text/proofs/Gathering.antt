@@ -1,7 +1,7 @@
 -- Laws of fields that are numbers, as a loop over the fields gathers them. Assumes nothing.
 use mathlib.Core.Path.{◌≡◌, refl, sym, ap, ◌∙◌}
 use mathlib.Core.Bool.{Bool, true, false}
-use mathlib.Core.Option.{Option, none, some}
+use Rattle.std.specs.Prelude.{Option, None, Some}
 use mathlib.Core.List.{List, [], ◌∷◌, ◌++◌, append_assoc, append-nil}
 use Prim.Native.Nat.{ℕ, zero, suc, ◌+◌, ◌≤◌, ◌<◌}
 use native.Mathlib.Numerals.{add-one}
@@ -21,30 +21,30 @@ use Rattle.text.proofs.Numbers.{number-some}
 
 -- numbers read before others
 unfoldable pub before : List ℕ → Option (List ℕ) → Option (List ℕ)
-before xs o = on_option o none (λ ns. some (xs ++ ns))
+before xs o = on_option o None (λ ns. Some (xs ++ ns))
 
 before-none : (o : Option (List ℕ)) → before [] o ≡ o
 unfolding before on_option
-before-none none = refl
-before-none (some ns) = refl
+before-none None = refl
+before-none (Some ns) = refl
 
 module _ (xs : List ℕ) (f : List ℕ) (fs : List (List ℕ)) where
-  field-not : number_of f ≡ none → before xs (numbers_of (f ∷ fs)) ≡ none
+  field-not : number_of f ≡ None → before xs (numbers_of (f ∷ fs)) ≡ None
   unfolding before numbers_of on_option
   field-not e = rw e
 
-  field_is : (n : ℕ) → number_of f ≡ some n → before xs (numbers_of (f ∷ fs)) ≡ before (xs ++ (n ∷ [])) (numbers_of fs)
+  field_is : (n : ℕ) → number_of f ≡ Some n → before xs (numbers_of (f ∷ fs)) ≡ before (xs ++ (n ∷ [])) (numbers_of fs)
   unfolding before numbers_of on_option
   field_is n e = rw e (go (numbers_of fs))
     where
       go : (o : Option (List ℕ))
-          → on_option (on_option o none (λ ns. some (n ∷ ns))) none (λ ns. some (xs ++ ns)) ≡ on_option o none (λ ns. some ((xs ++ (n ∷ [])) ++ ns))
-      go none = unfold on_option in refl
-      go (some ns) = unfold on_option in (rw append_assoc)
+          → on_option (on_option o None (λ ns. Some (n ∷ ns))) None (λ ns. Some (xs ++ ns)) ≡ on_option o None (λ ns. Some ((xs ++ (n ∷ [])) ++ ns))
+      go None = unfold on_option in refl
+      go (Some ns) = unfold on_option in (rw append_assoc)
 
-fields-end : (xs : List ℕ) → before xs (numbers_of []) ≡ some xs
+fields-end : (xs : List ℕ) → before xs (numbers_of []) ≡ Some xs
 unfolding before numbers_of on_option
-fields-end xs = ap some (append-nil xs)
+fields-end xs = ap Some (append-nil xs)
 
 -- a store past the end changes nothing
 pub set_past : (l : List ℕ) (i n : ℕ) → length l ≤ i → set l i n ≡ l
@@ -89,19 +89,19 @@ gathered_none fields cells =
 
 -- a turn of the loop: the end of the first field of what is left
 module _ {fields cells : List ℕ} {count from e : ℕ} (at : Gathered fields count from cells) (p : e ≡ first_at tab (rest_of fields from)) where
-  pub gathered-not : number_of (take e (rest_of fields from)) ≡ none → numbers_of (parts tab fields) ≡ none
+  pub gathered-not : number_of (take e (rest_of fields from)) ≡ None → numbers_of (parts tab fields) ≡ None
   gathered-not k =
       let (ps, s) = part-first tab fields from e p in
       at.decides ∙ rw s (field-not at.so_far _ ps k)
 
-  module _ {n : ℕ} (k : number_of (take e (rest_of fields from)) ≡ some n) where
+  module _ {n : ℕ} (k : number_of (take e (rest_of fields from)) ≡ Some n) where
     pub gathered-few : count < length fields
     gathered-few = omega (arith, at.few, end-in tab fields from e p, part_length tab fields from e p, number-some _ n k)
 
     pub gathered-last : e ≡ length (rest_of fields from) → {cells' : List ℕ} → cells' ≡ set cells count n
         → Gathers (numbers_of (parts tab fields)) (count + 1) cells'
     gathered-last h s =
-        let k' : number_of (rest_of fields from) ≡ some n = rw (take_all e (rest_of fields from) (omega arith)) at k in
+        let k' : number_of (rest_of fields from) ≡ Some n = rw (take_all e (rest_of fields from) (omega arith)) at k in
         record {
           numbers = at.so_far ++ (n ∷ []);
           are = at.decides ∙ rw (part-last tab fields from e p h) (field_is at.so_far _ [] n k' ∙ fields-end _);
@@ -123,7 +123,7 @@ module _ {fields cells : List ℕ} {count from e : ℕ} (at : Gathered fields co
 
 -- what the loop's caller learns, once it is known which
 module _ (o : Option (List ℕ)) (cells : List ℕ) (x : MaybeNumbers) where
-  pub made_none : NumbersMade o x cells → x ≡ NotNumbers → o ≡ none
+  pub made_none : NumbersMade o x cells → x ≡ NotNumbers → o ≡ None
   unfolding NumbersMade
   made_none m e = rw e at m
 

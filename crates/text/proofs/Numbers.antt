@@ -1,7 +1,7 @@
 -- Laws of a field that is a number or is none, as a loop over its bytes reads it. Assumes nothing.
 use mathlib.Core.Path.{◌≡◌}
 use mathlib.Core.Bool.{true, false}
-use mathlib.Core.Option.{none, some}
+use Rattle.std.specs.Prelude.{None, Some}
 use mathlib.Core.List.{List, [], ◌∷◌}
 use Prim.Native.Nat.{ℕ, ◌+◌, ◌-◌, ◌*◌, ◌≤◌, ◌<◌}
 use native.Mathlib.Numerals.{add-one}
@@ -42,28 +42,28 @@ decimal-least n [] = omega arith
 decimal-least n (b ∷ bs) = omega (arith, decimal-least (n * 10 + (b - 48)) bs)
 
 module _ (bs : List ℕ) where
-  pub number-empty : length bs < 1 → number_of bs ≡ none
+  pub number-empty : length bs < 1 → number_of bs ≡ None
   unfolding number_of is_number
   number-empty h = none-if _ _ (not_left _ _ (lt-leb 1 (length bs) h))
 
-  pub number_digits : is_digits bs ≡ false → number_of bs ≡ none
+  pub number_digits : is_digits bs ≡ false → number_of bs ≡ None
   unfolding number_of is_number
   number_digits e = none-if _ _ (not_right _ _ (not_left _ _ e))
 
-  pub number-plain : is_plain bs ≡ false → number_of bs ≡ none
+  pub number-plain : is_plain bs ≡ false → number_of bs ≡ None
   unfolding number_of is_number
   number-plain e = none-if _ _ (not_right _ _ (not_right _ _ (not_left _ _ e)))
 
-  pub number-large : most_number < decimal 0 bs → number_of bs ≡ none
+  pub number-large : most_number < decimal 0 bs → number_of bs ≡ None
   unfolding number_of is_number
   number-large h = none-if _ _ (not_right _ _ (not_right _ _ (not_right _ _ (lt-leb (decimal 0 bs) most_number h))))
 
-  pub number_is : 1 ≤ length bs → is_digits bs ≡ true → is_plain bs ≡ true → decimal 0 bs ≤ most_number → number_of bs ≡ some (decimal 0 bs)
+  pub number_is : 1 ≤ length bs → is_digits bs ≡ true → is_plain bs ≡ true → decimal 0 bs ≤ most_number → number_of bs ≡ Some (decimal 0 bs)
   unfolding number_of is_number
   number_is h d p m =
       some-if _ _ (and_both _ _ (le-leb 1 (length bs) h) (and_both _ _ d (and_both _ _ p (le-leb (decimal 0 bs) most_number m))))
 
   -- a number has a digit
-  pub number-some : (n : ℕ) → number_of bs ≡ some n → 1 ≤ length bs
+  pub number-some : (n : ℕ) → number_of bs ≡ Some n → 1 ≤ length bs
   unfolding number_of is_number
   number-some n e = leb-true _ _ (and_left _ _ (if_some _ _ n e).0)

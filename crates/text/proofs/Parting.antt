@@ -2,7 +2,7 @@
 -- first one stands at the length. Assumes nothing.
 use mathlib.Core.Path.{◌≡◌, refl, ap, ◌∙◌}
 use mathlib.Core.Bool.{false}
-use mathlib.Core.Option.{some}
+use Rattle.std.specs.Prelude.{Some}
 use mathlib.Core.List.{List, [], ◌∷◌, ◌++◌, map, append-nil}
 use Prim.Native.Nat.{ℕ, suc, ◌%◌, ◌<◌}
 use native.Mathlib.Omega.{arith}
@@ -85,7 +85,7 @@ parts-numbers word (n ∷ ns) h =
     ∙ ap (λ fs. word ∷ fs) (parts-numbers (decimal_text n) ns (decimal-without tab (omega arith) n))
 
 -- and read again
-pub numbers-read : (ns : List ℕ) → Below (suc most_number) ns → numbers_of (map decimal_text ns) ≡ some ns
+pub numbers-read : (ns : List ℕ) → Below (suc most_number) ns → numbers_of (map decimal_text ns) ≡ Some ns
 unfolding numbers_of on_option Below
 numbers-read [] b = refl
 numbers-read (n ∷ ns) b = rw (number_read n (omega (arith, b.0)), numbers-read ns b.1)

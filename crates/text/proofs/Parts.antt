@@ -72,8 +72,8 @@ module _ (separator : ℕ) where
           → (ps : List (List ℕ)) × (parts separator l ≡ take (first_at separator l) l ∷ ps)
       go true e = (_, parts_more l (ltb-true _ _ e))
       go false e =
-          let none : first_at separator l ≡ length l = omega (arith, ltb-false (first_at separator l) (length l) e, first-within l) in
-          ([], parts_last l none ∙ ap (λ (p : List ℕ). p ∷ []) (sym (take_all (first_at separator l) l (omega arith))))
+          let None : first_at separator l ≡ length l = omega (arith, ltb-false (first_at separator l) (length l) e, first-within l) in
+          ([], parts_last l None ∙ ap (λ (p : List ℕ). p ∷ []) (sym (take_all (first_at separator l) l (omega arith))))
 
 -- what is left of a text from an index on, as code takes it
 abbrev pub rest_of : List ℕ → ℕ → List ℕ

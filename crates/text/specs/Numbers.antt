@@ -1,6 +1,6 @@
 -- Numbers as text (01, "Plan text and listing": decimal, up to 65,535, without sign or leading zero).
 use Rattle.std.specs.Prelude.{Bool, true, not, List, [], ◌∷◌, ◌++◌, ℕ, zero, suc, ◌+◌, ◌-◌, ◌*◌, ◌/◌, ◌%◌, leb, ltb, eqb, length, get_or, if◌then◌else◌}
-use Rattle.std.proofs.Math.Option.{Option, none, some}
+use Rattle.std.specs.Prelude.{Option, None, Some}
 use Rattle.units.specs.Choice.{◌and◌, some_if, on_option}
 use Rattle.units.specs.Limits.{within}
 
@@ -32,8 +32,8 @@ number_of bs = some_if (is_number bs) (decimal 0 bs)
 
 -- the numbers of all fields, if each is one
 unfoldable pub numbers_of : List (List ℕ) → Option (List ℕ)
-numbers_of [] = some []
-numbers_of (f ∷ fs) = on_option (number_of f) none (λ n. on_option (numbers_of fs) none (λ ns. some (n ∷ ns)))
+numbers_of [] = Some []
+numbers_of (f ∷ fs) = on_option (number_of f) None (λ n. on_option (numbers_of fs) None (λ ns. Some (n ∷ ns)))
 
 -- ---- printed
 

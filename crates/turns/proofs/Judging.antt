@@ -208,15 +208,12 @@ module _ (rooms tasks hours n i t : ℕ) where
     there-C e = ltb-true _ _ (and_left _ _ (rw (step-C e) at is))
 
     pub there-O : n ≡ letter_o → (i < rooms) × (t < hours)
-    unfolding is_hour is_room_number
     there-O e = let both = rw (step-O e) at is in (ltb-true _ _ (and_left _ _ both), ltb-true _ _ (and_right _ _ both))
 
     pub there-L : n ≡ letter_l → (i < tasks) × (t < hours)
-    unfolding is_hour
     there-L e = let both = rw (step-L e) at is in (ltb-true _ _ (and_left _ _ both), ltb-true _ _ (and_right _ _ both))
 
     pub there-U : n ≡ letter_u → (i < tasks) × (t < hours)
-    unfolding is_hour
     there-U e = let both = rw (step-U e) at is in (ltb-true _ _ (and_left _ _ both), ltb-true _ _ (and_right _ _ both))
 
 module _ (hours tasks : ℕ) (capacities heights boxes : List ℕ) (fits : List Fit) (x : Step) where

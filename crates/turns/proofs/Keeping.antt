@@ -3,7 +3,7 @@
 use Rattle.std.specs.Prelude.{if◌then◌else◌}
 use mathlib.Core.Path.{◌≡◌, refl, sym, ap, ◌∙◌}
 use mathlib.Core.Bool.{Bool, true, false, false≢true}
-use mathlib.Core.Option.{none, some}
+use Rattle.std.specs.Prelude.{None, Some}
 use mathlib.Core.List.{List}
 use Prim.Native.Nat.{ℕ, ◌+◌, ◌-◌, ◌<◌}
 use native.Mathlib.Omega.{arith}
@@ -117,7 +117,7 @@ module _ (P : Plan) (boxes : List ℕ) (fits : List Fit) (k : Keeping P boxes fi
 
   kind-kept : (kind : Kind) (i t : ℕ) → is_step (room_count P) (task_count P) P.shifts.hours kind i t ≡ true
       → judgement_of boxes (judge_kind_by P.shifts.hours (task_count P) P.capacities P.heights boxes fits kind i t) ≡ judge_kind P boxes kind i t
-  unfolding judge_kind_by judge_kind judge_c judge_o judge_l judge_u bound_by is_step is_room_number heights_of capacity_of judgement_of on_judged
+  unfolding judge_kind_by judge_kind judge_c judge_o judge_l judge_u bound_by is_step heights_of capacity_of judgement_of on_judged
   kind-kept kind_c i t is =
       rw (k.kept i (ltb-true _ _ (and_left _ _ is))) (calendar-judged boxes i (fit_at P.shifts boxes i) (bounds_at boxes i))
   kind-kept kind_o room t is = rw (load_kept room t (ltb-true _ _ (and_left _ _ is))) (if-ap (judgement_of boxes) _ _ _)
@@ -147,8 +147,8 @@ module _ (P : Plan) (boxes : List ℕ) (fits : List Fit) (k : Keeping P boxes fi
   -- ---- the first admitted step, in any order of kinds
 
   by-judged : (x : Step) (r : Judged)
-      → on_judged r none none (some x) (λ i b. some x)
-      ≡ on_option (on_judgement (judgement_of boxes r) none none (some (stops x)) (λ left. some (moves x left))) none (λ a. some (step_of a))
+      → on_judged r None None (Some x) (λ i b. Some x)
+      ≡ on_option (on_judgement (judgement_of boxes r) None None (Some (stops x)) (λ left. Some (moves x left))) None (λ a. Some (step_of a))
   unfolding judgement_of on_judged on_judgement on_option
   by-judged x Unknown = refl
   by-judged x NotAdmitted = refl
@@ -156,13 +156,13 @@ module _ (P : Plan) (boxes : List ℕ) (fits : List Fit) (k : Keeping P boxes fi
   by-judged x (Moved i b) = refl
 
   admitted-kept : (x : Step)
-      → admitted_by P.shifts.hours (task_count P) P.capacities P.heights boxes fits x ≡ on_option (if_admitted P boxes x) none (λ a. some (step_of a))
+      → admitted_by P.shifts.hours (task_count P) P.capacities P.heights boxes fits x ≡ on_option (if_admitted P boxes x) None (λ a. Some (step_of a))
   unfolding admitted_by if_admitted
   admitted-kept x = rw (← judge-kept x) (by-judged x _)
 
   pub next-kept : (order : List Kind)
       → first_by (room_count P) (task_count P) P.shifts.hours (admitted_by P.shifts.hours (task_count P) P.capacities P.heights boxes fits) order
-      ≡ on_option (next_by order P boxes) none (λ a. some (step_of a))
+      ≡ on_option (next_by order P boxes) None (λ a. Some (step_of a))
   unfolding next_by
   next-kept order = first-maps (room_count P) (task_count P) P.shifts.hours step_of (if_admitted P boxes) _ admitted-kept order
 

@@ -3,7 +3,7 @@
 use Rattle.std.specs.Prelude.{if◌then◌else◌}
 use mathlib.Core.Path.{◌≡◌, refl, sym, ap, ap₂, ◌∙◌}
 use mathlib.Core.Bool.{Bool, true, false, not}
-use mathlib.Core.Option.{Option, none, some}
+use Rattle.std.specs.Prelude.{Option, None, Some}
 use mathlib.Core.List.{List}
 use Prim.Native.Nat.{ℕ, ◌+◌, ◌≤◌, ◌<◌, min}
 use native.Mathlib.Omega.{arith}
@@ -35,15 +35,15 @@ use Rattle.turns.specs.Inner.Finding.{admits, letter_of, first_hour, end_hour, L
 
 -- ---- the first of several
 
-else-last : {A : Type 0} (x : Option A) → (x or_else none) ≡ x
+else-last : {A : Type 0} (x : Option A) → (x or_else None) ≡ x
 unfolding ◌or_else◌
-else-last none = refl
-else-last (some a) = refl
+else-last None = refl
+else-last (Some a) = refl
 
 -- ---- what is admitted
 
-judged-is : (j : Judged) (x : Step) → on_judged j none none (some x) (λ i b. some x) ≡ some_if (admits j) x
-unfolding on_judged admits some_if
+judged-is : (j : Judged) (x : Step) → on_judged j None None (Some x) (λ i b. Some x) ≡ some_if (admits j) x
+unfolding on_judged admits
 judged-is Unknown x = refl
 judged-is NotAdmitted x = refl
 judged-is Impossible x = refl
@@ -99,10 +99,10 @@ module _ (hours tasks : ℕ) (capacities heights boxes : List ℕ) (fits : List 
   admitted-is letter i t k q e = rw (q, if-true _ _ _ e) (judged-is _ _)
 
   not-admitted : (letter i t : ℕ) (k : Kind) → kind_of letter ≡ k → admits (judge_kind_by hours tasks capacities heights boxes fits k i t) ≡ false
-      → admitted_by hours tasks capacities heights boxes fits (step letter i t) ≡ none
+      → admitted_by hours tasks capacities heights boxes fits (step letter i t) ≡ None
   unfolding admitted_by judge_by
   not-admitted letter i t k q e =
-      if-all (λ (j : Judged). on_judged j none none (some (step letter i t)) (λ k b. some (step letter i t)) ≡ none)
+      if-all (λ (j : Judged). on_judged j None None (Some (step letter i t)) (λ k b. Some (step letter i t)) ≡ None)
       (is_step (length capacities) tasks hours (kind_of letter) i t)
       (judge_kind_by hours tasks capacities heights boxes fits (kind_of letter) i t) Unknown
       (λ known. rw q (judged-is _ _ ∙ none-if _ _ e))
@@ -121,7 +121,7 @@ module _ (hours tasks : ℕ) (capacities heights boxes : List ℕ) (fits : List 
   pub overload-is : (room t : ℕ) → room < length capacities → t < hours
       → admitted_by hours tasks capacities heights boxes fits (step letter_o room t)
       ≡ some_if (ltb (get_or capacities room 0) (load_of fits (room_part tasks heights room) t)) (step letter_o room t)
-  unfolding judge_kind_by is_step is_hour is_room_number
+  unfolding judge_kind_by is_step
   overload-is room t l m =
       admitted-is letter_o room t kind_o is-O (and_both _ _ (lt-ltb room (length capacities) l) (lt-ltb t hours m))
       ∙ ap (λ (p : Bool). some_if p (step letter_o room t)) (stops-is _)
@@ -130,7 +130,7 @@ module _ (hours tasks : ℕ) (capacities heights boxes : List ℕ) (fits : List 
 
   module _ (i t : ℕ) where
     -- a task with no valid triple
-    pub none_never : (lower : Bool) → get_or fits i Never ≡ Never → admitted_by hours tasks capacities heights boxes fits (step (letter_of lower) i t) ≡ none
+    pub none_never : (lower : Bool) → get_or fits i Never ≡ Never → admitted_by hours tasks capacities heights boxes fits (step (letter_of lower) i t) ≡ None
     unfolding judge_kind_by bound_by on_fit admits on_judged
     none_never true e = not-admitted (letter_of true) i t kind_l is-L (rw e)
     none_never false e = not-admitted (letter_of false) i t kind_u is-U (rw e)
@@ -149,12 +149,12 @@ module _ (hours tasks : ℕ) (capacities heights boxes : List ℕ) (fits : List 
       upper_is = rw (e, ← f) (moves-is _ _ _ _)
 
       -- before its first hour, from its end on, and between
-      pub none_before : (lower : Bool) → t < first_hour lower w b → admitted_by hours tasks capacities heights boxes fits (step (letter_of lower) i t) ≡ none
+      pub none_before : (lower : Bool) → t < first_hour lower w b → admitted_by hours tasks capacities heights boxes fits (step (letter_of lower) i t) ≡ None
       unfolding first_hour
       none_before true l = not-admitted (letter_of true) i t kind_l is-L (lower-is ∙ not_right _ _ (not_left _ _ (lt-leb b.earliest.0 t l)))
       none_before false l = not-admitted (letter_of false) i t kind_u is-U (upper_is ∙ not_left _ _ (lt-leb (lst w) t l))
 
-      pub none_after : (lower : Bool) → end_hour lower w b ≤ t → admitted_by hours tasks capacities heights boxes fits (step (letter_of lower) i t) ≡ none
+      pub none_after : (lower : Bool) → end_hour lower w b ≤ t → admitted_by hours tasks capacities heights boxes fits (step (letter_of lower) i t) ≡ None
       unfolding end_hour
       none_after true l = not-admitted (letter_of true) i t kind_l is-L (lower-is ∙ not_left _ _ (le-ltb t (ect w) l))
       none_after false l =
@@ -163,7 +163,7 @@ module _ (hours tasks : ℕ) (capacities heights boxes : List ℕ) (fits : List 
       pub excess-is : (lower : Bool) → i < tasks → t < hours → first_hour lower w b ≤ t → t < end_hour lower w b
           → admitted_by hours tasks capacities heights boxes fits (step (letter_of lower) i t)
           ≡ some_if (excess_by tasks capacities heights fits w i t) (step (letter_of lower) i t)
-      unfolding first_hour end_hour is_step is_hour excess
+      unfolding first_hour end_hour is_step excess
       excess-is true l m n o =
           admitted-is (letter_of true) i t kind_l is-L (and_both _ _ (lt-ltb i tasks l) (lt-ltb t hours m))
           ∙ ap (λ (p : Bool). some_if p (step (letter_of true) i t))
@@ -184,20 +184,20 @@ module _ (hours tasks : ℕ) (capacities heights boxes : List ℕ) (fits : List 
     of_task i = first_of (at_hour i) hours
 
     -- a task with no valid triple is passed over
-    pub skip-never : (i : ℕ) → get_or fits i Never ≡ Never → first_of of_task i ≡ none → first_of of_task (i + 1) ≡ none
+    pub skip-never : (i : ℕ) → get_or fits i Never ≡ Never → first_of of_task i ≡ None → first_of of_task (i + 1) ≡ None
     skip-never i e n = first_next of_task i n ∙ first-all-none (at_hour i) hours (λ t l. none_never i t lower e)
 
     -- the hour after one in which the step is not admitted
-    pub next-hour : (i t : ℕ) {next : Hour} → next ≡ hour (t + 1) → first_of (at_hour i) t ≡ none → at_hour i t ≡ none → first_of (at_hour i) next.0 ≡ none
+    pub next-hour : (i t : ℕ) {next : Hour} → next ≡ hour (t + 1) → first_of (at_hour i) t ≡ None → at_hour i t ≡ None → first_of (at_hour i) next.0 ≡ None
     next-hour i t is n h = rw is (first_next (at_hour i) t n ∙ h)
 
     module _ (i : ℕ) (w : Window) (b : Bounds) (e : get_or fits i Never ≡ Within w) (f : b ≡ bounds_at boxes i) where
       -- the hours before the first, and those from the end on
-      pub skip-before : (t : ℕ) → t ≡ first_hour lower w b → first_of (at_hour i) t ≡ none
+      pub skip-before : (t : ℕ) → t ≡ first_hour lower w b → first_of (at_hour i) t ≡ None
       skip-before t q = first-all-none (at_hour i) t (λ u l. none_before i u w b e f lower (omega arith))
 
-      pub skip-after : (end clip t : ℕ) → end ≡ end_hour lower w b → clip ≡ min end hours → clip ≤ t → first_of (at_hour i) t ≡ none
-          → first_of of_task i ≡ none → first_of of_task (i + 1) ≡ none
+      pub skip-after : (end clip t : ℕ) → end ≡ end_hour lower w b → clip ≡ min end hours → clip ≤ t → first_of (at_hour i) t ≡ None
+          → first_of of_task i ≡ None → first_of of_task (i + 1) ≡ None
       skip-after end clip t q r l n m =
           first_next of_task i m ∙ first_rest (at_hour i) t hours n (λ u k h. none_after i u w b e f lower (omega arith))
 
@@ -207,8 +207,8 @@ module _ (hours tasks : ℕ) (capacities heights boxes : List ℕ) (fits : List 
       test-hour from end clip t r p q s k l m h = excess-is i t w b e f lower m (omega arith) (omega arith) (omega arith) ∙ rw h
 
     -- the search is left at the first hit
-    pub found_at : (kind i t : ℕ) → kind ≡ letter_of lower → i < tasks → t < hours → first_of of_task i ≡ none → first_of (at_hour i) t ≡ none
-        → at_hour i t ≡ some (step (letter_of lower) i t) → some (step kind i t) ≡ first_excess hours tasks capacities heights boxes fits lower
+    pub found_at : (kind i t : ℕ) → kind ≡ letter_of lower → i < tasks → t < hours → first_of of_task i ≡ None → first_of (at_hour i) t ≡ None
+        → at_hour i t ≡ Some (step (letter_of lower) i t) → Some (step kind i t) ≡ first_excess hours tasks capacities heights boxes fits lower
     unfolding first_excess
     found_at kind i t q l m n o h =
         rw q (sym (first-hit of_task i tasks _ l n (first-hit (at_hour i) t hours _ m o h)))
@@ -255,12 +255,12 @@ module _ (hours tasks : ℕ) (capacities heights boxes : List ℕ) (fits : List 
     by-load e = e ∙ ap₂ ◌or_else◌ overload-first (ap (◌or_else◌ _) (sym (else-last _)))
 
   module _ {r : Option Step} (e : r ≡ first_calendar boxes fits tasks) where
-    pub next-calendar : {x : Step} → r ≡ some x
+    pub next-calendar : {x : Step} → r ≡ Some x
         → r ≡ first_by (length capacities) tasks hours (admitted_by hours tasks capacities heights boxes fits) filter_order
     unfolding first_by filter_order
     next-calendar q = outer-ends _ _ (e ∙ calendar-first) q
 
-    pub next-by-load : {s : Option Step} → r ≡ none
+    pub next-by-load : {s : Option Step} → r ≡ None
         → s ≡ first_by (length capacities) tasks hours (admitted_by hours tasks capacities heights boxes fits) load_order
         → s ≡ first_by (length capacities) tasks hours (admitted_by hours tasks capacities heights boxes fits) filter_order
     unfolding first_by filter_order

@@ -1,11 +1,11 @@
 -- Laws of a turn: the step that the code finds and judges is the step that stands next, with what it comes to. Assumes nothing.
 use mathlib.Core.Path.{◌≡◌, sym, ap, ap₂, ◌∙◌}
-use mathlib.Core.Option.{Option, none, some}
+use Rattle.std.specs.Prelude.{Option, None, Some}
 use mathlib.Core.List.{List}
 use Prim.Native.Nat.{ℕ}
 use native.Mathlib.Omega.{arith}
 use Rattle.units.specs.Choice.{on_option}
-use Rattle.units.proofs.Choices.{option-case, none≢some}
+use Rattle.units.proofs.Choices.{option-case, None≢Some}
 use Rattle.units.specs.declared.Bounds.{Bounds}
 use Rattle.plan.specs.Plan.{Plan, room_count, task_count}
 use Rattle.plan.specs.Boxes.{with_bounds}
@@ -41,18 +41,18 @@ module _ (P : Plan) (boxes : List ℕ) (fits : List Fit) (k : Keeping P boxes fi
     r
     ≡ first_by (room_count P) (task_count P) P.shifts.hours (admitted_by P.shifts.hours (task_count P) P.capacities P.heights boxes fits)
     filter_order) where
-  finds : r ≡ on_option (next P boxes) none (λ a. some (step_of a))
+  finds : r ≡ on_option (next P boxes) None (λ a. Some (step_of a))
   finds = is ∙ next-kept P boxes fits k filter_order
 
-  pub turn-settles : r ≡ none → none ≡ next P boxes
-  turn-settles e = option-case _ _ _ _ (sym finds ∙ e) (λ q b. sym q) (λ a q b. none≢some (sym b))
+  pub turn-settles : r ≡ None → None ≡ next P boxes
+  turn-settles e = option-case _ _ _ _ (sym finds ∙ e) (λ q b. sym q) (λ a q b. None≢Some (sym b))
 
-  pub turn-found : (x : Step) (j : Judged) → r ≡ some x → j ≡ judge_by P.shifts.hours (task_count P) P.capacities P.heights boxes fits x
-      → some (admitted_of boxes x j) ≡ next P boxes
+  pub turn-found : (x : Step) (j : Judged) → r ≡ Some x → j ≡ judge_by P.shifts.hours (task_count P) P.capacities P.heights boxes fits x
+      → Some (admitted_of boxes x j) ≡ next P boxes
   unfolding Rightly
   turn-found x j found js =
-      option-case _ _ _ _ (sym finds ∙ found) (λ q b. none≢some b)
-      (λ a q b. let s : step_of a ≡ x = cc in ap some (go a s (next-rightly P boxes filter_order a q)) ∙ sym q)
+      option-case _ _ _ _ (sym finds ∙ found) (λ q b. None≢Some b)
+      (λ a q b. let s : step_of a ≡ x = cc in ap Some (go a s (next-rightly P boxes filter_order a q)) ∙ sym q)
     where
       go : (a : Admitted) → step_of a ≡ x → Rightly P boxes a → admitted_of boxes x j ≡ a
       go (stops y) s right = stops-is boxes x y j (judges P boxes fits k x j js ∙ ap (judge P boxes) (sym s) ∙ right) (sym s)

@@ -3,7 +3,7 @@ use Rattle.std.specs.Prelude.{if◌then◌else◌}
 use mathlib.Core.Path.{◌≡◌, refl, sym, ap₂, ◌∙◌, subst}
 use mathlib.Core.Logic.{◌≢◌}
 use mathlib.Core.Bool.{Bool, true, false, false≢true}
-use mathlib.Core.Option.{Option, none, some}
+use Rattle.std.specs.Prelude.{Option, None, Some}
 use Prim.Native.Nat.{ℕ, zero, suc, ◌+◌, ◌≤◌, ◌<◌}
 use native.Mathlib.Numerals.{add-one}
 use native.Mathlib.Omega.{arith}
@@ -94,69 +94,65 @@ if-ap f false x y = refl
 -- ---- some_if
 
 module _ {A : Type 0} (b : Bool) (a : A) where
-  pub some-if : b ≡ true → some_if b a ≡ some a
-  unfolding some_if
+  pub some-if : b ≡ true → some_if b a ≡ Some a
   some-if e = rw e
 
-  pub none-if : b ≡ false → some_if b a ≡ none
-  unfolding some_if
+  pub none-if : b ≡ false → some_if b a ≡ None
   none-if e = rw e
 
-pub none≢some : {A C : Type 0} {a : A} → none ≡ some a → C
-none≢some e = absurd (let z : ◌≡◌ {A = ℕ} 0 1 = cc in omega arith)
+pub None≢Some : {A C : Type 0} {a : A} → None ≡ Some a → C
+None≢Some e = absurd (let z : ◌≡◌ {A = ℕ} 0 1 = cc in omega arith)
 
-pub if_none : {A : Type 0} (b : Bool) (a : A) → some_if b a ≡ none → b ≡ false
-unfolding some_if
-if_none true a e = none≢some (sym e)
+pub if_none : {A : Type 0} (b : Bool) (a : A) → some_if b a ≡ None → b ≡ false
+if_none true a e = None≢Some (sym e)
 if_none false a e = refl
 
-pub if_some : {A : Type 0} (b : Bool) (a x : A) → some_if b a ≡ some x → (b ≡ true) × (a ≡ x)
-unfolding some_if
+pub if_some : {A : Type 0} (b : Bool) (a x : A) → some_if b a ≡ Some x → (b ≡ true) × (a ≡ x)
 if_some true a x e = (refl, cc)
-if_some false a x e = none≢some e
+if_some false a x e = None≢Some e
 
 -- ---- on_option
 
-pub option-case : {A B C : Type 0} (o : Option A) (b : B) (f : A → B) (y : B) → on_option o b f ≡ y → (o ≡ none → b ≡ y → C)
-    → ((a : A) → o ≡ some a → f a ≡ y → C) → C
+pub option-case : {A B C : Type 0} (o : Option A) (b : B) (f : A → B) (y : B) → on_option o b f ≡ y → (o ≡ None → b ≡ y → C)
+    → ((a : A) → o ≡ Some a → f a ≡ y → C) → C
 unfolding on_option
-option-case none b f y e g h = g refl e
-option-case (some a) b f y e g h = h a refl e
+option-case None b f y e g h = g refl e
+option-case (Some a) b f y e g h = h a refl e
 
-pub option-all : {A B : Type 0} (C : B → Type 0) (o : Option A) (b : B) (f : A → B) → (o ≡ none → C b) → ((a : A) → o ≡ some a → C (f a))
+pub option-all : {A B : Type 0} (C : B → Type 0) (o : Option A) (b : B) (f : A → B) → (o ≡ None → C b) → ((a : A) → o ≡ Some a → C (f a))
     → C (on_option o b f)
 unfolding on_option
-option-all C none b f g h = g refl
-option-all C (some a) b f g h = h a refl
+option-all C None b f g h = g refl
+option-all C (Some a) b f g h = h a refl
 
 -- ---- or_else
 
 module _ {A : Type 0} (x y : Option A) where
-  pub else-none : x ≡ none → (x or_else y) ≡ y
+  pub else-none : x ≡ None → (x or_else y) ≡ y
   unfolding ◌or_else◌
   else-none e = rw e
 
-  pub else-some : (a : A) → x ≡ some a → (x or_else y) ≡ some a
+  pub else-some : (a : A) → x ≡ Some a → (x or_else y) ≡ Some a
   unfolding ◌or_else◌
   else-some a e = rw e
 
-pub else-case : {A C : Type 0} (x y z : Option A) → (x or_else y) ≡ z → (x ≡ none → y ≡ z → C) → ((a : A) → x ≡ some a → some a ≡ z → C) → C
+pub else-case : {A C : Type 0} (x y z : Option A) → (x or_else y) ≡ z → (x ≡ None → y ≡ z → C) → ((a : A) → x ≡ Some a → Some a ≡ z → C) → C
 unfolding ◌or_else◌
-else-case none y z e f g = f refl e
-else-case (some a) y z e f g = g a refl e
+else-case None y z e f g = f refl e
+else-case (Some a) y z e f g = g a refl e
 
 -- nothing is found in either
-pub neither : {A : Type 0} (x y : Option A) → (x or_else y) ≡ none → (x ≡ none) × (y ≡ none)
+pub neither : {A : Type 0} (x y : Option A) → (x or_else y) ≡ None → (x ≡ None) × (y ≡ None)
 unfolding ◌or_else◌
-neither none y e = (refl, e)
-neither (some a) y e = none≢some (sym e)
+neither None y e = (refl, e)
+neither (Some a) y e = None≢Some (sym e)
 
 -- one search after another: a hit of the first ends them, and where it finds nothing the rest decides
 module _ {A : Type 0} (x y : Option A) {r : Option A} (e : r ≡ x) where
-  pub outer-ends : {a : A} → r ≡ some a → r ≡ (x or_else y)
+  pub outer-ends : {a : A} → r ≡ Some a → r ≡ (x or_else y)
   outer-ends {a} q = q ∙ sym (else-some x y a (sym e ∙ q))
 
-  pub outer-goes-on : {s : Option A} → r ≡ none → s ≡ y → s ≡ (x or_else y)
+  pub outer-goes-on : {s : Option A} → r ≡ None → s ≡ y → s ≡ (x or_else y)
   outer-goes-on q k = k ∙ sym (else-none x y (sym e ∙ q))
 
 -- ---- some of several
@@ -190,54 +186,54 @@ some-eq f g (suc n) h = ap₂ (λ a b. if a then true else b) (some-eq f g n (λ
 -- ---- the first of several
 
 module _ {A : Type 0} (f : ℕ → Option A) where
-  pub first_next : (n : ℕ) → first_of f n ≡ none → first_of f (n + 1) ≡ f n
+  pub first_next : (n : ℕ) → first_of f n ≡ None → first_of f (n + 1) ≡ f n
   unfolding first_of
   first_next n e = rw add-one (else-none (first_of f n) (f n) e)
 
   -- a hit among the first m is the first hit among any n beyond: what a loop that is left at its first hit needs
-  pub first_found : (n m : ℕ) (a : A) → m ≤ n → first_of f m ≡ some a → first_of f n ≡ some a
+  pub first_found : (n m : ℕ) (a : A) → m ≤ n → first_of f m ≡ Some a → first_of f n ≡ Some a
   unfolding first_of
-  first_found zero m a l e = let q : m ≡ 0 = omega arith in subst (λ (k : ℕ). first_of f k ≡ some a) q e
+  first_found zero m a l e = let q : m ≡ 0 = omega arith in subst (λ (k : ℕ). first_of f k ≡ Some a) q e
   first_found (suc n) m a l e = go (λ (k : m ≤ n). first_found n m a k e) (eqb m (suc n)) refl
     where
-      go : (m ≤ n → first_of f n ≡ some a) → (b : Bool) → eqb m (suc n) ≡ b → first_of f (suc n) ≡ some a
-      go below true q = subst (λ (k : ℕ). first_of f k ≡ some a) (eqb-true m (suc n) q) e
+      go : (m ≤ n → first_of f n ≡ Some a) → (b : Bool) → eqb m (suc n) ≡ b → first_of f (suc n) ≡ Some a
+      go below true q = subst (λ (k : ℕ). first_of f k ≡ Some a) (eqb-true m (suc n) q) e
       go below false q = let ne : m ≢ suc n = eqb-false m (suc n) q in else-some _ _ a (below (omega arith))
 
   -- nothing at the numbers before n, and a hit at n, among more
-  pub first-hit : (n m : ℕ) (a : A) → n < m → first_of f n ≡ none → f n ≡ some a → first_of f m ≡ some a
+  pub first-hit : (n m : ℕ) (a : A) → n < m → first_of f n ≡ None → f n ≡ Some a → first_of f m ≡ Some a
   first-hit n m a l e q = first_found m (n + 1) a (omega arith) (first_next n e ∙ q)
 
-  pub first-none : (n : ℕ) → first_of f n ≡ none → (i : ℕ) → i < n → f i ≡ none
+  pub first-none : (n : ℕ) → first_of f n ≡ None → (i : ℕ) → i < n → f i ≡ None
   unfolding first_of
   first-none zero e i l = absurd (omega arith)
   first-none (suc n) e i l = let q = neither (first_of f n) (f n) e in last q.1 (λ (m : i < n). first-none n q.0 i m) (eqb i n) refl
     where
-      last : f n ≡ none → (i < n → f i ≡ none) → (b : Bool) → eqb i n ≡ b → f i ≡ none
+      last : f n ≡ None → (i < n → f i ≡ None) → (b : Bool) → eqb i n ≡ b → f i ≡ None
       last k below true r = let s : i ≡ n = eqb-true i n r in rw s k
       last k below false r = let ne : i ≢ n = eqb-false i n r in below (omega arith)
 
-  pub first-all-none : (n : ℕ) → ((i : ℕ) → i < n → f i ≡ none) → first_of f n ≡ none
+  pub first-all-none : (n : ℕ) → ((i : ℕ) → i < n → f i ≡ None) → first_of f n ≡ None
   unfolding first_of
   first-all-none zero h = refl
   first-all-none (suc n) h = else-none _ _ (first-all-none n (λ i l. h i (omega arith))) ∙ h n (omega arith)
 
   -- nothing is found among as many as there are: what a loop that was not left needs
-  pub first-end : (n m : ℕ) → n ≤ m → m ≤ n → first_of f n ≡ none → first_of f m ≡ none
+  pub first-end : (n m : ℕ) → n ≤ m → m ≤ n → first_of f n ≡ None → first_of f m ≡ None
   first-end n m l k e = let q : m ≡ n = omega arith in rw q e
 
   -- nothing among the first n, nor at the others below m
-  pub first_rest : (n m : ℕ) → first_of f n ≡ none → ((i : ℕ) → n ≤ i → i < m → f i ≡ none) → first_of f m ≡ none
+  pub first_rest : (n m : ℕ) → first_of f n ≡ None → ((i : ℕ) → n ≤ i → i < m → f i ≡ None) → first_of f m ≡ None
   first_rest n m e h = first-all-none m (λ i l. go i l (ltb i n) refl)
     where
-      go : (i : ℕ) → i < m → (b : Bool) → ltb i n ≡ b → f i ≡ none
+      go : (i : ℕ) → i < m → (b : Bool) → ltb i n ≡ b → f i ≡ None
       go i l true q = first-none n e i (ltb-true _ _ q)
       go i l false q = h i (ltb-false _ _ q) l
 
   -- what is found is found at some number
-  pub first-at : (n : ℕ) (a : A) → first_of f n ≡ some a → (i : ℕ) × (i < n) × (f i ≡ some a)
+  pub first-at : (n : ℕ) (a : A) → first_of f n ≡ Some a → (i : ℕ) × (i < n) × (f i ≡ Some a)
   unfolding first_of
-  first-at zero a e = none≢some e
+  first-at zero a e = None≢Some e
   first-at (suc n) a e =
       else-case _ _ _ e (λ q k. (n, omega arith, k)) (λ b q k. let (i, l, m) = first-at n a (q ∙ k) in (i, omega arith, m))
 
@@ -250,13 +246,13 @@ first-eq f g (suc n) h = ap₂ ◌or_else◌ (first-eq f g n (λ i l. h i (omega
 
 module _ {A B : Type 0} (f : A → B) where
   pub else-on : (x y : Option A)
-      → on_option (x or_else y) none (λ a. some (f a)) ≡ (on_option x none (λ a. some (f a)) or_else on_option y none (λ a. some (f a)))
+      → on_option (x or_else y) None (λ a. Some (f a)) ≡ (on_option x None (λ a. Some (f a)) or_else on_option y None (λ a. Some (f a)))
   unfolding ◌or_else◌ on_option
-  else-on none y = refl
-  else-on (some a) y = refl
+  else-on None y = refl
+  else-on (Some a) y = refl
 
-  pub first_on : (g : ℕ → Option A) (h : ℕ → Option B) (n : ℕ) → ((i : ℕ) → h i ≡ on_option (g i) none (λ a. some (f a)))
-      → first_of h n ≡ on_option (first_of g n) none (λ a. some (f a))
+  pub first_on : (g : ℕ → Option A) (h : ℕ → Option B) (n : ℕ) → ((i : ℕ) → h i ≡ on_option (g i) None (λ a. Some (f a)))
+      → first_of h n ≡ on_option (first_of g n) None (λ a. Some (f a))
   unfolding first_of on_option
   first_on g h zero e = refl
   first_on g h (suc n) e = ap₂ ◌or_else◌ (first_on g h n e) (e n) ∙ sym (else-on (first_of g n) (g n))

@@ -186,7 +186,7 @@ module _ {A : Type 0} (better : ℕ → ℕ → Bool) (key : A → ℕ) where
       module _ (m : A) (xs : List A) (order : Ordered Before (m ∷ xs)) (t : A) (member : Memᴰ t (m ∷ xs)) where
         pub best-is : ((y : A) → Memᴰ y (m ∷ xs) → better (key y) (key t) ≡ false)
             → ((y : A) → Memᴰ y (m ∷ xs) → key y ≡ key t → Before y t → ⊥) → first_best better key m xs ≡ t
-        best-is best none = go (best-before m xs order t member same)
+        best-is best None = go (best-before m xs order t member same)
           where
             found : A
             found = first_best better key m xs
@@ -196,7 +196,7 @@ module _ {A : Type 0} (better : ℕ → ℕ → Bool) (key : A → ℕ) where
 
             go : (found ≡ t) ⊎ Before found t → found ≡ t
             go (inl e) = e
-            go (inr b) = absurd (none found (best-member m xs) (sym same) b)
+            go (inr b) = absurd (None found (best-member m xs) (sym same) b)
 
 -- ---- its key is the least, or the greatest
 

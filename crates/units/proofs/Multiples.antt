@@ -18,7 +18,7 @@ module _ (each length count : ℕ) where
 
   -- it leaves none, so its quotient decides
   pub by-quotient : 1 ≤ each → length % each ≡ 0 → eqb (length / each) count ≡ eqb length (each * count)
-  by-quotient some e = go (eqb (length / each) count) refl
+  by-quotient Some e = go (eqb (length / each) count) refl
     where
       whole : each * (length / each) ≡ length
       whole = omega (arith, mod-add-div length each)
@@ -26,7 +26,7 @@ module _ (each length count : ℕ) where
       go : (b : Bool) → eqb (length / each) count ≡ b → eqb (length / each) count ≡ eqb length (each * count)
       go true q = q ∙ sym (eq-eqb length (each * count) (sym whole ∙ ap (◌*◌ each) (eqb-true _ _ q)))
       go false q =
-          q ∙ sym (ne_eqb length (each * count) (λ m. eqb-false _ _ q (ap (λ (n : ℕ). n / each) m ∙ mul-div_right count some)))
+          q ∙ sym (ne_eqb length (each * count) (λ m. eqb-false _ _ q (ap (λ (n : ℕ). n / each) m ∙ mul-div_right count Some)))
 
 -- the part of one of so many, so long each, lies within the whole
 pub part-within : (each count k : ℕ) → k < count → k * each + each ≤ count * each

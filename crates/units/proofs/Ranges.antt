@@ -1,16 +1,20 @@
 -- Laws of ranges and boxes. Assumes nothing.
-use mathlib.Core.Path.{◌≡◌, refl, ap₂}
+use Rattle.std.proofs.Common.{rules}
+use mathlib.Core.Path.{◌≡◌, refl, sym, ap₂, ◌∙◌}
 use mathlib.Core.Bool.{Bool, true, false}
-use mathlib.Core.Option.{Option, none, some}
+use Rattle.std.specs.Prelude.{Option}
 use Prim.Native.Nat.{ℕ, ◌≤◌, ◌<◌}
 use native.Mathlib.Omega.{arith}
 use lib.Dec.{leb}
+use Rattle.std.specs.Ordering.{is_le, nat_cmp}
+use native.Mathlib.Decide.{dec_le}
+use Rattle.std.specs.declared.cmp.Ordering.{Ordering}
 use borrow.Author.Tests.{le-leb, lt-leb, lt-ltb, leb-true, ltb-true}
-use Rattle.units.specs.Choice.{◌and◌, some_if, on_option}
+use Rattle.units.specs.Choice.{◌and◌, some_if}
 use Rattle.units.specs.Limits.{within, is_hour, is_work_time, is_overtime, is_range, is_box, Boxed}
 use Rattle.units.specs.Inner.Order.{in_order}
 use Rattle.units.specs.declared.Bounds.{Bounds}
-use Rattle.units.proofs.Choices.{and_both, and_left, and_right, not_left, not_right}
+use Rattle.units.proofs.Choices.{and_both, and-rest, and_left, and_right, not_left, not_right}
 
 module _ (least most n : ℕ) where
   pub is_within : least ≤ n → n ≤ most → within least most n ≡ true
@@ -55,31 +59,29 @@ module _ (kind : ℕ → Bool) (lower upper : ℕ) where
   unfolding is_range
   in_order_lem e = leb-true _ _ (and_right _ _ (and_right _ _ e))
 
--- ---- two bounds as their constructor made them
+-- ---- two bounds as their constructor made them: they are in order exactly when they make a range of their kind
 
-module _ {A : Type 0} (number : A → ℕ) (lower upper : Option A) where
-  pub no_lower : lower ≡ none → in_order number lower upper ≡ false
-  unfolding in_order on_option
-  no_lower p = rw p
-
-  pub no-upper : (l : A) → lower ≡ some l → upper ≡ none → in_order number lower upper ≡ false
-  unfolding in_order on_option
-  no-upper l p q = rw (p, q)
-
-  pub by-numbers : (l u : A) → lower ≡ some l → upper ≡ some u → in_order number lower upper ≡ leb (number l) (number u)
-  unfolding in_order on_option
-  by-numbers l u p q = rw (p, q)
-
--- they are in order exactly when they make a range of their kind
-pub made_range : {A : Type 0} (kind : ℕ → Bool) (number : A → ℕ) (make : ℕ → A) → ((n : ℕ) → number (make n) ≡ n) → (l u : ℕ)
-    → in_order number (some_if (kind l) (make l)) (some_if (kind u) (make u)) ≡ is_range kind l u
-unfolding in_order on_option some_if is_range ◌and◌
-made_range kind number make own l u = go (kind l) (kind u)
+-- what the order of hours, and of durations, says of their numbers
+pub le-cmp : (l u : ℕ) → is_le (nat_cmp l u) ≡ leb l u
+le-cmp l u = go (dec_le l u)
   where
-    go : (a b : Bool) → in_order number (some_if a (make l)) (some_if b (make u)) ≡ (a and b and leb l u)
-    go true true = ap₂ leb (own l) (own u)
-    go true false = refl
-    go false b = refl
+    go : Dec (l ≤ u) → is_le (nat_cmp l u) ≡ leb l u
+    go (yes h) = search rules
+    go (no h) = search rules
+
+module _ {A : Type 0} (kind : ℕ → Bool) (cmp : A → A → Ordering) (make : ℕ → A) (l u : ℕ) where
+  pub made_range : is_le (cmp (make l) (make u)) ≡ leb l u → in_order cmp (some_if (kind l) (make l)) (some_if (kind u) (make u)) ≡ is_range kind l u
+  unfolding is_range ◌and◌
+  made_range own = go (kind l) (kind u)
+    where
+      go : (a b : Bool) → in_order cmp (some_if a (make l)) (some_if b (make u)) ≡ (a and b and leb l u)
+      go true true = own
+      go true false = refl
+      go false b = refl
+
+  pub made : {x y : Option A} {r : Bool} → is_le (cmp (make l) (make u)) ≡ leb l u → x ≡ some_if (kind l) (make l) → y ≡ some_if (kind u) (make u)
+      → r ≡ in_order cmp x y → r ≡ is_range kind l u
+  made own p q e = e ∙ ap₂ (in_order cmp) p q ∙ made_range own
 
 -- ---- boxes
 
@@ -105,12 +107,12 @@ module _ (h p : ℕ) (b : Bounds) where
   unfolding is_box
   not-lengths e = not_right _ _ (not_left _ _ e)
 
-  pub not-overtimes : overtimes ≡ false → is_box h p b ≡ false
+  pub by-overtimes : starts ≡ true → lengths ≡ true → overtimes ≡ is_box h p b
   unfolding is_box
-  not-overtimes e = not_right _ _ (not_right _ _ e)
+  by-overtimes s e = sym (and-rest _ _ s ∙ and-rest _ _ e)
 
   pub boxed : is_box h p b ≡ true → Boxed h p b
-  unfolding is_box is_hour is_work_time is_overtime
+  unfolding is_box
   boxed e =
       let s = and_left _ _ e in
       let l = and_left _ _ (and_right _ _ e) in
@@ -126,7 +128,6 @@ module _ (h p : ℕ) (b : Bounds) where
       }
 
   pub is-boxed : Boxed h p b → is_box h p b ≡ true
-  unfolding is_hour is_work_time is_overtime
   is-boxed x =
       is-box
       (is-range (is_hour h) _ _ (lt-ltb _ h (omega (arith, x.starts, x.latest))) (lt-ltb _ _ x.latest) x.starts)

@@ -1,7 +1,7 @@
 -- A loop that looks for the first hit: what it knows at each number, and what it has found once it is left. Assumes nothing.
 use mathlib.Core.Path.{◌≡◌, refl, ◌∙◌}
 use mathlib.Core.Bool.{Bool, false}
-use mathlib.Core.Option.{Option, none, some}
+use Rattle.std.specs.Prelude.{Option, None, Some}
 use Prim.Native.Nat.{ℕ, ◌+◌, ◌≤◌, ◌<◌}
 use native.Mathlib.Omega.{arith}
 use Rattle.units.specs.Choice.{some_of, first_of}
@@ -10,20 +10,20 @@ use Rattle.units.proofs.Choices.{some_next, first_next, first-hit, first-end}
 -- nothing is found before i, which is not past the n that there are
 pub record Unfound {A : Type 0} (f : ℕ → Option A) (n i : ℕ) : Type 0 where
   pub inside : i ≤ n
-  pub none_before : first_of f i ≡ none
+  pub none_before : first_of f i ≡ None
 
 pub unfound-first : {A : Type 0} {f : ℕ → Option A} {n : ℕ} → Unfound f n 0
 unfolding first_of
 unfound-first = record { inside = omega arith; none_before = refl }
 
 module _ {A : Type 0} {f : ℕ → Option A} {n i : ℕ} (u : Unfound f n i) where
-  pub unfound-next : i < n → f i ≡ none → Unfound f n (i + 1)
+  pub unfound-next : i < n → f i ≡ None → Unfound f n (i + 1)
   unfound-next l e = record { inside = omega arith; none_before = first_next f i u.none_before ∙ e }
 
-  pub unfound-hit : {a : A} → i < n → f i ≡ some a → first_of f n ≡ some a
+  pub unfound-hit : {a : A} → i < n → f i ≡ Some a → first_of f n ≡ Some a
   unfound-hit l e = first-hit f i n _ l u.none_before e
 
-  pub unfound-end : n ≤ i → first_of f n ≡ none
+  pub unfound-end : n ≤ i → first_of f n ≡ None
   unfound-end l = first-end f i n u.inside l u.none_before
 
 -- a test that holds at no number before i, which is not past the n that there are

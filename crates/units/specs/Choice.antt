@@ -1,6 +1,7 @@
 -- Tests and choices: the words in which the definitions of the product are written.
 use Rattle.std.specs.Prelude.{Bool, true, false, ℕ, zero, suc, if◌then◌else◌}
-use Rattle.std.proofs.Math.Option.{Option, none, some}
+use Rattle.std.specs.Prelude.{Option, None, Some}
+use Rattle.std.specs.Bool.{then_some}
 
 -- both hold
 infixr 35 ◌and◌
@@ -9,20 +10,19 @@ true and b = b
 false and b = false
 
 -- the value, where the test holds
-unfoldable pub some_if : {A : Type 0} → Bool → A → Option A
-some_if true a = some a
-some_if false a = none
+abbrev pub some_if : {A : Type 0} → Bool → A → Option A
+some_if test a = then_some test a
 
 -- what f makes of the value, or b where there is none
 unfoldable pub on_option : {A B : Type 0} → Option A → B → (A → B) → B
-on_option none b f = b
-on_option (some a) b f = f a
+on_option None b f = b
+on_option (Some a) b f = f a
 
 -- the first of the two that is there
 infixr 30 ◌or_else◌
 unfoldable pub ◌or_else◌ : {A : Type 0} → Option A → Option A → Option A
-none or_else y = y
-some a or_else y = some a
+None or_else y = y
+Some a or_else y = Some a
 
 -- the test holds at one of 0, 1, .., n - 1, or at several
 unfoldable pub some_of : (ℕ → Bool) → ℕ → Bool
@@ -31,5 +31,5 @@ some_of test (suc n) = if some_of test n then true else test n
 
 -- the first that f finds at 0, 1, .., n - 1
 unfoldable pub first_of : {A : Type 0} → (ℕ → Option A) → ℕ → Option A
-first_of f zero = none
+first_of f zero = None
 first_of f (suc n) = first_of f n or_else f n

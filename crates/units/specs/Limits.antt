@@ -1,25 +1,10 @@
 -- The kinds of value that a plan is made of, and their limits (01, "A plan"; rooms: 02, W-202).
 use Rattle.std.specs.Prelude.{Bool, ℕ, ◌≤◌, ◌<◌, leb, ltb}
-use Rattle.std.proofs.Math.Option.{Option, none, some}
 use Rattle.units.specs.Choice.{◌and◌}
 use Rattle.units.specs.declared.Hour.{Hour}
 use Rattle.units.specs.declared.Duration.{Duration}
 use Rattle.units.specs.declared.Height.{Height}
-use Rattle.units.specs.declared.CalendarNumber.{CalendarNumber}
-use Rattle.units.specs.declared.RoomNumber.{RoomNumber}
 use Rattle.units.specs.declared.Bounds.{Bounds}
-use Rattle.units.specs.declared.MaybeHour.{MaybeHour}
-use Rattle.units.specs.declared.MaybeDuration.{MaybeDuration}
-use Rattle.units.specs.declared.MaybeHeight.{MaybeHeight}
-use Rattle.units.specs.declared.MaybeCalendarNumber.{MaybeCalendarNumber}
-use Rattle.units.specs.declared.MaybeRoomNumber.{MaybeRoomNumber}
-use Rattle.units.specs.declared.MaybeBounds.{MaybeBounds}
-use Rattle.units.specs.declared.MaybeHour.TheVariants as SomeHour
-use Rattle.units.specs.declared.MaybeDuration.TheVariants as SomeDuration
-use Rattle.units.specs.declared.MaybeHeight.TheVariants as SomeHeight
-use Rattle.units.specs.declared.MaybeCalendarNumber.TheVariants as SomeCalendar
-use Rattle.units.specs.declared.MaybeRoomNumber.TheVariants as SomeRoom
-use Rattle.units.specs.declared.MaybeBounds.TheVariants as SomeBounds
 
 -- 01, "A plan": H to 1,008; 16 calendars; capacity to 60,000; 64 tasks; height to 1,000. 02, W-202: eight rooms
 abbrev pub most_hours : ℕ
@@ -54,58 +39,52 @@ duration n = record { 0 = n }
 abbrev pub height : ℕ → Height
 height n = record { 0 = n }
 
-abbrev pub calendar_number : ℕ → CalendarNumber
-calendar_number n = record { 0 = n }
-
-abbrev pub room_number : ℕ → RoomNumber
-room_number n = record { 0 = n }
-
 -- least ≤ n ≤ most
 unfoldable pub within : ℕ → ℕ → ℕ → Bool
 within least most n = leb least n and leb n most
 
 -- H is 1 to 1,008
-unfoldable pub is_plan_length : ℕ → Bool
+abbrev pub is_plan_length : ℕ → Bool
 is_plan_length h = within 1 most_hours h
 
 -- hours are numbered 0 to H - 1
-unfoldable pub is_hour : ℕ → ℕ → Bool
+abbrev pub is_hour : ℕ → ℕ → Bool
 is_hour h t = ltb t h
 
 -- a work time is 1 to H, and so is an elapsed time
-unfoldable pub is_work_time : ℕ → ℕ → Bool
+abbrev pub is_work_time : ℕ → ℕ → Bool
 is_work_time h p = within 1 h p
 
 -- a height is 0 to 1,000
-unfoldable pub is_height : ℕ → Bool
+abbrev pub is_height : ℕ → Bool
 is_height n = leb n most_height
 
 -- a capacity is 0 to 60,000
-unfoldable pub is_capacity : ℕ → Bool
+abbrev pub is_capacity : ℕ → Bool
 is_capacity n = leb n most_capacity
 
 -- there are 1 to 16 calendars
-unfoldable pub is_calendar_count : ℕ → Bool
+abbrev pub is_calendar_count : ℕ → Bool
 is_calendar_count n = within 1 most_calendars n
 
 -- a task's calendar is one of the plan's, numbered from 0
-unfoldable pub is_calendar_number : ℕ → ℕ → Bool
+abbrev pub is_calendar_number : ℕ → ℕ → Bool
 is_calendar_number count n = ltb n count
 
 -- there are 1 to 8 rooms, each with a capacity
-unfoldable pub is_room_count : ℕ → Bool
+abbrev pub is_room_count : ℕ → Bool
 is_room_count n = within 1 most_rooms n
 
 -- a room of the plan's, numbered from 0
-unfoldable pub is_room_number : ℕ → ℕ → Bool
+abbrev pub is_room_number : ℕ → ℕ → Bool
 is_room_number count n = ltb n count
 
 -- there are 0 to 64 tasks, each with a box
-unfoldable pub is_task_count : ℕ → Bool
+abbrev pub is_task_count : ℕ → Bool
 is_task_count n = leb n most_tasks
 
 -- overtime is 0 to p
-unfoldable pub is_overtime : ℕ → ℕ → Bool
+abbrev pub is_overtime : ℕ → ℕ → Bool
 is_overtime p o = leb o p
 
 -- both bounds of a range are of the kind, and the lower is at most the upper
@@ -151,28 +130,3 @@ with_latest b s =
       fewest = b.fewest;
       most = b.most;
     }
-
--- what a constructor answers, for each kind of value
-abbrev pub hour_made : MaybeHour → Option Hour
-hour_made SomeHour.Outside = none
-hour_made (SomeHour.Within v) = some v
-
-abbrev pub duration_made : MaybeDuration → Option Duration
-duration_made SomeDuration.Outside = none
-duration_made (SomeDuration.Within v) = some v
-
-abbrev pub height_made : MaybeHeight → Option Height
-height_made SomeHeight.Outside = none
-height_made (SomeHeight.Within v) = some v
-
-abbrev pub calendar_number_made : MaybeCalendarNumber → Option CalendarNumber
-calendar_number_made SomeCalendar.Outside = none
-calendar_number_made (SomeCalendar.Within v) = some v
-
-abbrev pub room_number_made : MaybeRoomNumber → Option RoomNumber
-room_number_made SomeRoom.Outside = none
-room_number_made (SomeRoom.Within v) = some v
-
-abbrev pub bounds_made : MaybeBounds → Option Bounds
-bounds_made SomeBounds.Outside = none
-bounds_made (SomeBounds.Within v) = some v

@@ -13,7 +13,6 @@ unfolding calendars_fault
 returns-in_default c = sym (refuse _ 2 0 _ (if_none _ _ (sym c.in_default.ensures)))
 
 pub has_calendars-requires : goal.has_calendars-requires
-unfolding is_plan_length
 has_calendars-requires c =
     let made = if_some _ _ _ (sym c.in-Within.ensures) in
     omega (arith, from-least 1 most_hours _ made.0, ap (λ (d : Duration). d.0) made.1)

@@ -1,6 +1,6 @@
 -- What the code keeps of a plan text on its way through the lines: the symbols in bytes of their own, and all numbers in one store.
 use Rattle.std.specs.Prelude.{◌≡◌, List, map, ℕ, zero, suc, ◌+◌, ◌*◌, ◌≤◌, ◌<◌, length, get_or, set, take, drop}
-use Rattle.std.proofs.Math.Option.{Option, none, some}
+use Rattle.std.specs.Prelude.{Option, None, Some}
 use Rattle.units.specs.Limits.{most_rooms, most_tasks, box_numbers}
 use Rattle.units.specs.Lists.{list_to}
 use Rattle.plan.specs.Plan.{Plan, plan}
@@ -111,8 +111,8 @@ pub record Sized (symbols cells : List ℕ) : Type 0 where
 
 -- what has been read with another line, if the line keeps to the rules
 unfoldable pub Follows : Option Read → MaybeScan → ℕ → List ℕ → List ℕ → Type 0
-Follows o Broken n symbols cells = o ≡ none
-Follows o (Next s) n symbols cells = (r : Read) × (o ≡ some r) × Holds r s n symbols cells
+Follows o Broken n symbols cells = o ≡ None
+Follows o (Next s) n symbols cells = (r : Read) × (o ≡ Some r) × Holds r s n symbols cells
 
 -- what the whole text comes to
 unfoldable pub Scans : Answer Read → Scanned → List ℕ → List ℕ → Type 0

@@ -22,14 +22,12 @@ slice_bounds-calendars-end c =
     sym (length-take-le c.args.scan.symbols c.args.symbols.now (omega (arith, text.sized.of_symbols, symbols-fit text.held pass)))
 
 pub returns-then-not-is_count : goal.returns-then-not-is_count
-unfolding is_task_count
 returns-then-not-is_count c =
     λ r held.
     let pass = sym (ap tested_fault c.in-Passed.is) ∙ c.test_lines-lines.ensures r _ _ held in
     c.test_symbols.ensures ∙ read-too-many held pass (leb-false _ _ (sym c.is_count.ensures ∙ c.if-not-is_count.true))
 
 pub returns-then-not-is_count-2 : goal.returns-then-not-is_count-2
-unfolding is_task_count
 returns-then-not-is_count-2 c =
     λ r held.
     let pass = sym (ap tested_fault c.in-Passed.is) ∙ c.test_lines-lines.ensures r _ _ held in
@@ -37,14 +35,13 @@ returns-then-not-is_count-2 c =
     c.test_symbols-then-not-is_count-2.ensures ∙ read-no-rooms held pass few (sym c.is_count-2.ensures ∙ c.if-not-is_count-2.true)
 
 pub test_stored-requires : goal.test_stored-requires
-unfolding Gathered is_room_count is_task_count
+unfolding Gathered
 test_stored-requires c =
     let rooms = to-most 1 most_rooms _ (sym c.is_count-2.ensures ∙ c.if-not-is_count-2.false) in
     let few = leb-true _ _ (sym c.is_count.ensures ∙ c.if-not-is_count.false) in
     (rooms, few, c.requires.0.sized.of_cells, c.requires.1 rooms few)
 
 pub returns : goal.returns
-unfolding is_room_count is_task_count
 returns c =
     λ r held.
     let pass = sym (ap tested_fault c.in-Passed.is) ∙ c.test_lines-lines.ensures r _ _ held in

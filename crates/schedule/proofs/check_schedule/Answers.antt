@@ -21,6 +21,6 @@ returns-in-Refused c =
 pub returns-in-Passed : goal.returns-in-Passed
 unfolding makespan task_count
 returns-in-Passed c =
-    let none = sym c.in-Passed.ensures in
-    let answer = ap answered c.latest_end.ensures ∙ sym (accepts _ _ _ none) in
+    let None = sym c.in-Passed.ensures in
+    let answer = ap answered c.latest_end.ensures ∙ sym (accepts _ _ _ None) in
     record { answer = answer; exactly = decides-as _ _ _ _ answer }

@@ -7,7 +7,7 @@ use Rattle.schedule.specs.Schedule.{triple_at}
 use Rattle.schedule.specs.Entry.{schedule_fault, check_fault}
 use Rattle.plan.specs.Faults.{plan_fault}
 use mathlib.Core.List.{List}
-use mathlib.Core.Option.{none}
+use Rattle.std.specs.Prelude.{None}
 use Prim.Native.Nat.{ℕ}
 use Rattle.schedule.specs.Decision.{RightSize}
 use Rattle.schedule.proofs.Entry.{hours-are}
@@ -15,7 +15,7 @@ use Rattle.schedule.proofs.Readiness.{InputPasses, room-tasks, triples-ready, ro
 use Rattle.schedule.proofs.test_schedule.Goals as goal
 
 -- a plan that passes, with memory of the right size, so that the schedule's tests decide
-passing : (P : Plan) (boxes schedule : List ℕ) → RightSize P boxes schedule → plan_fault P boxes ≡ none → InputPasses P boxes schedule
+passing : (P : Plan) (boxes schedule : List ℕ) → RightSize P boxes schedule → plan_fault P boxes ≡ None → InputPasses P boxes schedule
 passing P boxes schedule size passes = record { size = size; passes = passes }
 
 by-schedule : (P : Plan) (boxes schedule : List ℕ) → InputPasses P boxes schedule

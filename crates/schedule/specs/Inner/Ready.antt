@@ -1,6 +1,6 @@
 -- What the private functions lean on: the plan passed its tests, and the memory is of the right size.
 use Rattle.std.specs.Prelude.{◌≡◌, List, ℕ, ◌+◌, ◌*◌, ◌≤◌, ◌<◌, leb, length, get_or}
-use Rattle.std.proofs.Math.Option.{Option}
+use Rattle.std.specs.Prelude.{Option}
 use Rattle.units.specs.Limits.{box_numbers, most_hours, most_tasks, most_height}
 use Rattle.units.specs.Sums.{sum_where}
 use Rattle.units.specs.Choice.{first_of}

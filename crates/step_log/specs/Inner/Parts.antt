@@ -1,7 +1,7 @@
 -- A part of a log: the steps that the core is called with at a time, and what the log checker and the filter come to with them. No public contract
 -- names a part.
 use Rattle.std.specs.Prelude.{Bool, true, false, ◌≡◌, List, [], ℕ, ◌+◌, ◌-◌, ◌≤◌, ◌<◌, min, leb, ltb, length}
-use Rattle.std.proofs.Math.Option.{none, some}
+use Rattle.std.specs.Prelude.{None, Some}
 use Rattle.units.specs.Choice.{on_option}
 use Rattle.plan.specs.Plan.{Plan}
 use Rattle.plan.specs.Refusals.{Fault}
@@ -42,15 +42,15 @@ checked_part (checked.Accepted k said) count = record { answer = checked.Accepte
 
 -- the end of a log from step number k on, or a refusal that changes nothing
 unfoldable pub check_steps_from : Plan → ℕ → Bool → List ℕ → List Step → LogEnd
-check_steps_from P k said boxes steps = on_option (input_fault P boxes) (replay_from P k said boxes steps) (λ f. log_end 0 false boxes (some f))
+check_steps_from P k said boxes steps = on_option (input_fault P boxes) (replay_from P k said boxes steps) (λ f. log_end 0 false boxes (Some f))
 
 -- What the log checker comes to with a part of so many steps, whose end this is.
 pub record CheckedAs (e : LogEnd) (count : ℕ) (r : PartChecked) (left : List ℕ) : Type 0 where
   pub answers : log_answer r.answer ≡ check_answer e
   pub leaves : left ≡ e.boxes
   -- there may be more only where all steps of a full part are accepted
-  pub goes_on : r.more ≡ true → (part_size ≤ count) × (e.refusal ≡ none) × (r.steps ≡ e.steps) × (r.impossible ≡ e.impossible)
-  pub ends : r.more ≡ false → e.refusal ≡ none → count < part_size
+  pub goes_on : r.more ≡ true → (part_size ≤ count) × (e.refusal ≡ None) × (r.steps ≡ e.steps) × (r.impossible ≡ e.impossible)
+  pub ends : r.more ≡ false → e.refusal ≡ None → count < part_size
 
 -- ---- the filter
 
@@ -93,5 +93,5 @@ pub record RefusedAs (fault : Fault) (boxes : List ℕ) (f : PartFiltered) (left
   pub ends : f.more ≡ false
 
 pub record FilteredAs (P : Plan) (boxes : List ℕ) (taken room : ℕ) (f : PartFiltered) (left : List ℕ) : Type 0 where
-  pub runs : input_fault P boxes ≡ none → RanAs (part_run P boxes taken room) taken room f left
-  pub refuses : (fault : Fault) → input_fault P boxes ≡ some fault → RefusedAs fault boxes f left
+  pub runs : input_fault P boxes ≡ None → RanAs (part_run P boxes taken room) taken room f left
+  pub refuses : (fault : Fault) → input_fault P boxes ≡ Some fault → RefusedAs fault boxes f left

@@ -1,6 +1,6 @@
 -- The log checker and the filter from a step on, on the boxes that the steps before it left: a log in parts goes on so. 01 has no such terms.
 use Rattle.std.specs.Prelude.{Bool, false, List, map, ℕ, ◌+◌, length}
-use Rattle.std.proofs.Math.Option.{some}
+use Rattle.std.specs.Prelude.{Some}
 use Rattle.units.specs.Choice.{on_option}
 use Rattle.units.specs.Cells.{written}
 use Rattle.plan.specs.Plan.{Plan}
@@ -11,7 +11,7 @@ use Rattle.steps.specs.Entry.{steps_in, entry_fault, refused_by, ending_answer, 
 -- the log's end, where the first step lent has the number k, and whether the one before it said impossible; or a refusal that changes nothing
 unfoldable pub check_from : Plan → List ℕ → List ℕ → List ℕ → List ℕ → ℕ → Bool → LogEnd
 check_from P boxes kinds tasks hours k said =
-    on_option (entry_fault P boxes kinds tasks hours) (replay_from P k said boxes (steps_in kinds tasks hours)) (λ f. log_end 0 false boxes (some f))
+    on_option (entry_fault P boxes kinds tasks hours) (replay_from P k said boxes (steps_in kinds tasks hours)) (λ f. log_end 0 false boxes (Some f))
 
 -- a run's end, where so many steps were taken before it
 unfoldable pub logged_from : ℕ → Run → List ℕ → List ℕ → List ℕ → FilterEnd

@@ -1,7 +1,7 @@
 -- What the filter and the log checker keep beside the boxes, and what they work out from it. Only contracts of private functions
 -- and those between the crates cite this; 01 has no such terms.
 use Rattle.std.specs.Prelude.{Bool, true, false, List, ◌≡◌, ℕ, ◌+◌, ◌-◌, ◌<◌, leb, ltb, length, get_or, if◌then◌else◌}
-use Rattle.std.proofs.Math.Option.{Option, none, some}
+use Rattle.std.specs.Prelude.{Option, None, Some}
 use Rattle.units.specs.Choice.{◌and◌, some_of}
 use Rattle.units.specs.Limits.{most_tasks, with_earliest, with_latest}
 use Rattle.units.specs.Sums.{sum_where}
@@ -98,19 +98,19 @@ module _ (hours tasks : ℕ) (capacities heights boxes : List ℕ) (fits : List 
 
   -- the step, if it is admitted
   unfoldable pub admitted_by : Step → Option Step
-  admitted_by x = on_judged (judge_by x) none none (some x) (λ i b. some x)
+  admitted_by x = on_judged (judge_by x) None None (Some x) (λ i b. Some x)
 
 -- what the code answers for a step, for the first admitted step, and for a turn: an admitted step that moves no bound says impossible
 unfoldable pub judgement_of : List ℕ → Judged → Judgement
 judgement_of boxes r = on_judged r steps.unknown steps.not_admitted steps.impossible (λ i b. steps.moved (with_bounds boxes i b))
 
 abbrev pub found_step : Found → Option Step
-found_step Nothing = none
-found_step (At x) = some x
+found_step Nothing = None
+found_step (At x) = Some x
 
 unfoldable pub admitted_of : List ℕ → Step → Judged → Admitted
 admitted_of boxes x r = on_judged r (stops x) (stops x) (stops x) (λ i b. moves x (with_bounds boxes i b))
 
 abbrev pub turn_of : List ℕ → Turn → Option Admitted
-turn_of boxes turn.Settled = none
-turn_of boxes (turn.At x r) = some (admitted_of boxes x r)
+turn_of boxes turn.Settled = None
+turn_of boxes (turn.At x r) = Some (admitted_of boxes x r)

@@ -1,5 +1,5 @@
 use mathlib.Core.Path.{refl, sym, ap, ◌∙◌}
-use mathlib.Core.Option.{some}
+use Rattle.std.specs.Prelude.{Some}
 use Prim.Native.Nat.{◌+◌, ◌-◌, ◌*◌}
 use native.Mathlib.Omega.{arith}
 use lib.ListN.{get_or, drop}
@@ -39,7 +39,7 @@ returns c =
     let n = sym c.loop-i.invariant.3 ∙ decimal-end _ c.loop-i.i _ c.loop-i-test.false in
     let digits = sym c.loop-i.invariant.2 ∙ digits-end _ c.loop-i.i c.loop-i-test.false in
     let plain = sym c.is_plain.ensures ∙ c.if-not-is_plain.false in
-    sym (number_is _ (omega arith) digits plain (omega (arith, n)) ∙ ap some n)
+    sym (number_is _ (omega arith) digits plain (omega (arith, n)) ∙ ap Some n)
 
 pub returns-then-field-lt1 : goal.returns-then-field-lt1
 returns-then-field-lt1 c = sym (number-empty _ c.if-field-lt1.true)

@@ -1,5 +1,5 @@
 use mathlib.Core.Path.{◌≡◌}
-use mathlib.Core.Option.{none}
+use Rattle.std.specs.Prelude.{None}
 use Prim.Native.Nat.{◌≤◌, ◌-◌}
 use Rattle.units.specs.Choice.{first_of}
 use Rattle.steps.specs.declared.Found.TheVariants.{Nothing}
@@ -9,7 +9,7 @@ use Rattle.turns.proofs.search.first_excess.Given as goal
 abbrev pub invariant-loop-w : goal.invariant-loop-w
 invariant-loop-w l = (l.found ≡ Nothing)
     × (l.initial.t.0 ≤ l.t.0)
-    × (first_of (at_hour l.hours l.tasks l.capacities l.heights l.boxes l.fits l.lower l.i) l.t.0 ≡ none)
+    × (first_of (at_hour l.hours l.tasks l.capacities l.heights l.boxes l.fits l.lower l.i) l.t.0 ≡ None)
 
 abbrev pub decreases-loop-w : goal.decreases-loop-w
 decreases-loop-w l = l.end.0 - l.t.0
@@ -17,4 +17,4 @@ decreases-loop-w l = l.end.0 - l.t.0
 abbrev pub invariant-outer : goal.invariant-outer
 invariant-outer l = (l.i ≤ l.tasks)
     × (l.found ≡ Nothing)
-    × (first_of (of_task l.hours l.tasks l.capacities l.heights l.boxes l.fits l.lower) l.i ≡ none)
+    × (first_of (of_task l.hours l.tasks l.capacities l.heights l.boxes l.fits l.lower) l.i ≡ None)
