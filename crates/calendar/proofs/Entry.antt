@@ -13,7 +13,8 @@ use Rattle.units.specs.declared.Bounds.{Bounds}
 use Rattle.units.proofs.Choices.{else-none, else-some, neither}
 use Rattle.plan.specs.Plan.{plan, task_count}
 use Rattle.plan.specs.Boxes.{bounds_at, box_cells}
-use Rattle.plan.specs.Refusals.{Fault, fault, refused, answered, answer_unless}
+use Rattle.plan.specs.declared.Fault.{Fault}
+use Rattle.plan.specs.Refusals.{fault, refused, answered, answer_unless}
 use Rattle.plan.specs.Faults.{one_for_each_task, calendars_fault, plan_fault, input_fault}
 use Rattle.plan.proofs.Refusals.{unless-true, unless-false}
 use Rattle.plan.proofs.Passed.{passed}

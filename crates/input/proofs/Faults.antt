@@ -7,7 +7,7 @@ use lib.ListN.{length, get_or}
 use Rattle.units.specs.declared.Bounds.{Bounds}
 use Rattle.plan.specs.Plan.{Shifts, calendar_count, work_time_of}
 use Rattle.plan.specs.Boxes.{bounds_at}
-use Rattle.plan.specs.Refusals.{Fault}
+use Rattle.plan.specs.declared.Fault.{Fault}
 use Rattle.plan.specs.Faults.{one_task_fault, task_fault}
 
 pub task-is : (S : Shifts) (rooms : ℕ) (hs bs : List ℕ) (i count : ℕ) (b : Bounds) (r : Option Fault) → count ≡ length S.calendars / S.hours

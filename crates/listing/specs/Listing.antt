@@ -1,7 +1,7 @@
 -- What the program prints (01, "Plan text and listing").
 use Rattle.std.specs.Prelude.{List, [], ◌∷◌, ◌++◌, ℕ, zero, suc}
 use Rattle.plan.specs.Boxes.{bounds_at}
-use Rattle.plan.specs.Refusals.{Fault}
+use Rattle.plan.specs.declared.Fault.{Fault}
 use Rattle.steps.specs.Entry.{FilterAnswer, refused_by, no_room_for, settled_after, impossible_after}
 use Rattle.text.specs.Words.{word_task, word_settled, word_impossible, word_room, word_refused}
 use Rattle.text.specs.Lines.{line_of}

@@ -8,7 +8,8 @@ use native.Mathlib.Omega.{arith}
 use Rattle.units.specs.Choice.{◌or_else◌, first_of}
 use Rattle.units.proofs.Choices.{if_some, else-case, first-at}
 use Rattle.plan.specs.Plan.{Plan, room_count}
-use Rattle.plan.specs.Refusals.{Fault, unless}
+use Rattle.plan.specs.declared.Fault.{Fault}
+use Rattle.plan.specs.Refusals.{unless}
 use Rattle.plan.specs.Faults.{symbol_fault, calendars_fault, capacity_fault, counts_fault, height_fault, one_task_fault, task_fault, tasks_fault, plan_fault, input_fault}
 
 -- 11, 12 or 13

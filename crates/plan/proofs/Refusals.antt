@@ -7,7 +7,8 @@ use native.Mathlib.Omega.{arith}
 use borrow.Author.Tests.{not-false}
 use Rattle.units.specs.Choice.{◌or_else◌}
 use Rattle.units.proofs.Choices.{some-if, none-if, if_none, else-none, else-some}
-use Rattle.plan.specs.Refusals.{Fault, fault, unless, refused, answered}
+use Rattle.plan.specs.declared.Fault.{Fault}
+use Rattle.plan.specs.Refusals.{fault, unless, refused, answered}
 
 module _ (test : Bool) (number place : ℕ) where
   pub unless-true : test ≡ true → unless test number place ≡ None

@@ -8,7 +8,8 @@ use Rattle.units.specs.declared.Bounds.{Bounds}
 use Rattle.plan.specs.Plan.{Shifts, Plan, room_count, task_count, calendar_count, work_time_of, room_part}
 use Rattle.plan.specs.HourKinds.{is_symbol}
 use Rattle.plan.specs.Boxes.{bounds_at}
-use Rattle.plan.specs.Refusals.{Fault, unless}
+use Rattle.plan.specs.declared.Fault.{Fault}
+use Rattle.plan.specs.Refusals.{unless}
 
 -- ---- memory of the right size: 31
 

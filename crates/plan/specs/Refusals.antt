@@ -6,7 +6,7 @@ use Rattle.plan.specs.declared.Refusal.{Refusal}
 use Rattle.plan.specs.declared.Refusal.TheVariants.{Malformed, Hours, Calendars, Symbol, Tasks, NoCalendar, WorkTime, TaskHeight, TaskBounds}
 use Rattle.plan.specs.declared.Refusal.TheVariants.{Capacity, UnknownStep, NotAdmitted, AfterImpossible, OutsideBounds, NotValid, OverCapacity}
 use Rattle.plan.specs.declared.Refusal.TheVariants.{Rooms, MemorySize, OutputSize}
-pub use Rattle.plan.specs.declared.Fault.{Fault}
+use Rattle.plan.specs.declared.Fault.{Fault}
 
 -- of the code: a number and a place
 abbrev pub fault : ℕ → ℕ → Fault

@@ -9,7 +9,8 @@ use borrow.Author.Tests.{leb-true}
 use Rattle.units.specs.Choice.{on_option}
 use Rattle.units.specs.Limits.{most_rooms, most_tasks}
 use Rattle.units.proofs.Choices.{and_left, and_right}
-use Rattle.plan.specs.Refusals.{Fault, fault, refused, answered, on_answer}
+use Rattle.plan.specs.declared.Fault.{Fault}
+use Rattle.plan.specs.Refusals.{fault, refused, answered, on_answer}
 use Rattle.plan.proofs.Refusals.{refuse}
 use Rattle.plan_format.specs.Text.{Read, read_text}
 use Rattle.plan_format.specs.Reading.{most_symbols, most_heights, most_bounds, is_enough, read_fault, end_with, unread, stored, read_tested, read_plan}

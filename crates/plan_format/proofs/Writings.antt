@@ -10,7 +10,8 @@ use Rattle.units.proofs.Choices.{else-none, else-some}
 use Rattle.text.specs.Putting.{Put}
 use Rattle.text.proofs.Puts.{put_all}
 use Rattle.plan.specs.Plan.{Plan}
-use Rattle.plan.specs.Refusals.{Fault, fault, refused, answered}
+use Rattle.plan.specs.declared.Fault.{Fault}
+use Rattle.plan.specs.Refusals.{fault, refused, answered}
 use Rattle.plan.specs.Faults.{input_fault}
 use Rattle.plan.proofs.Refusals.{unless-true, unless-false}
 use Rattle.plan_format.specs.Writing.{text_of_plan, write_fault, write_end, write_plan}

@@ -7,7 +7,8 @@ use Rattle.units.specs.Choice.{◌and◌, on_option, ◌or_else◌}
 use Rattle.units.specs.Limits.{most_hours, most_calendars, most_rooms, most_tasks, box_numbers, is_plan_length, is_calendar_count}
 use Rattle.units.specs.Lists.{list_to}
 use Rattle.plan.specs.Plan.{Plan, plan}
-use Rattle.plan.specs.Refusals.{Fault, unless, Answer, refused, answered, on_answer}
+use Rattle.plan.specs.declared.Fault.{Fault}
+use Rattle.plan.specs.Refusals.{unless, Answer, refused, answered, on_answer}
 use Rattle.plan.specs.Faults.{plan_fault}
 use Rattle.plan_format.specs.Text.{Read, read_text}
 

@@ -7,7 +7,8 @@ use Rattle.units.specs.Choice.{on_option, ◌or_else◌}
 use Rattle.units.specs.Lists.{list_to}
 use Rattle.plan.specs.Plan.{Shifts, Plan, room_count, task_count, calendar_count, calendar_at, room_part}
 use Rattle.plan.specs.Boxes.{bounds_at, box_cells}
-use Rattle.plan.specs.Refusals.{Fault, unless, Answer, refused, answered}
+use Rattle.plan.specs.declared.Fault.{Fault}
+use Rattle.plan.specs.Refusals.{unless, Answer, refused, answered}
 use Rattle.plan.specs.Faults.{input_fault}
 use Rattle.plan_format.specs.Records.{Record, plan_record, cal_record, task_record}
 use Rattle.plan_format.specs.Text.{Read, most_bytes, read_text, text_of}

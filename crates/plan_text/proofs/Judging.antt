@@ -16,7 +16,8 @@ use Rattle.units.proofs.Choices.{and_both, and_left, and_right, not_left, not_ri
 use Rattle.units.proofs.Lists.{list_length}
 use Rattle.units.proofs.Ranges.{is_within, to-most}
 use Rattle.plan.specs.Plan.{Plan, plan, room_count, task_count}
-use Rattle.plan.specs.Refusals.{Fault, fault}
+use Rattle.plan.specs.declared.Fault.{Fault}
+use Rattle.plan.specs.Refusals.{fault}
 use Rattle.plan.specs.Faults.{one_for_each_task, calendars_fault, capacity_fault, counts_fault, tasks_fault, plan_fault}
 use Rattle.plan.proofs.Refusals.{unless-true, unless-none, unless-false, go_on, refuse}
 use Rattle.plan.proofs.Passed.{counts-passed}

@@ -12,7 +12,8 @@ use Rattle.units.specs.Limits.{most_tasks}
 use Rattle.units.specs.declared.Bounds.{Bounds}
 use Rattle.plan.specs.Plan.{Plan, task_count}
 use Rattle.plan.specs.Boxes.{with_bounds}
-use Rattle.plan.specs.Refusals.{Fault, fault, Answer, refused, answered, answer_unless}
+use Rattle.plan.specs.declared.Fault.{Fault}
+use Rattle.plan.specs.Refusals.{fault, Answer, refused, answered, answer_unless}
 use Rattle.plan.specs.Passed.{Passed}
 use Rattle.plan.proofs.Boxes.{length-with}
 use Rattle.calendar.specs.declared.Fit.{Fit}

@@ -6,7 +6,8 @@ use Prim.Native.Nat.{ℕ}
 use native.Mathlib.Omega.{arith}
 use Rattle.units.proofs.Choices.{else-none, neither}
 use Rattle.plan.specs.Plan.{Plan}
-use Rattle.plan.specs.Refusals.{Fault, Answer, refused, answered, answer_unless}
+use Rattle.plan.specs.declared.Fault.{Fault}
+use Rattle.plan.specs.Refusals.{Answer, refused, answered, answer_unless}
 use Rattle.plan.proofs.Refusals.{go_on, unless-none}
 use Rattle.schedule.specs.Schedule.{triple_at, Feasible, makespan}
 use Rattle.schedule.specs.Entry.{check_fault, check_schedule}

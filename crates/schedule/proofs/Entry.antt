@@ -17,7 +17,8 @@ use Rattle.units.specs.declared.Hour.{Hour}
 use Rattle.units.proofs.Choices.{not_left, and-rest, first-eq}
 use Rattle.plan.specs.Plan.{Shifts, Plan, room_count, task_count, first_symbol, calendar_at, calendar_of, work_time_of, capacity_of, room_part, heights_of, height_of, heights_where}
 use Rattle.plan.specs.Boxes.{bounds_at}
-use Rattle.plan.specs.Refusals.{Fault, unless}
+use Rattle.plan.specs.declared.Fault.{Fault}
+use Rattle.plan.specs.Refusals.{unless}
 use Rattle.calendar.specs.declared.Triple.{Triple}
 use Rattle.calendar.specs.Triples.{start_of, elapsed_of, end_of}
 use Rattle.schedule.specs.Schedule.{triple_at, runs, running}

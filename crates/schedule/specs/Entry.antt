@@ -4,7 +4,8 @@ use Rattle.std.specs.Prelude.{Option}
 use Rattle.units.specs.Choice.{◌and◌, ◌or_else◌, first_of}
 use Rattle.plan.specs.Plan.{Shifts, Plan, room_count, task_count, calendar_of, work_time_of, capacity_of}
 use Rattle.plan.specs.Boxes.{bounds_at}
-use Rattle.plan.specs.Refusals.{Fault, unless, Answer, refused, answered, fault_of, answer_unless}
+use Rattle.plan.specs.declared.Fault.{Fault}
+use Rattle.plan.specs.Refusals.{unless, Answer, refused, answered, fault_of, answer_unless}
 use Rattle.plan.specs.Faults.{is_right_size, plan_fault}
 use Rattle.units.specs.declared.Bounds.{Bounds}
 use Rattle.calendar.specs.declared.Triple.{Triple}

@@ -9,7 +9,8 @@ use lib.ListN.{length}
 use Rattle.units.specs.Choice.{on_option}
 use Rattle.units.proofs.Choices.{None≢Some}
 use Rattle.plan.specs.Plan.{Plan}
-use Rattle.plan.specs.Refusals.{Fault, fault}
+use Rattle.plan.specs.declared.Fault.{Fault}
+use Rattle.plan.specs.Refusals.{fault}
 use Rattle.steps.specs.declared.Step.{Step}
 use Rattle.steps.specs.Steps.{judge, Judgement, unknown, not_admitted, impossible, moved, on_judgement}
 use Rattle.steps.specs.Log.{LogEnd, log_end, replay_by, replay_from}

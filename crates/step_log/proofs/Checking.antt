@@ -11,7 +11,8 @@ use borrow.Author.Tests.{leb-true, leb-false}
 use Rattle.units.specs.Choice.{on_option}
 use Rattle.units.proofs.Choices.{None≢Some}
 use Rattle.plan.specs.Plan.{Plan}
-use Rattle.plan.specs.Refusals.{Fault, Answer, refused, answered, answer_unless, fault_of}
+use Rattle.plan.specs.declared.Fault.{Fault}
+use Rattle.plan.specs.Refusals.{Answer, refused, answered, answer_unless, fault_of}
 use Rattle.plan.specs.Faults.{input_fault}
 use Rattle.plan.specs.declared.Refusal.{Refusal}
 use Rattle.plan.proofs.Refusals.{refused≢answered}

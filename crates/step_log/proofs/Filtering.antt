@@ -15,7 +15,7 @@ use Rattle.units.specs.Choice.{on_option}
 use Rattle.units.specs.Cells.{written}
 use Rattle.units.proofs.Choices.{None≢Some}
 use Rattle.plan.specs.Plan.{Plan}
-use Rattle.plan.specs.Refusals.{Fault}
+use Rattle.plan.specs.declared.Fault.{Fault}
 use Rattle.plan.specs.Faults.{input_fault}
 use Rattle.steps.specs.declared.Step.{Step}
 use Rattle.steps.specs.declared.Filtered.{Filtered}

@@ -13,7 +13,8 @@ use Rattle.units.specs.Choice.{◌and◌, on_option, ◌or_else◌}
 use Rattle.units.proofs.Choices.{and_both, and_left, and_right, None≢Some, option-all, neither}
 use Rattle.plan.specs.Plan.{Plan, task_count}
 use Rattle.plan.specs.Boxes.{bounds_at}
-use Rattle.plan.specs.Refusals.{Fault, fault, unless, refused, answered, answer_unless}
+use Rattle.plan.specs.declared.Fault.{Fault}
+use Rattle.plan.specs.Refusals.{fault, unless, refused, answered, answer_unless}
 use Rattle.plan.specs.Faults.{one_for_each_task, is_right_size, plan_fault, input_fault}
 use Rattle.plan.proofs.Refusals.{unless-none, go_on, refused≢answered}
 use Rattle.plan.proofs.Numbers.{by-unless, by-either, plan-numbers, input-numbers}

@@ -10,7 +10,8 @@ use borrow.Author.Tests.{eqb-true}
 use Rattle.units.specs.Choice.{on_option}
 use Rattle.units.proofs.Choices.{and_both, and_left, and_right, not_left, not_right, neither}
 use Rattle.plan.specs.Plan.{Plan}
-use Rattle.plan.specs.Refusals.{Fault, fault, Answer, refused, answer_unless}
+use Rattle.plan.specs.declared.Fault.{Fault}
+use Rattle.plan.specs.Refusals.{fault, Answer, refused, answer_unless}
 use Rattle.plan.specs.Faults.{is_right_size, plan_fault}
 use Rattle.plan.proofs.Refusals.{unless-none, go_on, refuse}
 use Rattle.plan.proofs.Passed.{passed}

@@ -7,7 +7,8 @@ use Rattle.units.specs.Limits.{is_hour, with_earliest, with_latest}
 use Rattle.units.specs.Sums.{sum_where}
 use Rattle.plan.specs.Plan.{Plan, task_count, calendar_of, work_time_of}
 use Rattle.plan.specs.Boxes.{bounds_at, with_bounds}
-use Rattle.plan.specs.Refusals.{Fault, unless}
+use Rattle.plan.specs.declared.Fault.{Fault}
+use Rattle.plan.specs.Refusals.{unless}
 use Rattle.calendar.specs.declared.Triple.{Triple}
 use Rattle.calendar.specs.Triples.{valid_triple, in_bounds}
 use Rattle.calendar.specs.Rule.{lst, ect}

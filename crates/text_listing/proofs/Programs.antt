@@ -5,7 +5,8 @@ use Prim.Native.Nat.{ℕ, ◌*◌}
 use lib.ListN.{length, take}
 use Rattle.units.specs.Cells.{written}
 use Rattle.plan.specs.Plan.{Plan, plan, task_count, first_symbol}
-use Rattle.plan.specs.Refusals.{Fault, refused, answered, on_answer}
+use Rattle.plan.specs.declared.Fault.{Fault}
+use Rattle.plan.specs.Refusals.{refused, answered, on_answer}
 use Rattle.steps.specs.Entry.{FilterAnswer, FilterEnd, filter_end, filter_plan}
 use Rattle.plan_format.specs.Reading.{PlanRead, ReadEnd, end_with}
 use Rattle.plan_format.proofs.Holding.{Holds, read-holds}

@@ -5,7 +5,8 @@ use Rattle.units.specs.Limits.{box_numbers, most_hours, most_tasks, most_height}
 use Rattle.units.specs.Sums.{sum_where}
 use Rattle.units.specs.Choice.{first_of}
 use Rattle.plan.specs.Plan.{Shifts, first_symbol, room_part}
-use Rattle.plan.specs.Refusals.{Fault, unless}
+use Rattle.plan.specs.declared.Fault.{Fault}
+use Rattle.plan.specs.Refusals.{unless}
 use Rattle.calendar.specs.Triples.{triple_numbers, end_of}
 use Rattle.schedule.specs.Schedule.{triple_at, runs}
 
