@@ -25,7 +25,7 @@ use Rattle.calendar.specs.Entry.{one_task, calendar_rule}
 module _ (cal : List ℕ) (p : ℕ) (b : Bounds) where
   -- the memory of one task is of the right size
   one_each : one_for_each_task (0 ∷ []) (0 ∷ []) (p ∷ []) (0 ∷ []) (box_cells b) ≡ true
-  unfolding one_for_each_task ◌and◌
+  unfolding one_for_each_task
   one_each = refl
 
   -- the test that the code asks for, with H from its constructor

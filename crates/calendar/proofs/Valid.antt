@@ -40,7 +40,7 @@ module _ (cal : List ℕ) (p s e o : ℕ) where
   -- a triple that passes the other tests is valid by the last
   pub by-ends : 1 ≤ e → s + e ≤ length cal → is_kind closed cal s ≡ false → is_kind closed cal (s + e - 1) ≡ false
       → o + hours_of regular cal s e ≡ p → o ≤ hours_of overtime cal s e → valid cal p s e o ≡ leb (overtime_ends cal s e) o
-  unfolding valid ◌and◌
+  unfolding valid
   by-ends h₁ h₂ h₃ h₄ h₅ h₆ = simp (le-leb _ _ h₁, le-leb _ _ h₂, h₃, h₄, eq-eqb _ _ h₅, le-leb _ _ h₆)
 
   -- what validity says of the numbers and the hours

@@ -14,7 +14,7 @@ use Rattle.units.specs.Limits.{within}
 use Rattle.units.proofs.Choices.{and_left, and_right, else-none, neither, first-none, first-all-none}
 use Rattle.units.proofs.Multiples.{part-within}
 use Rattle.units.proofs.Ranges.{boxed, is-boxed, from-least, to-most}
-use Rattle.plan.specs.Plan.{Shifts, Plan, room_count, task_count, calendar_count, first_symbol, calendar_at, calendar_of, capacity_of, room_part, heights_of, height_of}
+use Rattle.plan.specs.Plan.{Shifts, Plan, room_count, task_count, calendar_count, first_symbol, calendar_at, calendar_of, room_part, heights_of, height_of}
 use Rattle.plan.specs.HourKinds.{is_symbol}
 use Rattle.plan.specs.Faults.{one_for_each_task, is_right_size, is_calendars, symbol_fault, calendars_fault}
 use Rattle.plan.specs.Faults.{capacity_fault, counts_fault, height_fault, one_task_fault, task_fault, tasks_fault, plan_fault}
@@ -102,7 +102,7 @@ room_at each xs r i l = get_or-take each (drop (r * each) xs) i 0 l ∙ get_or-d
 -- a calendar among those there are ends within the symbols, and has H of them
 module _ (S : Shifts) (k : ℕ) (l : k < calendar_count S) where
   pub calendar-in : first_symbol S.hours k + S.hours ≤ length S.calendars
-  unfolding calendar_count first_symbol
+  unfolding first_symbol
   calendar-in =
       omega (
         arith,
@@ -116,7 +116,7 @@ module _ (S : Shifts) (k : ℕ) (l : k < calendar_count S) where
 
 module _ (P : Plan) (boxes : List ℕ) where
   passed-task : (i : ℕ) → task_fault P.shifts (room_count P) P.heights boxes i ≡ None → PassedTask P boxes i
-  unfolding task_fault one_task_fault height_fault calendar_of task_count heights_of height_of
+  unfolding task_fault one_task_fault height_fault calendar_of heights_of height_of
   passed-task i e =
       let (six, rest) = neither _ _ e in
       let (seven, rest) = neither _ _ rest in
@@ -136,18 +136,18 @@ module _ (P : Plan) (boxes : List ℕ) where
   -- ---- all
 
   count : is_calendars P.shifts.hours P.shifts.calendars ≡ true → within 1 most_calendars (calendar_count P.shifts) ≡ true
-  unfolding is_calendars calendar_count
+  unfolding is_calendars
   count e = and_right _ _ e
 
   joins : is_calendars P.shifts.hours P.shifts.calendars ≡ true
       → length P.shifts.calendars ≡ calendar_count P.shifts * P.shifts.hours
-  unfolding is_calendars calendar_count
+  unfolding is_calendars
   joins e =
       let even : length P.shifts.calendars % P.shifts.hours ≡ 0 = eqb-true _ _ (and_left _ _ e) in
       omega (arith, div-add-mod' (length P.shifts.calendars) P.shifts.hours)
 
   pub passed : is_right_size P boxes ≡ true → plan_fault P boxes ≡ None → Passed P boxes
-  unfolding plan_fault tasks_fault room_count task_count capacity_of
+  unfolding plan_fault tasks_fault
   passed one e =
       let size = sized _ _ _ _ _ one in
       let (calendars, rest) = neither _ _ e in
@@ -198,7 +198,7 @@ module _ (P : Plan) (boxes : List ℕ) where
         else-none _ _ six ∙ else-none _ _ seven ∙ else-none _ _ eight ∙ unless-true _ 9 i (is-boxed _ _ _ (again.task i l).box)
 
     plan-again : plan_fault P boxes ≡ None → plan_fault P others ≡ None
-    unfolding plan_fault tasks_fault task_count
+    unfolding plan_fault tasks_fault
     plan-again e =
         let (calendars, rest) = neither _ _ e in
         let (counts, tasks) = neither _ _ rest in

@@ -25,14 +25,14 @@ plan hours capacities calendars task_calendars work_times heights =
     record { shifts = shifts hours calendars task_calendars work_times; capacities = capacities; heights = heights }
 
 -- how many rooms there are, and how many tasks
-unfoldable pub room_count : Plan → ℕ
+abbrev pub room_count : Plan → ℕ
 room_count P = length P.capacities
 
-unfoldable pub task_count : Plan → ℕ
+abbrev pub task_count : Plan → ℕ
 task_count P = length P.shifts.task_calendars
 
 -- how many calendars of H symbols there are, and the symbols of one: number × H is the index of its first
-unfoldable pub calendar_count : Shifts → ℕ
+abbrev pub calendar_count : Shifts → ℕ
 calendar_count S = length S.calendars / S.hours
 
 unfoldable pub first_symbol : ℕ → ℕ → ℕ
@@ -45,11 +45,11 @@ calendar_at S number = take S.hours (drop (first_symbol S.hours number) S.calend
 unfoldable pub calendar_of : Shifts → ℕ → List ℕ
 calendar_of S i = calendar_at S (get_or S.task_calendars i 0)
 
-unfoldable pub work_time_of : Shifts → ℕ → ℕ
+abbrev pub work_time_of : Shifts → ℕ → ℕ
 work_time_of S i = get_or S.work_times i 0
 
 -- the capacity of a room
-unfoldable pub capacity_of : Plan → ℕ → ℕ
+abbrev pub capacity_of : Plan → ℕ → ℕ
 capacity_of P room = get_or P.capacities room 0
 
 -- of numbers that lie room by room, so many a room, those of one: room × so many is the index of its first

@@ -29,7 +29,7 @@ pub struct Plan<'a> {
     pub heights: &'a [u16],
 }
 
-#[tactic(auto, unfolding(crate::specs::Plan::calendar_count, crate::specs::Plan::calendar_of, crate::specs::Plan::work_time_of))]
+#[tactic(auto, unfolding(crate::specs::Plan::calendar_of))]
 impl<'a> Shifts<'a> {
     // How many tasks there are.
     pub fn tasks(&self) -> usize
@@ -74,7 +74,7 @@ impl<'a> Shifts<'a> {
     }
 }
 
-#[tactic(auto, unfolding(crate::specs::Plan::room_count, crate::specs::Plan::task_count, crate::specs::Plan::capacity_of, crate::specs::Plan::heights_of))]
+#[tactic(auto, unfolding(crate::specs::Plan::heights_of))]
 impl<'a> Plan<'a> {
     // The plan that lent numbers and slices hold.
     pub fn new(

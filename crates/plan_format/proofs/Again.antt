@@ -41,7 +41,7 @@ module _ (rs cs ts ws hs bs : List ℕ) where
         (written P.shifts.work_times ws)
         (written P.heights hs)
         (written boxes bs)
-    unfolding stored read_of room_count
+    unfolding stored read_of
     stored-plan =
         λ k. end_with
         (answered

@@ -155,7 +155,7 @@ module _ (P : Plan) (boxes : List ℕ) where
 
   -- the plan line, the calendars' lines, the tasks' lines
   pub plan-text : text_of_plan P boxes ≡ first ++ calendars ++ tasks
-  unfolding text_of_plan records_of text_of cal_records calendar_at calendar_count line_of record_line
+  unfolding text_of_plan records_of text_of cal_records calendar_at line_of record_line
   plan-text =
       ap (λ l. first ++ l) (text-both (cal_records P.shifts (calendar_count P.shifts)) task_lines) ∙ sym (append_assoc first calendars tasks)
 
@@ -163,6 +163,5 @@ module _ (P : Plan) (boxes : List ℕ) where
   plan-length = ap length plan-text ∙ length-append (first ++ calendars) tasks ∙ ap (λ n. n + length tasks) (length-append first calendars)
 
   pub calendars-length : Passed P boxes → length calendars ≡ length P.shifts.calendars + 5 * calendar_count (alone P)
-  unfolding calendar_count
   calendars-length p =
       omega (arith, cals-length (alone P) P.shifts.hours (calendar_count (alone P)) (calendar-hours (alone P)), p.whole)

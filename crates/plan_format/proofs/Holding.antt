@@ -30,7 +30,7 @@ pub record Holds (a : PlanRead) : Type 0 where
 
 fault-free : (enough : Bool) (r : Read) → read_fault enough r ≡ None
     → Holds (record { hours = r.hours; rooms = length r.capacities; calendars = length r.calendars; tasks = length r.tasks })
-unfolding read_fault line_fault plan_fault plan_in task_count first_symbol
+unfolding read_fault line_fault plan_fault plan_in first_symbol
 fault-free enough r e =
     let after-31 = neither _ _ e in
     let after-3 = neither _ _ after-31.1 in

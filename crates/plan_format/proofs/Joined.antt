@@ -39,18 +39,16 @@ module _ (k : ℕ) (l : List ℕ) where
 -- ---- each of one length
 
 and_assoc : (a b c : Bool) → a and (b and c) ≡ (a and b) and c
-unfolding ◌and◌
 and_assoc true b c = refl
 and_assoc false b c = refl
 
 and-true : (a : Bool) → a and true ≡ a
-unfolding ◌and◌
 and-true true = refl
 and-true false = refl
 
 module _ (h : ℕ) where
   pub all_more : (ls : List (List ℕ)) (l : List ℕ) → all_of h (ls ++ (l ∷ [])) ≡ all_of h ls and eqb (length l) h
-  unfolding all_of ◌and◌
+  unfolding all_of
   all_more [] l = and-true (eqb (length l) h)
   all_more (k ∷ ls) l = ap (λ b. eqb (length k) h and b) (all_more ls l) ∙ and_assoc (eqb (length k) h) (all_of h ls) (eqb (length l) h)
 

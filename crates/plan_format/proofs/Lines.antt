@@ -24,7 +24,7 @@ Readable (cal_record symbols) = (1 ≤ length symbols) × (first_at tab symbols 
 Readable (task_record numbers) = (2 ≤ length numbers) × Below (suc most_number) numbers
 
 pub line_read : (x : Record) → Readable x → record_of (record_line x) ≡ Some x
-unfolding Readable record_of record_line by_word plan_of cal_of task_of numbers_if same first_at on_option ◌and◌
+unfolding Readable record_of record_line by_word plan_of cal_of task_of numbers_if same first_at on_option
 line_read (plan_record h cs) b = rw (parts-numbers word_plan (h ∷ cs) refl, numbers-read (h ∷ cs) b, le-leb 1 (suc (length cs)) (omega arith))
 line_read (cal_record symbols) (some-symbol, no-tab, no-lf) =
     rw (parts_next tab word_cal symbols refl, parts_last tab symbols no-tab, le-leb 1 (length symbols) some-symbol)

@@ -118,17 +118,17 @@ module _ (P : Plan) (boxes : List ℕ) where
       }
 
   calendar-taken : (k : ℕ) → with_record (after_calendars k) (cal_record (calendar_at P.shifts k)) ≡ Some (after_calendars (suc k))
-  unfolding with_record comes within ◌and◌ list_to
+  unfolding with_record comes within list_to
   calendar-taken zero = refl
   calendar-taken (suc k) = rw (not_none k, not_none (suc k))
 
   -- a task's line has all its numbers
   is-line : (i : ℕ) → is_task_line (length P.capacities) (length (numbers i)) ≡ true
-  unfolding is_task_line room_count
+  unfolding is_task_line
   is-line i = if-all (λ b. b ≡ true) _ _ _ (λ q. refl) (λ q. eq-eqb _ _ (line-count i))
 
   task-taken : (i : ℕ) → with_record (after_tasks i) (task_record (numbers i)) ≡ Some (after_tasks (suc i))
-  unfolding with_record comes within ◌and◌ list_to
+  unfolding with_record comes within list_to
   task-taken zero = rw (is-line zero)
   task-taken (suc i) = rw (not_none i, not_none (suc i), is-line (suc i))
 

@@ -57,7 +57,6 @@ lines-size f (suc n) most e =
 
 module _ (P : Plan) (boxes : List ℕ) (p : Passed P boxes) where
   plan-width : length (line_of word_plan (P.shifts.hours ∷ P.capacities)) ≤ most_plan_line
-  unfolding room_count
   plan-width =
       omega (
         arith,
@@ -72,7 +71,6 @@ module _ (P : Plan) (boxes : List ℕ) (p : Passed P boxes) where
   cals-size = lines-size _ _ most_cal_line (λ k l. omega (arith, cal-length (calendar_at (alone P) k), calendar-hours (alone P) k l, p.hours))
 
   few : calendar_count (alone P) ≤ most_calendars
-  unfolding calendar_count
   few = p.calendars
 
   task-width : (i : ℕ) → i < task_count P

@@ -98,7 +98,7 @@ module _ {P : Plan} {boxes : List ℕ} (p : Passed P boxes) where
       ∙ ap (λ (at : ℕ). take box_numbers (drop at boxes)) (mul_comm box_numbers i)
 
   pub boxes-held : boxes_in (read_of P boxes) ≡ boxes
-  unfolding boxes_in read_of room_count
+  unfolding boxes_in read_of
   boxes-held =
       ap joined (list-map numbers (box_of P.shifts.hours (room_count P)) (task_count P) ∙ list-eq _ _ (task_count P) box-line)
       ∙ joined-parts box_numbers boxes (task_count P) (p.boxes ∙ mul_comm box_numbers (task_count P))
@@ -117,7 +117,7 @@ module _ {P : Plan} {boxes : List ℕ} (p : Passed P boxes) where
 
   -- room by room, the heights of all tasks
   heights-held : heights_in (room_count P) (read_of P boxes).tasks ≡ P.heights
-  unfolding heights_in room_part task_count
+  unfolding heights_in room_part
   heights-held =
       ap joined
       (list-eq _ _ (room_count P) (λ room l.
@@ -127,7 +127,7 @@ module _ {P : Plan} {boxes : List ℕ} (p : Passed P boxes) where
       ∙ joined-parts (task_count P) P.heights (room_count P) p.heights
 
   pub plan-held : plan_in (read_of P boxes) ≡ P
-  unfolding plan_in read_of task_numbers task_count room_count
+  unfolding plan_in read_of task_numbers
   plan-held =
       λ k. plan P.shifts.hours P.capacities (calendars-held k)
       (column 0 P.shifts.task_calendars (λ i. refl) refl k)
@@ -138,7 +138,7 @@ module _ {P : Plan} {boxes : List ℕ} (p : Passed P boxes) where
 
   -- their numbers are below any that is above the limits: H is the greatest limit of a task's numbers
   pub numbers-below : (most : ℕ) → most_hours < most → (i : ℕ) → i < task_count P → Below most (numbers i)
-  unfolding task_numbers heights_at Below work_time_of height_of heights_of task_count
+  unfolding task_numbers heights_at Below height_of heights_of
   numbers-below most h i l =
       let t = p.task i l in
       let heights = heights_at (room_count P) (task_count P) P.heights i in
@@ -147,7 +147,6 @@ module _ {P : Plan} {boxes : List ℕ} (p : Passed P boxes) where
       (omega (arith, h, t.number, p.calendars), (omega (arith, h, p.hours, t.work_time), below_both most heights _ low box))
 
   pub capacities-below : (most : ℕ) → most_capacity < most → Below most P.capacities
-  unfolding room_count capacity_of
   capacities-below most h = below_each most P.capacities (λ room l. omega (arith, h, p.capacity room l))
 
   pub lines-pass : line_fault (read_of P boxes) ≡ None

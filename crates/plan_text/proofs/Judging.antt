@@ -65,7 +65,7 @@ unfolding counts_fault capacity_fault first_of
 counts-none = go_on _ 5 0 _ refl ∙ go_on _ 17 0 _ (is_within 1 most_rooms 1 (omega arith) (omega arith)) ∙ else-none _ _ refl ∙ unless-true _ 10 0 refl
 
 by-calendars : (h : ℕ) (cs : List ℕ) (y : Option Fault) → (plan_fault (plan h (0 ∷ []) cs [] [] []) [] or_else y) ≡ (calendars_fault h cs or_else y)
-unfolding plan_fault tasks_fault first_of room_count task_count
+unfolding plan_fault tasks_fault first_of
 by-calendars h cs y = ends-later _ _ _ (else-none _ _ counts-none)
 
 -- a plan whose counts are refused is refused as that one, or else by its counts
@@ -166,12 +166,11 @@ module _ {r : Read} {s : Scan} {n : ℕ} {symbols cells : List ℕ} (held : Hold
 
     pub read-too-many : most_tasks < s.tasks
         → (plan_fault (plan s.hours (0 ∷ []) (section 0 s.symbols symbols) [] [] []) [] or_else Some (fault 5 0)) ≡ read_fault true r
-    unfolding task_count
     read-too-many t = alone _ (too_many (plan_in r) (boxes_in r) (omega (arith, task-count held)))
 
     pub read-no-rooms : s.tasks ≤ most_tasks → is_room_count s.rooms ≡ false
         → (plan_fault (plan s.hours (0 ∷ []) (section 0 s.symbols symbols) [] [] []) [] or_else Some (fault 17 0)) ≡ read_fault true r
-    unfolding task_count plan_in
+    unfolding plan_in
     read-no-rooms t e =
         let few = le-leb (length (plan_in r).shifts.task_calendars) most_tasks (omega (arith, task-count held)) in
         alone _ (no-rooms (plan_in r) (boxes_in r) few (rw (← held.rooms) e))
@@ -183,7 +182,7 @@ module _ {r : Read} {s : Scan} {n : ℕ} {symbols cells : List ℕ} (held : Hold
     pub rooms_few : s.rooms ≤ most_rooms
 
   pub read-passed : None ≡ read_fault true r → ReadPassed
-  unfolding read_fault plan_fault task_count plan_in
+  unfolding read_fault plan_fault plan_in
   read-passed e =
       let after-31 = neither _ _ (sym e) in
       let after-3 = neither _ _ after-31.1 in

@@ -35,12 +35,11 @@ module _ (S : Shifts) (boxes : List ℕ) (i : ℕ) (part : List ℕ) (b : Bounds
       symbol t l f = rw is-part (symbol-part S.calendars first S.hours t l ∙ f.symbols (first + t) (omega (arith, f.calendar)))
 
   pub core-answers : (r : Fit) → r ≡ rule_of part (get_or S.work_times i 0) b → r ≡ fit_at S boxes i
-  unfolding fit_at calendar_of calendar_at work_time_of
+  unfolding fit_at calendar_of calendar_at
   core-answers r e = e ∙ rw (is-part, is-box)
 
 -- what a plan that passes the tests gives
 pub fitting : (P : Plan) (boxes : List ℕ) → Passed P boxes → (i : ℕ) → i < task_count P → Fitting P.shifts boxes i
-unfolding task_count
 fitting P boxes p i l =
     let t = p.task i l in
     record {

@@ -74,14 +74,14 @@ taken-small l all n m e h = rw e (simp length-take (omega arith))
 pub triple-is : (S : Shifts) (boxes schedule : List ℕ) (i : ℕ) (cal : List ℕ) (b : Bounds) (x : Triple) (r : Option Fault)
     → cal ≡ take S.hours (drop (first_symbol S.hours (get_or S.task_calendars i 0)) S.calendars) → b ≡ bounds_at boxes i
     → x ≡ triple_at schedule i → r ≡ one_triple_fault cal (get_or S.work_times i 0) b i x → r ≡ triple_fault S boxes (triple_at schedule) i
-unfolding triple_fault calendar_of calendar_at work_time_of
+unfolding triple_fault calendar_of calendar_at
 triple-is S boxes schedule i cal b x r p q s e = rw (← p, ← q, ← s) e
 
 -- one task for each height of a room, so the code counts the heights
 pub hours-are : (P : Plan) (schedule : List ℕ) → ((room : ℕ) → room < room_count P → length (heights_of P room) ≡ task_count P)
     → first_of (heights_fault P.capacities (task_count P) P.heights schedule) P.shifts.hours
     ≡ first_of (hour_fault P (triple_at schedule)) P.shifts.hours
-unfolding hour_fault room_fault heights_fault room_running_fault running heights_where room_count capacity_of heights_of height_of
+unfolding hour_fault room_fault heights_fault room_running_fault running heights_where heights_of height_of
 hours-are P schedule e =
     first-eq _ _ P.shifts.hours
     (λ t m. first-eq _ _ (length P.capacities)

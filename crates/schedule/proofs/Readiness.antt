@@ -29,7 +29,7 @@ module _ {P : Plan} {boxes schedule : List ℕ} (input : InputPasses P boxes sch
   room-tasks room l = room-heights P boxes plan-facts room l
 
   pub triples-ready : TriplesReady P.shifts boxes schedule
-  unfolding task_count is_sized
+  unfolding is_sized
   triples-ready =
       record {
         hours = plan-facts.hours;
@@ -40,7 +40,7 @@ module _ {P : Plan} {boxes schedule : List ℕ} (input : InputPasses P boxes sch
       }
 
   pub rooms_ready : RoomsReady (room_count P) (task_count P) P.heights schedule
-  unfolding task_count heights_of height_of
+  unfolding heights_of height_of
   rooms_ready =
       record {
         heights = plan-facts.heights;

@@ -50,7 +50,7 @@ module _ (P : Plan) (boxes : List ℕ) (f : Fault) where
 -- where they find none, the boxes number one for each task
 module _ (P : Plan) (boxes : List ℕ) where
   pub first-sized : input_fault P boxes ≡ None → length boxes ≡ 6 * task_count P
-  unfolding input_fault one_for_each_task task_count
+  unfolding input_fault one_for_each_task
   first-sized e = eqb-true _ _ (and_right _ _ (and_right _ _ (unless-none _ 31 0 (neither _ _ e).0)))
 
   -- the tests of a log checker and of a filter are those of the plan and the boxes, and that of the log's slices; where these are of one length, just
@@ -70,8 +70,8 @@ module _ (P : Plan) (boxes : List ℕ) where
       (and_both _ _ (eq-eqb (length tasks) (length kinds) t) (eq-eqb (length hours) (length kinds) h)))
     where
       and-true : (a b : Bool) → b ≡ true → (a and b) ≡ a
-      and-true true b e = unfold ◌and◌ in e
-      and-true false b e = unfold ◌and◌ in refl
+      and-true true b e = e
+      and-true false b e = refl
 
 -- ---- the log checker
 

@@ -44,7 +44,7 @@ module _ (P : Plan) (one : room_count P ≡ 1) where
   -- ---- the one room
 
   capacity-is : capacity_of P 0 ≡ before.capacity P
-  unfolding capacity_of before.capacity
+  unfolding before.capacity
   capacity-is = refl
 
   height-is : (i : ℕ) → i < task_count P → height_of P 0 i ≡ before.height_of P i

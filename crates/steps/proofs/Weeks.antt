@@ -26,7 +26,7 @@ use Rattle.steps.specs.Weeks.{weeks, left, outcome_of, hours_held}
 use Rattle.units.specs.Cells.{written}
 
 pub weeks-come-out : map (λ w. outcome_of w.week) weeks ≡ map (λ w. w.outcome) weeks
-unfolding ◌and◌ on_option ◌or_else◌ some_of first_of sum_to sum_where count_where within
+unfolding on_option ◌or_else◌ some_of first_of sum_to sum_where count_where within
     is_capacity is_calendar_count is_calendar_number is_room_count is_room_number is_task_count is_overtime is_range is_box room_count task_count
     calendar_count first_symbol calendar_at calendar_of work_time_of capacity_of room_part heights_of height_of heights_where bounds_at with_bounds unless
     answer_unless one_for_each_task is_calendars is_symbol symbol_fault calendars_fault capacity_fault counts_fault height_fault one_task_fault task_fault

@@ -187,7 +187,7 @@ module _ (p : ℕ) (b : Bounds) (a : Stretch) where
   -- where the other tests hold, the last one decides
   pub ends-by-most : b.shortest.0 ≤ a.hours.0 → p ≤ a.counts.regular + a.counts.overtime → a.last.0 ≡ a.hours.0 → a.counts.regular < p
       → leb (p - a.counts.regular) b.most.0 ≡ may_end p b a
-  unfolding may_end ◌and◌
+  unfolding may_end
   ends-by-most h₁ h₂ h₃ h₄ =
       simp (le-leb _ _ h₁, le-leb _ _ h₂, eq-eqb _ _ h₃)
       (same-leb (p - a.counts.regular) b.most.0 p (b.most.0 + a.counts.regular) (λ h. omega arith) (λ h. omega arith))
@@ -214,7 +214,7 @@ module _ (cal : List ℕ) (p : ℕ) (b : Bounds) (s e : ℕ) where
 
   pub lasts-by-work : (n : ℕ) → n ≡ hours_of regular cal (s + 1) (e - 2) + min e 2 → e ≤ b.longest.0 → b.fewest.0 + hours_of regular cal s e ≤ p
       → leb n p ≡ may_last cal p b s e
-  unfolding may_last ◌and◌
+  unfolding may_last
   lasts-by-work n q h₁ h₂ = simp (le-leb _ _ h₁, le-leb _ _ h₂) (ap (λ (k : ℕ). leb k p) q)
 
   pub last-shorter : (k : ℕ) → k ≤ e → MayLast cal p b s e → MayLast cal p b s k

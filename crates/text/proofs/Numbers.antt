@@ -16,7 +16,7 @@ use Rattle.text.specs.Numbers.{is_digits, decimal, is_plain, is_number, most_num
 
 module _ (l : List ℕ) (i : ℕ) where
   pub digits-next : i < length l → within 48 57 (get_or l i 0) ≡ true → is_digits (drop i l) ≡ is_digits (drop (i + 1) l)
-  unfolding is_digits ◌and◌
+  unfolding is_digits
   digits-next h e = rw (add-one, drop-cons l i 0 h, e)
 
   pub digits-not : i < length l → within 48 57 (get_or l i 0) ≡ false → is_digits (drop i l) ≡ false

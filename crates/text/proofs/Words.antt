@@ -21,7 +21,7 @@ same-unequal (x ∷ xs) (y ∷ ys) h = not_right _ _ (same-unequal xs ys (λ e. 
 
 module _ (a b : List ℕ) (i : ℕ) (h : i < length a) (k : i < length b) where
   pub same_next : get_or a i 0 ≡ get_or b i 0 → same (drop i a) (drop i b) ≡ same (drop (i + 1) a) (drop (i + 1) b)
-  unfolding same ◌and◌
+  unfolding same
   same_next e = rw (add-one, drop-cons a i 0 h, drop-cons b i 0 k, eq-eqb _ _ e)
 
   pub same_not : (get_or a i 0 ≡ get_or b i 0 → ⊥) → same (drop i a) (drop i b) ≡ false

@@ -32,7 +32,7 @@ use Rattle.text_listing.specs.Program.{zeros, plan_listing, read_end, read_listi
 use Rattle.text_listing.specs.Printed.{bytes, printed_text, printed_listing}
 
 pub printed-week : listing_of_text printed_text ≡ printed_listing
-unfolding ◌and◌ on_option ◌or_else◌ some_of first_of sum_to sum_where count_where within
+unfolding on_option ◌or_else◌ some_of first_of sum_to sum_where count_where within
     is_capacity is_calendar_count is_calendar_number is_room_count is_room_number is_task_count is_overtime is_range is_box least greatest written list_to
     room_count task_count calendar_count first_symbol calendar_at calendar_of work_time_of capacity_of room_part heights_of height_of heights_where
     bounds_at with_bounds is_symbol is_kind unless on_answer one_for_each_task is_calendars symbol_fault calendars_fault capacity_fault counts_fault

@@ -108,7 +108,7 @@ module _ (P : Plan) (boxes : List ℕ) (fits : List Fit) (k : Keeping P boxes fi
 
   excess-kept : (i t : ℕ) → i < task_count P → (w : Window) → fit_at P.shifts boxes i ≡ Within w
       → excess_by (task_count P) P.capacities P.heights fits w i t ≡ excess P boxes i t
-  unfolding excess_by excess room_count
+  unfolding excess_by excess
   excess-kept i t l w e = some-eq _ _ (room_count P) (λ room m. room-kept room m)
     where
       room-kept : (room : ℕ) → room < room_count P
@@ -117,7 +117,7 @@ module _ (P : Plan) (boxes : List ℕ) (fits : List Fit) (k : Keeping P boxes fi
 
   kind-kept : (kind : Kind) (i t : ℕ) → is_step (room_count P) (task_count P) P.shifts.hours kind i t ≡ true
       → judgement_of boxes (judge_kind_by P.shifts.hours (task_count P) P.capacities P.heights boxes fits kind i t) ≡ judge_kind P boxes kind i t
-  unfolding judge_kind_by judge_kind judge_c judge_o judge_l judge_u bound_by is_step heights_of capacity_of judgement_of on_judged
+  unfolding judge_kind_by judge_kind judge_c judge_o judge_l judge_u bound_by is_step heights_of judgement_of on_judged
   kind-kept kind_c i t is =
       rw (k.kept i (ltb-true _ _ (and_left _ _ is))) (calendar-judged boxes i (fit_at P.shifts boxes i) (bounds_at boxes i))
   kind-kept kind_o room t is = rw (load_kept room t (ltb-true _ _ (and_left _ _ is))) (if-ap (judgement_of boxes) _ _ _)
@@ -138,7 +138,7 @@ module _ (P : Plan) (boxes : List ℕ) (fits : List Fit) (k : Keeping P boxes fi
   kind-kept unknown_kind i t is = refl
 
   pub judge-kept : (x : Step) → judgement_of boxes (By x) ≡ judge P boxes x
-  unfolding judge judge_by room_count judgement_of on_judged
+  unfolding judge judge_by judgement_of on_judged
   judge-kept x =
       if-all (λ (j : Judgement). judgement_of boxes (By x) ≡ j) _ _ _
       (λ e. ap (judgement_of boxes) (if-true _ _ _ e) ∙ kind-kept (kind_of x.kind) x.task x.hour e)

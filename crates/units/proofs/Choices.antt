@@ -35,7 +35,6 @@ same-leb x y u v f g = go (dec_le x y)
 
 module _ (a b : Bool) where
   pub and_both : a ≡ true → b ≡ true → a and b ≡ true
-  unfolding ◌and◌
   and_both p q = cc
 
   pub and_left : a and b ≡ true → a ≡ true
@@ -43,30 +42,28 @@ module _ (a b : Bool) where
     where
       go : (t : Bool) → t and b ≡ true → t ≡ true
       go true q = refl
-      go false q = unfold ◌and◌ in q
+      go false q = q
 
   pub and_right : a and b ≡ true → b ≡ true
   and_right e = go a e
     where
       go : (t : Bool) → t and b ≡ true → b ≡ true
-      go true q = unfold ◌and◌ in q
-      go false q = absurd (false≢true (unfold ◌and◌ in q))
+      go true q = q
+      go false q = absurd (false≢true (q))
 
   -- the first test holds, so the second decides
   pub and-rest : a ≡ true → a and b ≡ b
-  unfolding ◌and◌
   and-rest e = rw e
 
   pub not_left : a ≡ false → a and b ≡ false
-  unfolding ◌and◌
   not_left p = rw p
 
   pub not_right : b ≡ false → a and b ≡ false
   not_right p = go a
     where
       go : (t : Bool) → t and b ≡ false
-      go true = unfold ◌and◌ in p
-      go false = unfold ◌and◌ in refl
+      go true = p
+      go false = refl
 
 -- ---- if
 

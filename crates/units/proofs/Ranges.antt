@@ -31,7 +31,7 @@ module _ (least most n : ℕ) where
 
   -- a number that is large enough is within the limits by the other test
   pub by_most : least ≤ n → within least most n ≡ leb n most
-  unfolding within ◌and◌
+  unfolding within
   by_most p = rw (le-leb least n p)
 
   pub from-least : within least most n ≡ true → least ≤ n
@@ -71,7 +71,7 @@ le-cmp l u = go (dec_le l u)
 
 module _ {A : Type 0} (kind : ℕ → Bool) (cmp : A → A → Ordering) (make : ℕ → A) (l u : ℕ) where
   pub made_range : is_le (cmp (make l) (make u)) ≡ leb l u → in_order cmp (some_if (kind l) (make l)) (some_if (kind u) (make u)) ≡ is_range kind l u
-  unfolding is_range ◌and◌
+  unfolding is_range
   made_range own = go (kind l) (kind u)
     where
       go : (a b : Bool) → in_order cmp (some_if a (make l)) (some_if b (make u)) ≡ (a and b and leb l u)

@@ -92,10 +92,10 @@ module _ (test : ℕ → Bool) (f : ℕ → ℕ) where
   where-split n i l = sum-but _ _ n i (if test i then f i else 0) l (λ j m ne. other j ne) own
     where
       other : (j : ℕ) → j ≢ i → (if not (eqb j i) and test j then f j else 0) ≡ (if test j then f j else 0)
-      other j ne = unfold ◌and◌ in (rw (ne_eqb j i ne))
+      other j ne = rw (ne_eqb j i ne)
 
       own : (if not (eqb i i) and test i then f i else 0) + (if test i then f i else 0) ≡ (if test i then f i else 0)
-      own = omega (arith, if-false (not (eqb i i) and test i) (f i) 0 (not_left _ _ (rw (eq-eqb i i refl))))
+      own = omega (arith, if-false (not (eqb i i) and test i) (f i) 0 (not_left (not (eqb i i)) (test i) (ap not (eq-eqb i i refl))))
 
 -- ---- one test's count, and the greatest
 

@@ -1,13 +1,12 @@
 -- Tests and choices: the words in which the definitions of the product are written.
-use Rattle.std.specs.Prelude.{Bool, true, false, ℕ, zero, suc, if◌then◌else◌}
+use Rattle.std.specs.Prelude.{Bool, true, false, ◌&&◌, ℕ, zero, suc, if◌then◌else◌}
 use Rattle.std.specs.Prelude.{Option, None, Some}
 use Rattle.std.specs.Bool.{then_some}
 
 -- both hold
 infixr 35 ◌and◌
-unfoldable pub ◌and◌ : Bool → Bool → Bool
-true and b = b
-false and b = false
+abbrev pub ◌and◌ : Bool → Bool → Bool
+a and b = a && b
 
 -- the value, where the test holds
 abbrev pub some_if : {A : Type 0} → Bool → A → Option A

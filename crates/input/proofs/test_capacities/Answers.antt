@@ -1,24 +1,24 @@
-use mathlib.Core.Path.{sym}
-use Rattle.units.proofs.Choices.{if_none, if_some}
-use Rattle.units.proofs.Searching.{unfound-first, unfound-next, unfound-hit, unfound-end}
+use mathlib.Core.Path.{sym, ap, ◌∙◌}
+use Rattle.std.specs.Prelude.{Some}
+use Rattle.units.proofs.Searching.{unfound-first, unfound-next, unfound-hit}
+use Rattle.plan.specs.Refusals.{fault_of}
 use Rattle.plan.specs.Faults.{capacity_fault}
-use Rattle.plan.proofs.Refusals.{unless-true, unless-false}
+use Rattle.plan.proofs.Refusals.{unless-true, unless-false, handed-on, none-there, one-there}
 use Rattle.input.proofs.test_capacities.Goals as goal
 
-pub returns-in_default : goal.returns-in_default
+pub loop-capacity-init : goal.loop-capacity-init
+loop-capacity-init c = unfound-first
+
+pub returns-in_err-ok_or : goal.returns-in_err-ok_or
 unfolding capacity_fault
-returns-in_default c =
-    let made = sym c.in_default.ensures in
-    sym (unfound-hit c.loop-room.invariant c.loop-room-test.true (unless-false _ 10 0 (if_none _ _ made)))
+returns-in_err-ok_or c =
+    let none = none-there _ _ _ c.of_plan.ensures c.in_err-ok_or.ensures.value in
+    handed-on _ _ c.from_residual.ensures.1
+    ∙ ap (λ r. Some (fault_of r)) none.1
+    ∙ sym (unfound-hit c.loop-capacity.invariant c.loop-capacity-test.true (unless-false _ 10 0 none.0))
 
-pub loop-room-preserved : goal.loop-room-preserved
+pub loop-capacity-preserved : goal.loop-capacity-preserved
 unfolding capacity_fault
-loop-room-preserved c =
-    let made = sym c.in-Within.ensures in
-    unfound-next c.loop-room.invariant c.loop-room-test.true (unless-true _ 10 0 (if_some _ _ _ made).0)
-
-pub returns : goal.returns
-returns c = sym (unfound-end c.loop-room.invariant c.loop-room-test.false)
-
-pub loop-room-init : goal.loop-room-init
-loop-room-init c = unfound-first
+loop-capacity-preserved c =
+    let one = one-there _ _ _ c.of_plan.ensures c.in_ok-ok_or.ensures.value in
+    unfound-next c.loop-capacity.invariant c.loop-capacity-test.true (unless-true _ 10 0 one.0)

@@ -1,49 +1,67 @@
-use mathlib.Core.Path.{sym, ap, ◌∙◌}
+use mathlib.Core.Path.{sym, ap, ap₂, ◌∙◌}
+use lib.Dec.{ltb}
+use Rattle.std.specs.Prelude.{Some}
 use Rattle.units.specs.Limits.{is_box}
 use Rattle.units.specs.declared.Duration.{Duration}
-use Rattle.units.proofs.Choices.{if_none, if_some, else-none, outer-ends}
-use Rattle.plan.specs.Refusals.{tested_fault}
-use Rattle.plan.specs.Faults.{one_task_fault}
-use Rattle.plan.proofs.Refusals.{go_on, refuse, unless-true, unless-false}
+use Rattle.units.specs.declared.Bounds.{Bounds}
+use Rattle.units.proofs.Choices.{else-none, else-some}
+use Rattle.plan.specs.Refusals.{fault_of}
+use Rattle.plan.specs.Faults.{task_fault, one_task_fault}
+use Rattle.plan.proofs.Refusals.{go_on, refuse, unless-true, unless-false, handed-on, none-there, one-there}
 use Rattle.input.proofs.test_task.Goals as goal
 
-pub returns-in_default : goal.returns-in_default
-unfolding one_task_fault
-returns-in_default c = sym (refuse _ 6 _ _ (if_none _ _ (sym c.in_default.ensures)))
+pub returns-in_err-ok_or : goal.returns-in_err-ok_or
+unfolding task_fault one_task_fault
+returns-in_err-ok_or c =
+    let none = none-there _ _ _ c.of_plan.ensures c.in_err-ok_or.ensures.value in
+    let there = ap (ltb _) (sym c.calendar_count-calendars.ensures) ∙ none.0 in
+    handed-on _ _ c.from_residual.ensures.1 ∙ ap (λ r. Some (fault_of r)) none.1 ∙ sym (refuse _ 6 _ _ there)
 
-pub returns-in_default-of_work : goal.returns-in_default-of_work
-unfolding one_task_fault
-returns-in_default-of_work c =
-    let named = if_some _ _ _ (sym c.in-Within.ensures) in
-    sym (go_on _ 6 _ _ named.0 ∙ refuse _ 7 _ _ (if_none _ _ (sym c.in_default-of_work.ensures)))
+pub returns-in_err-work_time : goal.returns-in_err-work_time
+unfolding task_fault one_task_fault
+returns-in_err-work_time c =
+    let named = one-there _ _ _ c.of_plan.ensures c.in_ok-ok_or.ensures.value in
+    let there = ap (ltb _) (sym c.calendar_count-calendars.ensures) ∙ named.0 in
+    let none = none-there _ _ _ c.of_work.ensures c.in_err-work_time.ensures.value in
+    handed-on _ _ c.from_residual-in_err-work_time.ensures.1
+    ∙ ap (λ r. Some (fault_of r)) none.1
+    ∙ sym (go_on _ 6 _ _ there ∙ refuse _ 7 _ _ none.0)
 
-pub test_heights-by_heights-requires : goal.test_heights-by_heights-requires
-test_heights-by_heights-requires c = c.requires
+pub returns-in_err-test_heights : goal.returns-in_err-test_heights
+unfolding task_fault one_task_fault
+returns-in_err-test_heights c =
+    let named = one-there _ _ _ c.of_plan.ensures c.in_ok-ok_or.ensures.value in
+    let there = ap (ltb _) (sym c.calendar_count-calendars.ensures) ∙ named.0 in
+    let work = one-there _ _ _ c.of_work.ensures c.in_ok-work_time.ensures.value in
+    handed-on _ _ c.from_residual-in_err-test_heights.ensures.1
+    ∙ sym (go_on _ 6 _ _ there ∙ go_on _ 7 _ _ work.0 ∙ else-some _ _ _ (sym c.in_err-test_heights.ensures))
 
-pub returns-in_default-by_heights : goal.returns-in_default-by_heights
-unfolding one_task_fault
-returns-in_default-by_heights c =
-    let named = if_some _ _ _ (sym c.in-Within.ensures) in
-    let work = if_some _ _ _ (sym c.in-Within-of_work.ensures) in
-    outer-ends _ _ c.test_heights-by_heights.ensures (ap tested_fault c.in_default-by_heights.is) ∙ sym (go_on _ 6 _ _ named.0 ∙ go_on _ 7 _ _ work.0)
-
--- once 6, 7 and 8 do not apply, 9 decides; the box is tested with the work time that its constructor made
-pub returns-in_default-of_task : goal.returns-in_default-of_task
-unfolding one_task_fault
-returns-in_default-of_task c =
-    let named = if_some _ _ _ (sym c.in-Within.ensures) in
-    let work = if_some _ _ _ (sym c.in-Within-of_work.ensures) in
-    let same-box = ap (λ (d : Duration). is_box c.args.hours.0 d.0 c.args.bounds) work.1 in
-    sym
-    (go_on _ 6 _ _ named.0 ∙ go_on _ 7 _ _ work.0 ∙ else-none _ _ (sym c.in-Passed.ensures)
-    ∙ unless-false _ 9 _ (same-box ∙ if_none _ _ (sym c.in_default-of_task.ensures)))
+pub returns-in_err-ok_or-2 : goal.returns-in_err-ok_or-2
+unfolding task_fault one_task_fault
+returns-in_err-ok_or-2 c =
+    let named = one-there _ _ _ c.of_plan.ensures c.in_ok-ok_or.ensures.value in
+    let there = ap (ltb _) (sym c.calendar_count-calendars.ensures) ∙ named.0 in
+    let work = one-there _ _ _ c.of_work.ensures c.in_ok-work_time.ensures.value in
+    let none = none-there _ _ _ c.of_task.ensures c.in_err-ok_or-2.ensures.value in
+    let outside = ap₂ (λ (p : Duration) (b : Bounds). is_box c.args.plan.now.shifts.hours.0 p.0 b) work.1 (sym c.bounds_at.ensures) ∙ none.0 in
+    handed-on _ _ c.from_residual-in_err-ok_or-2.ensures.1
+    ∙ ap (λ r. Some (fault_of r)) none.1
+    ∙ sym
+    (go_on _ 6 _ _ there
+    ∙ go_on _ 7 _ _ work.0
+    ∙ else-none _ _ (sym c.in_ok-test_heights.ensures)
+    ∙ unless-false _ 9 _ outside)
 
 pub returns : goal.returns
-unfolding one_task_fault
+unfolding task_fault one_task_fault
 returns c =
-    let named = if_some _ _ _ (sym c.in-Within.ensures) in
-    let work = if_some _ _ _ (sym c.in-Within-of_work.ensures) in
-    let same-box = ap (λ (d : Duration). is_box c.args.hours.0 d.0 c.args.bounds) work.1 in
+    let named = one-there _ _ _ c.of_plan.ensures c.in_ok-ok_or.ensures.value in
+    let there = ap (ltb _) (sym c.calendar_count-calendars.ensures) ∙ named.0 in
+    let work = one-there _ _ _ c.of_work.ensures c.in_ok-work_time.ensures.value in
+    let one = one-there _ _ _ c.of_task.ensures c.in_ok-ok_or-2.ensures.value in
+    let inside = ap₂ (λ (p : Duration) (b : Bounds). is_box c.args.plan.now.shifts.hours.0 p.0 b) work.1 (sym c.bounds_at.ensures) ∙ one.0 in
     sym
-    (go_on _ 6 _ _ named.0 ∙ go_on _ 7 _ _ work.0 ∙ else-none _ _ (sym c.in-Passed.ensures)
-    ∙ unless-true _ 9 _ (same-box ∙ (if_some _ _ _ (sym c.in-Within-of_task.ensures)).0))
+    (go_on _ 6 _ _ there
+    ∙ go_on _ 7 _ _ work.0
+    ∙ else-none _ _ (sym c.in_ok-test_heights.ensures)
+    ∙ unless-true _ 9 _ inside)

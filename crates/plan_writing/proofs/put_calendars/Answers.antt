@@ -12,16 +12,14 @@ pub loop-k-init : goal.loop-k-init
 loop-k-init c = (omega arith, refl, rw (cals-none _) (put-none _ _))
 
 pub overflow_cast-k : goal.overflow_cast-k
-unfolding calendar_count
 overflow_cast-k c = omega (arith, c.loop-k-test.true, c.calendar_count-k-end.ensures, c.requires.1)
 
 pub calendar_at-calendar-requires : goal.calendar_at-calendar-requires
-unfolding calendar_count
 calendar_at-calendar-requires c =
     calendar-in (shifts c.args.hours.0 c.args.calendars.now [] []) c.loop-k.k (omega (arith, c.loop-k-test.true, c.calendar_count-k-end.ensures))
 
 pub put_calendar-end-requires : goal.put_calendar-end-requires
-unfolding calendar_at calendar_count
+unfolding calendar_at
 put_calendar-end-requires c =
     let S = shifts c.args.hours.0 c.args.calendars.now [] [] in
     let within : c.loop-k.k < calendar_count S = omega (arith, c.loop-k-test.true, c.calendar_count-k-end.ensures) in
@@ -43,7 +41,6 @@ loop-k-preserved c =
     )
 
 pub returns : goal.returns
-unfolding calendar_count
 returns c =
     let S = shifts c.args.hours.0 c.args.calendars.now [] [] in
     let all : c.loop-k.k ≡ calendar_count S = omega (arith, c.loop-k.invariant.0, c.calendar_count-k-end.ensures) in

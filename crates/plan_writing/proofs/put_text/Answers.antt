@@ -21,7 +21,6 @@ put_line-first-requires c =
     )
 
 pub put_calendars-middle-requires : goal.put_calendars-middle-requires
-unfolding calendar_count
 put_calendars-middle-requires c =
     let a = c.args in
     let P = plan a.hours.0 a.capacities.now a.calendars.now a.task_calendars.now a.work_times.now a.heights.now in (
@@ -38,7 +37,6 @@ put_calendars-middle-requires c =
     )
 
 pub put_tasks-requires : goal.put_tasks-requires
-unfolding room_count task_count
 put_tasks-requires c =
     let a = c.args in
     let P = plan a.hours.0 a.capacities.now a.calendars.now a.task_calendars.now a.work_times.now a.heights.now in (
@@ -58,7 +56,6 @@ put_tasks-requires c =
     )
 
 pub returns : goal.returns
-unfolding room_count task_count
 returns c =
     let a = c.args in
     let P = plan a.hours.0 a.capacities.now a.calendars.now a.task_calendars.now a.work_times.now a.heights.now in
@@ -67,7 +64,6 @@ returns c =
     (put_both (omega arith) (put_both (omega arith) first c.put_calendars-middle.ensures) c.put_tasks.ensures)
 
 pub plan_numbers-numbers-requires : goal.plan_numbers-numbers-requires
-unfolding room_count
 plan_numbers-numbers-requires c =
     let a = c.args in
     let P = plan a.hours.0 a.capacities.now a.calendars.now a.task_calendars.now a.work_times.now a.heights.now in

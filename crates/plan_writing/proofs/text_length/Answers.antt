@@ -9,7 +9,6 @@ use Rattle.plan_format.proofs.Growing.{plan-length, calendars-length}
 use Rattle.plan_writing.proofs.text_length.Goals as goal
 
 pub line_length-first-requires : goal.line_length-first-requires
-unfolding room_count
 line_length-first-requires c =
     let a = c.args in
     let P = plan a.hours.0 a.capacities.now a.calendars.now a.task_calendars.now a.work_times.now a.heights.now in (
@@ -28,7 +27,6 @@ calendar_count-requires c =
     (input-passed P _ c.requires).some_hours
 
 pub tasks_length-requires : goal.tasks_length-requires
-unfolding room_count task_count
 tasks_length-requires c =
     let a = c.args in
     let P = plan a.hours.0 a.capacities.now a.calendars.now a.task_calendars.now a.work_times.now a.heights.now in (
@@ -38,7 +36,6 @@ tasks_length-requires c =
     )
 
 pub returns : goal.returns
-unfolding room_count task_count calendar_count
 returns c =
     let a = c.args in
     let P = plan a.hours.0 a.capacities.now a.calendars.now a.task_calendars.now a.work_times.now a.heights.now in
@@ -53,14 +50,12 @@ returns c =
     )
 
 pub plan_numbers-numbers-requires : goal.plan_numbers-numbers-requires
-unfolding room_count
 plan_numbers-numbers-requires c =
     let a = c.args in
     let P = plan a.hours.0 a.capacities.now a.calendars.now a.task_calendars.now a.work_times.now a.heights.now in
     ((input-passed P _ c.requires).rooms)
 
 pub overflow_mul-symbols : goal.overflow_mul-symbols
-unfolding calendar_count
 overflow_mul-symbols c =
     let a = c.args in
     let P = plan a.hours.0 a.capacities.now a.calendars.now a.task_calendars.now a.work_times.now a.heights.now in
@@ -71,7 +66,6 @@ overflow_mul-symbols c =
     )
 
 pub overflow_add-symbols : goal.overflow_add-symbols
-unfolding calendar_count
 overflow_add-symbols c =
     let a = c.args in
     let P = plan a.hours.0 a.capacities.now a.calendars.now a.task_calendars.now a.work_times.now a.heights.now in
@@ -82,7 +76,6 @@ overflow_add-symbols c =
     )
 
 pub overflow_add-result : goal.overflow_add-result
-unfolding calendar_count
 overflow_add-result c =
     let a = c.args in
     let P = plan a.hours.0 a.capacities.now a.calendars.now a.task_calendars.now a.work_times.now a.heights.now in
@@ -94,7 +87,6 @@ overflow_add-result c =
     )
 
 pub overflow_add-result-2 : goal.overflow_add-result-2
-unfolding calendar_count
 overflow_add-result-2 c =
     let a = c.args in
     let P = plan a.hours.0 a.capacities.now a.calendars.now a.task_calendars.now a.work_times.now a.heights.now in

@@ -7,7 +7,6 @@ use Rattle.schedule.proofs.Decision.{faultless, accepts, refuses, decides-as}
 use Rattle.schedule.proofs.check_schedule.Goals as goal
 
 pub latest_end-requires : goal.latest_end-requires
-unfolding task_count
 latest_end-requires c =
     let known = faultless _ _ _ (sym c.in-Passed.ensures) in
     ends-ready known.input known.feasible
@@ -19,7 +18,7 @@ returns-in-Refused c =
     record { answer = answer; exactly = decides-as _ _ _ _ answer }
 
 pub returns-in-Passed : goal.returns-in-Passed
-unfolding makespan task_count
+unfolding makespan
 returns-in-Passed c =
     let None = sym c.in-Passed.ensures in
     let answer = ap answered c.latest_end.ensures ∙ sym (accepts _ _ _ None) in

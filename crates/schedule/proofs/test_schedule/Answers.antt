@@ -24,20 +24,19 @@ unfolding check_fault
 by-schedule P boxes schedule input = go_on _ 31 0 _ input.size ∙ else-none _ _ input.passes
 
 pub returns-then-not-is_right_size : goal.returns-then-not-is_right_size
-unfolding check_fault task_count
+unfolding check_fault
 returns-then-not-is_right_size c = sym (refuse _ 31 0 _ (sym c.is_right_size.ensures ∙ c.if-not-is_right_size.true))
 
 pub test_plan-by_plan-requires : goal.test_plan-by_plan-requires
 test_plan-by_plan-requires c = and_left _ _ (sym c.is_right_size.ensures ∙ c.if-not-is_right_size.false)
 
 pub returns-in_default : goal.returns-in_default
-unfolding check_fault task_count
+unfolding check_fault
 returns-in_default c =
     outer-ends _ _ c.test_plan-by_plan.ensures (ap tested_fault c.in_default.is)
     ∙ sym (go_on _ 31 0 _ (sym c.is_right_size.ensures ∙ c.if-not-is_right_size.false))
 
 pub test_triples-by_triples-requires : goal.test_triples-by_triples-requires
-unfolding task_count
 test_triples-by_triples-requires c =
     let a = c.args in
     let P = plan a.hours a.capacities.now a.calendars.now a.task_calendars.now a.work_times.now a.heights.now in
@@ -45,7 +44,7 @@ test_triples-by_triples-requires c =
     (passing P _ _ (sym c.is_right_size.ensures ∙ c.if-not-is_right_size.false) (sym c.in-Passed.ensures))
 
 pub returns-in_default-by_triples : goal.returns-in_default-by_triples
-unfolding schedule_fault task_count
+unfolding schedule_fault
 returns-in_default-by_triples c =
     outer-ends _ _ c.test_triples-by_triples.ensures (ap tested_fault c.in_default-by_triples.is)
     ∙ sym
@@ -53,7 +52,6 @@ returns-in_default-by_triples c =
     (passing _ _ _ (sym c.is_right_size.ensures ∙ c.if-not-is_right_size.false) (sym c.in-Passed.ensures)))
 
 pub test_hours-requires : goal.test_hours-requires
-unfolding room_count task_count
 test_hours-requires c =
     let a = c.args in
     let P = plan a.hours a.capacities.now a.calendars.now a.task_calendars.now a.work_times.now a.heights.now in
@@ -61,7 +59,7 @@ test_hours-requires c =
     (passing P _ _ (sym c.is_right_size.ensures ∙ c.if-not-is_right_size.false) (sym c.in-Passed.ensures))
 
 pub returns : goal.returns
-unfolding schedule_fault task_count
+unfolding schedule_fault
 returns c =
     let a = c.args in
     let P = plan a.hours a.capacities.now a.calendars.now a.task_calendars.now a.work_times.now a.heights.now in

@@ -4,6 +4,6 @@ use Rattle.text_listing.specs.Program.{zeros}
 use Rattle.text_listing.proofs.list_plan.Goals as goal
 
 pub returns : goal.returns
-unfolding task_count zeros
+unfolding zeros
 returns c =
     put_as _ (plan-listed _ _ _ _ _ _ _ c.filter-answer.ensures.answer) c.list_run.ensures.0 c.list_run.ensures.1

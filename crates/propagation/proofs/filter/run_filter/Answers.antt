@@ -8,11 +8,9 @@ use Rattle.propagation.proofs.Filtering.{filter-opens, settles, fills, stops_at,
 use Rattle.propagation.proofs.filter.run_filter.Goals as goal
 
 pub all_fits-fits-requires : goal.all_fits-fits-requires
-unfolding task_count
 all_fits-fits-requires c = (c.requires.passed.0.tasks, λ i l. fitting _ _ c.requires.passed.0 i l)
 
 pub loop-step-init : goal.loop-step-init
-unfolding task_count
 loop-step-init c = filter-opens c.requires.passed c.all_fits-fits.ensures.1 c.all_fits-fits.ensures.0
 
 pub overflow_add-answer : goal.overflow_add-answer
@@ -41,7 +39,6 @@ pub overflow_add-count : goal.overflow_add-count
 overflow_add-count c = omega (arith, c.if-log_kinds-count.false, c.loop-step.invariant, c.well_formed)
 
 pub move_bounds-next-requires : goal.move_bounds-next-requires
-unfolding task_count
 move_bounds-next-requires c =
     let inv = c.loop-step.invariant in
     filter-may-move inv (c.next_turn-turn.ensures.answer _ _ _ refl inv.keeps) 0 c.in-At.is c.if-log_kinds-count.false
@@ -49,7 +46,6 @@ move_bounds-next-requires c =
     (c.next_turn-turn.ensures.there _ _ _ (turn-moves c.in-At.is c.in-Moved.is))
 
 pub next_turn-turn-requires : goal.next_turn-turn-requires
-unfolding room_count task_count
 next_turn-turn-requires c = let p = c.loop-step.invariant.keeps.passed in (ready _ _ p, p.hours)
 
 pub loop-step-smaller : goal.loop-step-smaller
@@ -57,7 +53,6 @@ loop-step-smaller c =
     omega (arith, c.if-log_kinds-count.false, c.loop-step.invariant.same_kinds)
 
 pub loop-step-preserved : goal.loop-step-preserved
-unfolding task_count
 loop-step-preserved c =
     let inv = c.loop-step.invariant in
     goes_on inv (c.next_turn-turn.ensures.answer _ _ _ refl inv.keeps) 0 c.in-At.is c.if-log_kinds-count.false c.in-Moved.is
@@ -65,19 +60,16 @@ loop-step-preserved c =
     c.move_bounds-next.ensures
 
 pub returns-in_default : goal.returns-in_default
-unfolding task_count
 returns-in_default c =
     let inv = c.loop-step.invariant in
     settles inv (c.next_turn-turn.ensures.answer _ _ _ refl inv.keeps) _ c.in_default.is
 
 pub returns-then-log_kinds-count : goal.returns-then-log_kinds-count
-unfolding task_count
 returns-then-log_kinds-count c =
     let inv = c.loop-step.invariant in
     fills inv (c.next_turn-turn.ensures.answer _ _ _ refl inv.keeps) _ c.in-At.is c.if-log_kinds-count.true
 
 pub returns-in_default-judged : goal.returns-in_default-judged
-unfolding task_count
 returns-in_default-judged c =
     let inv = c.loop-step.invariant in
     stops_at inv (c.next_turn-turn.ensures.answer _ _ _ refl inv.keeps) _ c.in-At.is c.if-log_kinds-count.false

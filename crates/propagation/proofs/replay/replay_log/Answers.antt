@@ -9,11 +9,9 @@ use Rattle.propagation.proofs.Replaying.{replay-11, replay-12, replay-stops, rep
 use Rattle.propagation.proofs.replay.replay_log.Goals as goal
 
 pub all_fits-fits-requires : goal.all_fits-fits-requires
-unfolding task_count
 all_fits-fits-requires c = (c.requires.passed.0.tasks, λ i l. fitting _ _ c.requires.passed.0 i l)
 
 pub loop-k-init : goal.loop-k-init
-unfolding task_count
 loop-k-init c =
     (omega arith, refl, replay-opens c.requires.passed c.all_fits-fits.ensures.1 c.all_fits-fits.ensures.0)
 
@@ -30,7 +28,6 @@ pub bounds-log_hours-k : goal.bounds-log_hours-k
 bounds-log_hours-k c = omega (arith, c.loop-k-test.true, c.loop-k.invariant)
 
 pub judge_step-judged-requires : goal.judge_step-judged-requires
-unfolding room_count task_count
 judge_step-judged-requires c =
     let p = c.loop-k.invariant.2.keeps.passed in
     (ready _ _ p, p.hours)
@@ -39,7 +36,7 @@ pub overflow_add-result-in-Unknown : goal.overflow_add-result-in-Unknown
 overflow_add-result-in-Unknown c = omega (arith, c.loop-k-test.true, c.loop-k.invariant.1, c.requires.count_fits)
 
 pub returns-in-Unknown : goal.returns-in-Unknown
-unfolding step_at task_count
+unfolding step_at
 returns-in-Unknown c =
     replay-11 c.loop-k.invariant.2 (below c.loop-k-test.true c.loop-k.invariant.1) c.if-impossible.false
     c.judge_step-judged.ensures c.in-Unknown.is
@@ -48,13 +45,13 @@ pub overflow_add-result-in-NotAdmitted : goal.overflow_add-result-in-NotAdmitted
 overflow_add-result-in-NotAdmitted c = omega (arith, c.loop-k-test.true, c.loop-k.invariant.1, c.requires.count_fits)
 
 pub returns-in-NotAdmitted : goal.returns-in-NotAdmitted
-unfolding step_at task_count
+unfolding step_at
 returns-in-NotAdmitted c =
     replay-12 c.loop-k.invariant.2 (below c.loop-k-test.true c.loop-k.invariant.1) c.if-impossible.false
     c.judge_step-judged.ensures c.in-NotAdmitted.is
 
 pub loop-k-preserved-in-Impossible : goal.loop-k-preserved-in-Impossible
-unfolding step_at task_count
+unfolding step_at
 loop-k-preserved-in-Impossible c = (
   omega (arith, c.loop-k-test.true),
   c.loop-k.invariant.1,
@@ -63,13 +60,13 @@ loop-k-preserved-in-Impossible c = (
 )
 
 pub move_bounds-next-requires : goal.move_bounds-next-requires
-unfolding step_at task_count
+unfolding step_at
 move_bounds-next-requires c =
     replay-may-move c.loop-k.invariant.2 (below c.loop-k-test.true c.loop-k.invariant.1) c.if-impossible.false c.judge_step-judged.ensures
     c.in-Moved.is
 
 pub loop-k-preserved : goal.loop-k-preserved
-unfolding step_at task_count
+unfolding step_at
 loop-k-preserved c = (
   omega (arith, c.loop-k-test.true),
   c.loop-k.invariant.1,

@@ -6,7 +6,6 @@ use Rattle.turns.proofs.Turning.{turn-settles, turn-found, judged-of, never-move
 use Rattle.turns.proofs.turn.next_turn.Goals as goal
 
 pub returns-in_default : goal.returns-in_default
-unfolding room_count task_count
 returns-in_default c =
     let found = c.next_step-found.ensures in
     record {
@@ -15,7 +14,6 @@ returns-in_default c =
     }
 
 pub returns : goal.returns
-unfolding room_count task_count
 returns c =
     let found = c.next_step-found.ensures in
     record {
