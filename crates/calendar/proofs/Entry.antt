@@ -6,12 +6,11 @@ use mathlib.Core.List.{List, [], ◌∷◌}
 use Prim.Native.Nat.{ℕ}
 use native.Mathlib.Omega.{arith}
 use lib.ListN.{length}
-use Rattle.units.specs.Choice.{◌and◌}
 use Rattle.units.specs.Limits.{duration, is_plan_length}
 use Rattle.units.specs.declared.Duration.{Duration}
 use Rattle.units.specs.declared.Bounds.{Bounds}
 use Rattle.units.proofs.Choices.{else-none, else-some, neither}
-use Rattle.plan.specs.Plan.{plan, task_count}
+use Rattle.plan.specs.Plan.{Plan, plan}
 use Rattle.plan.specs.Boxes.{bounds_at, box_cells}
 use Rattle.plan.specs.declared.Fault.{Fault}
 use Rattle.plan.specs.Refusals.{fault, refused, answered, answer_unless}
@@ -29,12 +28,11 @@ module _ (cal : List ℕ) (p : ℕ) (b : Bounds) where
   one_each = refl
 
   -- the test that the code asks for, with H from its constructor
-  pub one-test : (h : Duration) → duration (length cal) ≡ h
-      → input_fault (plan h.0 (0 ∷ []) cal (0 ∷ []) (p ∷ []) (0 ∷ []))
-      (b.earliest.0 ∷ b.latest.0 ∷ b.shortest.0 ∷ b.longest.0 ∷ b.fewest.0 ∷ b.most.0 ∷ [])
+  pub one-test : (h : Duration) → duration (length cal) ≡ h → {P : Plan} → P ≡ plan h.0 (0 ∷ []) cal (0 ∷ []) (p ∷ []) (0 ∷ [])
+      → input_fault P (b.earliest.0 ∷ b.latest.0 ∷ b.shortest.0 ∷ b.longest.0 ∷ b.fewest.0 ∷ b.most.0 ∷ [])
       ≡ input_fault (one_task cal p) (box_cells b)
   unfolding one_task
-  one-test h e = rw (← e)
+  one-test h e q = rw (q, ← e)
 
   pub refused-by : (f : Fault) → input_fault (one_task cal p) (box_cells b) ≡ Some f → calendar_rule cal p b ≡ refused f
   unfolding calendar_rule answer_unless
@@ -57,5 +55,5 @@ module _ (cal : List ℕ) (p : ℕ) (b : Bounds) where
   ready e =
       let faults = neither _ _ e in
       let known = passed (one_task cal p) (box_cells b) one_each faults.1 in
-      let box = (known.task 0 (unfold task_count in (omega arith))).box in
+      let box = (known.task 0 (omega arith)).box in
       record { shortest = box.shortest; latest = box.latest; short = known.hours; symbols = known.symbols }

@@ -1,5 +1,6 @@
 -- The valid triples from one start: they last from one length to another, and their window and its witnesses are known by those two. Assumes
 -- nothing.
+use Rattle.std.specs.Prelude.{Some}
 use Rattle.std.specs.Prelude.{if◌then◌else◌}
 use mathlib.Core.Path.{◌≡◌, refl, sym, ap, ◌∙◌}
 use mathlib.Core.Bool.{Bool, true, false, not}
@@ -26,10 +27,9 @@ use Rattle.stretches.proofs.Stretches.{may-last, lasts-may, last-shorter, no-str
 use Rattle.stretches.proofs.Stretches.{long-inside, long-none, long-holds, end-next}
 use Rattle.stretches.proofs.Stretches.{last-next}
 use Rattle.calendar.specs.declared.Triple.{Triple}
-use Rattle.calendar.specs.declared.Witnessed.TheVariants.{Within}
 use Rattle.calendar.specs.Valid.{overtime_ends}
 use Rattle.calendar.specs.Triples.{triple, elapsed_of, overtime_of, starting}
-use Rattle.calendar.specs.Rule.{witnessed_of}
+use Rattle.calendar.specs.Rule.{witnessed_of, witnessed}
 use Rattle.calendar.specs.Witnesses.{Earlier, starts_earlier, is_shorter}
 use Rattle.calendar.specs.Inner.Ready.{AllSymbols, RuleReady, Reaches}
 use Rattle.calendar.specs.Inner.Windows.{WindowReady, window_from, shortest_from, longest_from, fewest_from, witnesses_from}
@@ -346,7 +346,8 @@ module _ {cal : List ℕ} {p : ℕ} {b : Bounds} {s : ℕ} {shortest longest : S
         go u g q (starts_earlier a) = omega (arith, g.start, h.start)
         go u g q (is_shorter e a) = omega (arith, shortest u g q)
 
-    pub window-is : witnessed_of (starting cal p b s) ≡ Within (window_from p s shortest longest) (witnesses_from p s shortest longest)
+    pub window-is : witnessed_of (starting cal p b s)
+        ≡ Some (witnessed (window_from p s shortest longest) (witnesses_from p s shortest longest))
     window-is =
         witnessed-is _ _ _ (starting-ordered cal p b s) (λ t m. held t (only-starting cal p b s t m))
         (record {

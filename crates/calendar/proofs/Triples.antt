@@ -1,4 +1,5 @@
 -- What the list of valid triples has, and what the calendar rule says of the valid triples of a box. Assumes nothing.
+use Rattle.std.specs.Prelude.{None, Some}
 use mathlib.Core.Path.{◌≡◌, refl, ap, subst}
 use mathlib.Core.Logic.{◌⊎◌, inl, inr}
 use mathlib.Core.Bool.{Bool, true, false}
@@ -13,7 +14,6 @@ use Rattle.units.proofs.Choices.{and_both, and_left, and_right}
 use Rattle.units.proofs.Ranges.{is_within, from-least, to-most}
 use Rattle.calendar.specs.declared.Triple.{Triple}
 use Rattle.calendar.specs.declared.Window.{Window}
-use Rattle.calendar.specs.declared.Fit.TheVariants.{Never, Within}
 use Rattle.calendar.specs.Valid.{valid}
 use Rattle.calendar.specs.Triples.{triple, start_of, elapsed_of, overtime_of, end_of, valid_triple}
 use Rattle.calendar.specs.Triples.{in_bounds, each, over, keep_if, lasting, starting, valid_triples}
@@ -174,19 +174,19 @@ pub record Narrower (a b : Bounds) : Type 0 where
   pub overtimes : a.fewest.0 ≤ a.most.0
   pub most : a.most.0 ≤ b.most.0
 
-fit-never : (ts : List Triple) (t : Triple) → fit_of ts ≡ Never → Memᴰ t ts → ⊥
+fit-never : (ts : List Triple) (t : Triple) → fit_of ts ≡ None → Memᴰ t ts → ⊥
 unfolding fit_of
 fit-never [] t e m = Memᴰ.not-nil m
 fit-never (x ∷ xs) t e m = let z : ◌≡◌ {A = ℕ} 0 1 = cc in omega arith
 
-never-fit : (ts : List Triple) → ((t : Triple) → Memᴰ t ts → ⊥) → fit_of ts ≡ Never
+never-fit : (ts : List Triple) → ((t : Triple) → Memᴰ t ts → ⊥) → fit_of ts ≡ None
 unfolding fit_of
 never-fit [] h = refl
 never-fit (x ∷ xs) h = absurd (h x (Memᴰ.head refl))
 
 -- a fact of each window that a list has, from the fact of that of x ∷ xs
 fit_all : (C : List Triple → Window → Type 0) → ((x : Triple) (xs : List Triple) → C (x ∷ xs) (spread (alone x) xs)) → (ts : List Triple) (w : Window)
-    → fit_of ts ≡ Within w → C ts w
+    → fit_of ts ≡ Some w → C ts w
 unfolding fit_of
 fit_all C h [] w e = absurd (let z : ◌≡◌ {A = ℕ} 0 1 = cc in omega arith)
 fit_all C h (x ∷ xs) w e = let q : spread (alone x) xs ≡ w = cc in subst (λ (v : Window). C (x ∷ xs) v) q (h x xs)
@@ -239,11 +239,11 @@ spread-narrower b x xs h =
     }
 
 -- a window that bounds every triple of a list, with each number some triple's, is the list's
-pub fit_is : (ts : List Triple) (w : Window) → ((t : Triple) → Memᴰ t ts → Held w t) → Tight ts w → fit_of ts ≡ Within w
+pub fit_is : (ts : List Triple) (w : Window) → ((t : Triple) → Memᴰ t ts → Held w t) → Tight ts w → fit_of ts ≡ Some w
 unfolding fit_of spread
 fit_is [] w h a = absurd (Memᴰ.not-nil a.ect.member)
 fit_is (x ∷ xs) w h a =
-    ap Within (λ i. record {
+    ap Some (λ i. record {
       bounds = record {
         earliest = hour (least-is start_of x xs _ (λ t m. (h t m).inside.earliest) a.earliest i);
         latest = hour (greatest-is start_of x xs _ (λ t m. (h t m).inside.latest) a.latest i);
@@ -259,35 +259,35 @@ fit_is (x ∷ xs) w h a =
 -- ---- the calendar rule
 
 module _ (cal : List ℕ) (p : ℕ) (b : Bounds) where
-  -- it answers `Never` exactly when no triple in the box is valid
-  pub never-valid : rule_of cal p b ≡ Never → (t : Triple) → InBounds b t → valid_triple cal p t ≡ true → ⊥
+  -- it answers `None` exactly when no triple in the box is valid
+  pub never-valid : rule_of cal p b ≡ None → (t : Triple) → InBounds b t → valid_triple cal p t ≡ true → ⊥
   unfolding rule_of
   never-valid e t h v = fit-never (valid_triples cal p b) t e (has-valid cal p b t h v)
 
-  pub valid-never : ((t : Triple) → InBounds b t → valid_triple cal p t ≡ true → ⊥) → rule_of cal p b ≡ Never
+  pub valid-never : ((t : Triple) → InBounds b t → valid_triple cal p t ≡ true → ⊥) → rule_of cal p b ≡ None
   unfolding rule_of
   valid-never h = never-fit (valid_triples cal p b) (λ t m. let (i, v) = only-valid cal p b t m in h t i v)
 
   module _ (w : Window) where
     -- its window bounds every valid triple of the box
-    pub rule-held : rule_of cal p b ≡ Within w → (t : Triple) → InBounds b t → valid_triple cal p t ≡ true → Held w t
+    pub rule-held : rule_of cal p b ≡ Some w → (t : Triple) → InBounds b t → valid_triple cal p t ≡ true → Held w t
     unfolding rule_of
     rule-held e t h v =
         fit_all (λ ts v. (u : Triple) → Memᴰ u ts → Held v u) spread-held (valid_triples cal p b) w e t (has-valid cal p b t h v)
 
     -- has each number from one of them
-    pub rule-tight : rule_of cal p b ≡ Within w → Tight (valid_triples cal p b) w
+    pub rule-tight : rule_of cal p b ≡ Some w → Tight (valid_triples cal p b) w
     unfolding rule_of
     rule-tight e = fit_all Tight spread-tight (valid_triples cal p b) w e
 
     -- and lies inside the box
-    pub rule-narrower : rule_of cal p b ≡ Within w → Narrower w.bounds b
+    pub rule-narrower : rule_of cal p b ≡ Some w → Narrower w.bounds b
     unfolding rule_of
     rule-narrower e =
         fit_all (λ ts v. ((t : Triple) → Memᴰ t ts → InBounds b t) → Narrower v.bounds b) (spread-narrower b)
         (valid_triples cal p b) w e (λ t m. (only-valid cal p b t m).0)
 
     -- the only such window
-    pub rule-is : ((t : Triple) → InBounds b t → valid_triple cal p t ≡ true → Held w t) → Tight (valid_triples cal p b) w → rule_of cal p b ≡ Within w
+    pub rule-is : ((t : Triple) → InBounds b t → valid_triple cal p t ≡ true → Held w t) → Tight (valid_triples cal p b) w → rule_of cal p b ≡ Some w
     unfolding rule_of
     rule-is h a = fit_is (valid_triples cal p b) w (λ t m. let (i, v) = only-valid cal p b t m in h t i v) a

@@ -5,9 +5,8 @@ use mathlib.Core.Logic.{◌≢◌}
 use mathlib.Core.List.{List}
 use Prim.Native.Nat.{ℕ, ◌+◌, ◌-◌, ◌≤◌, ◌<◌}
 use lib.ListN.{length}
-use lib.Dec.{leb}
+use lib.Dec.{eqb, leb}
 use borrow.Author.Tests.{lt-leb, le-leb, ne_eqb, eq-eqb, leb-true, eqb-true, not-true}
-use Rattle.units.specs.Choice.{◌and◌}
 use Rattle.units.proofs.Choices.{and_both, and_left, and_right, not_left, not_right}
 use Rattle.plan.specs.HourKinds.{is_kind, regular, closed, overtime, hours_of}
 use Rattle.calendar.specs.Valid.{overtime_ends, valid}
@@ -27,15 +26,24 @@ module _ (cal : List ℕ) (p s e o : ℕ) where
 
   pub closed-last : is_kind closed cal (s + e - 1) ≡ true → valid cal p s e o ≡ false
   unfolding valid
-  closed-last h = not_right _ _ (not_right _ _ (not_right _ _ (not_left _ _ (ap not h))))
+  closed-last h =
+      not_right (leb 1 e) _ (not_right (leb (s + e) (length cal)) _ (not_right (not (is_kind closed cal s)) _ (not_left _ _ (ap not h))))
 
   pub other-overtime : o + hours_of regular cal s e ≢ p → valid cal p s e o ≡ false
   unfolding valid
-  other-overtime h = not_right _ _ (not_right _ _ (not_right _ _ (not_right _ _ (not_left _ _ (ne_eqb _ _ h)))))
+  other-overtime h =
+      not_right (leb 1 e) _
+      (not_right (leb (s + e) (length cal)) _
+      (not_right (not (is_kind closed cal s)) _ (not_right (not (is_kind closed cal (s + e - 1))) _ (not_left _ _ (ne_eqb _ _ h)))))
 
   pub few-overtime : hours_of overtime cal s e < o → valid cal p s e o ≡ false
   unfolding valid
-  few-overtime h = not_right _ _ (not_right _ _ (not_right _ _ (not_right _ _ (not_right _ _ (not_left _ _ (lt-leb _ _ h))))))
+  few-overtime h =
+      not_right (leb 1 e) _
+      (not_right (leb (s + e) (length cal)) _
+      (not_right (not (is_kind closed cal s)) _
+      (not_right (not (is_kind closed cal (s + e - 1))) _
+      (not_right (eqb (o + hours_of regular cal s e) p) _ (not_left _ _ (lt-leb _ _ h))))))
 
   -- a triple that passes the other tests is valid by the last
   pub by-ends : 1 ≤ e → s + e ≤ length cal → is_kind closed cal s ≡ false → is_kind closed cal (s + e - 1) ≡ false

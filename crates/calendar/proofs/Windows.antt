@@ -1,17 +1,18 @@
 -- Laws of an answer to which further triples are added. Assumes nothing.
+use Rattle.std.proofs.lemmas.Option.{same_Some}
+use Rattle.std.specs.Prelude.{Option, None, Some}
 use mathlib.Core.Path.{◌≡◌, refl, sym, ap, ◌∙◌}
 use mathlib.Core.List.{List, [], ◌∷◌, ◌++◌}
 use Prim.Native.Nat.{ℕ, suc, ◌+◌, ◌-◌, ◌≤◌, ◌<◌}
 use native.Mathlib.Omega.{arith}
 use Rattle.units.specs.Limits.{hour, duration}
 use Rattle.calendar.specs.Triples.{start_of, elapsed_of, overtime_of, end_of, each, over}
-use Rattle.calendar.specs.Rule.{alone, spread, fit_of, every, firsts, witnessed_of, without_witnesses}
+use Rattle.calendar.specs.Rule.{alone, spread, fit_of, every, firsts, witnessed_of, without_witnesses, witnessed}
 use Rattle.calendar.specs.Inner.Windows.{wider, first_of_both, with_window, with_triples}
 use Rattle.calendar.specs.declared.Triple.{Triple}
 use Rattle.calendar.specs.declared.Window.{Window}
 use Rattle.calendar.specs.declared.Witnesses.{Witnesses}
 use Rattle.calendar.specs.declared.Witnessed.{Witnessed}
-use Rattle.calendar.specs.declared.Witnessed.TheVariants.{Never, Within}
 use Rattle.units.proofs.Extremes.{least-append, greatest-append, least-join, greatest-join}
 use Rattle.units.proofs.FirstBest.{less-ranks, more-ranks, best-append, best-join}
 use Rattle.units.specs.Extremes.{least, greatest, less, more, first_best}
@@ -24,16 +25,16 @@ spread-append : (w : Window) (ts us : List Triple) → spread w (ts ++ us) ≡ s
 unfolding spread
 spread-append w ts us = simp (least-append, greatest-append)
 
-pub with-both : (found : Witnessed) (ts us : List Triple) → with_triples found (ts ++ us) ≡ with_triples (with_triples found ts) us
+pub with-both : (found : Option Witnessed) (ts us : List Triple) → with_triples found (ts ++ us) ≡ with_triples (with_triples found ts) us
 unfolding with_triples witnessed_of
-with-both Never [] us = refl
-with-both Never (t ∷ ts) us = λ i. Within (spread-append (alone t) ts us i) (firsts-append (every t) ts us i)
-with-both (Within w by) ts us = λ i. Within (spread-append w ts us i) (firsts-append by ts us i)
+with-both None [] us = refl
+with-both None (t ∷ ts) us = λ i. Some (witnessed (spread-append (alone t) ts us i) (firsts-append (every t) ts us i))
+with-both (Some found) ts us = λ i. Some (witnessed (spread-append found.window ts us i) (firsts-append found.by ts us i))
 
-pub with_none : (found : Witnessed) → with_triples found [] ≡ found
+pub with_none : (found : Option Witnessed) → with_triples found [] ≡ found
 unfolding with_triples witnessed_of spread firsts least greatest first_best
-with_none Never = refl
-with_none (Within w by) = refl
+with_none None = refl
+with_none (Some found) = refl
 
 -- ---- over a range
 
@@ -51,11 +52,11 @@ module _ (lower upper : ℕ) (f : ℕ → List Triple) where
       rw e
 
 -- the answer with the first part of a range, and then with the rest
-pub with-step : (found : Witnessed) (lower upper : ℕ) (f : ℕ → List Triple) → lower ≤ upper
+pub with-step : (found : Option Witnessed) (lower upper : ℕ) (f : ℕ → List Triple) → lower ≤ upper
     → with_triples found (over lower upper f) ≡ with_triples (with_triples found (f lower)) (over (lower + 1) upper f)
 with-step found lower upper f h = rw (over-step lower upper f h) (with-both found (f lower) (over (lower + 1) upper f))
 
-pub unmoved : (found : Witnessed) {ts : List Triple} → ts ≡ [] → found ≡ with_triples found ts
+pub unmoved : (found : Option Witnessed) {ts : List Triple} → ts ≡ [] → found ≡ with_triples found ts
 unmoved found h = rw h (sym (with_none found))
 
 -- ---- with the triples of a list whose window is known
@@ -89,15 +90,18 @@ firsts-join by t ts =
       most = best-join more overtime_of more-ranks by.most t ts i;
     }
 
-pub with-window-of : (found : Witnessed) (ts : List Triple) (v : Window) (later : Witnesses) → witnessed_of ts ≡ Within v later
+pub with-window-of : (found : Option Witnessed) (ts : List Triple) (v : Window) (later : Witnesses) → witnessed_of ts ≡ Some (witnessed v later)
     → with_triples found ts ≡ with_window found v later
 unfolding with_triples witnessed_of
-with-window-of Never ts v later e = e
-with-window-of (Within w by) [] v later e = absurd (let z : ◌≡◌ {A = ℕ} 0 1 = cc in omega arith)
-with-window-of (Within w by) (t ∷ ts) v later e =
-    let q : spread (alone t) ts ≡ v = cc in
-    let r : firsts (every t) ts ≡ later = cc in
-    λ i. Within ((spread-wider w t ts ∙ ap (wider w) q) i) ((firsts-join by t ts ∙ ap (first_of_both by) r) i)
+with-window-of None ts v later e = e
+with-window-of (Some found) [] v later e = absurd (let z : ◌≡◌ {A = ℕ} 0 1 = cc in omega arith)
+with-window-of (Some found) (t ∷ ts) v later e =
+    let same = same_Some _ _ e in
+    let q = ap (λ (f : Witnessed). f.window) same in
+    let r = ap (λ (f : Witnessed). f.by) same in
+    λ i. Some (witnessed
+    ((spread-wider found.window t ts ∙ ap (wider found.window) q) i)
+    ((firsts-join found.by t ts ∙ ap (first_of_both found.by) r) i))
 
 -- ---- without its witnesses
 

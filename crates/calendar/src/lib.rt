@@ -8,13 +8,14 @@ ghost use Rattle.units.specs.Limits.{most_hours};
 ghost use Rattle.calendar.specs.Valid.{overtime_ends};
 ghost use Rattle.calendar.specs.Triples.{valid_triple, starting};
 ghost use Rattle.calendar.specs.Rule.{witnessed_rule, without_witnesses};
-ghost use Rattle.calendar.specs.Entry.{calendar_rule, rule_answer};
+ghost use Rattle.plan.specs.Refusals.{answer_of};
+ghost use Rattle.calendar.specs.Entry.{calendar_rule};
 ghost use Rattle.calendar.specs.Inner.Ready.{HasCounts, RuleReady, Reaches};
 ghost use Rattle.calendar.specs.Inner.Windows.{with_triples};
 
-use plan::{CLOSED, OVERTIME, Refusal, Tested, is_kind};
+use plan::{HourKind, Plan, Refusal, is_kind};
 use stretches::{Counts, Stretch, count_hours, one_if, reach};
-use units::{Bounds, Duration, Hour, MaybeDuration};
+use units::{Bounds, Duration, Hour};
 
 // 01's (s, e, o): when a task starts, how long it lasts, and its overtime.
 #[derive(Clone, Copy)]
@@ -37,13 +38,6 @@ pub struct Window {
     pub lct: Hour,
 }
 
-// Whether a task has a valid triple, and the bounds of the valid ones.
-#[derive(Clone, Copy)]
-pub enum Fit {
-    Never,
-    Within(Window),
-}
-
 // For each bound a valid triple that attains it: of several the earliest start, then the shortest elapsed time.
 #[derive(Clone, Copy)]
 pub struct Witnesses {
@@ -55,19 +49,11 @@ pub struct Witnesses {
     pub most: Triple,
 }
 
-// What the calendar rule answers for input that is tested: no valid triple, or the bounds of the valid ones and their witnesses.
+// The bounds of a task's valid triples with their witnesses. A task with no valid triple has none.
 #[derive(Clone, Copy)]
-pub enum Witnessed {
-    Never,
-    Within(Window, Witnesses),
-}
-
-// What the calendar rule answers.
-#[derive(Clone, Copy)]
-pub enum RuleAnswer {
-    Never,
-    Within(Window, Witnesses),
-    Refused(Refusal),
+pub struct Witnessed {
+    pub window: Window,
+    pub by: Witnesses,
 }
 
 // How many of the first and the last of the e hours from s on are overtime hours; where they are one hour, it counts once.
@@ -76,11 +62,11 @@ fn overtime_ends(calendar: &[u8], s: usize, e: u16) -> u16
     requires { (1 ≤ e) × (s + e ≤ length calendar.now) }
     ensures { result ≡ overtime_ends calendar.now s e }
 {
-    let first = one_if(calendar, s, OVERTIME);
+    let first = one_if(calendar, s, HourKind::Overtime);
     if e == 1 {
         return first;
     }
-    first + one_if(calendar, s + (e as usize) - 1, OVERTIME)
+    first + one_if(calendar, s + (e as usize) - 1, HourKind::Overtime)
 }
 
 // Whether a triple within the calendar is valid, from the counts of its hours.
@@ -91,10 +77,10 @@ fn is_valid_by(calendar: &[u8], work_time: Duration, t: Triple, n: Counts) -> bo
     let s = t.start.0 as usize;
     let e = t.elapsed.0;
     let o = t.overtime.0;
-    if is_kind(calendar, s, CLOSED) {
+    if is_kind(calendar, s, HourKind::Closed) {
         return false;
     }
-    if is_kind(calendar, s + (e as usize) - 1, CLOSED) {
+    if is_kind(calendar, s + (e as usize) - 1, HourKind::Closed) {
         return false;
     }
     if work_time.0 < o {
@@ -135,12 +121,12 @@ fn with_start(
     s: Hour,
     shortest: Stretch,
     longest: Stretch,
-    found: Witnessed,
-) -> Witnessed
+    found: Option<Witnessed>,
+) -> Option<Witnessed>
     requires { Reaches calendar.now work_time.0 b s.0 shortest longest }
     ensures { result ≡ with_triples found (starting calendar.now work_time.0 b s.0) }
 {
-    if is_kind(calendar, s.0 as usize, CLOSED) {
+    if is_kind(calendar, s.0 as usize, HourKind::Closed) {
         return found;
     }
     if longest.last.0 < shortest.hours.0 {
@@ -150,53 +136,47 @@ fn with_start(
         return found;
     }
     let window = widen::window_from(work_time, s, shortest, longest);
-    let witnesses = widen::witnesses_from(work_time, s, shortest, longest);
-    widen::with_window(found, window, witnesses)
+    let by = widen::witnesses_from(work_time, s, shortest, longest);
+    widen::with_window(found, window, by)
 }
 
 // The calendar rule for input that is tested. A later start ends no earlier, so both stretches only go forward.
-pub fn rule(calendar: &[u8], work_time: Duration, b: Bounds) -> Witnessed
+pub fn rule(calendar: &[u8], work_time: Duration, b: Bounds) -> Option<Witnessed>
     requires { RuleReady calendar.now b }
     ensures { result ≡ witnessed_rule calendar.now work_time.0 b }
 {
-    let last = b.latest.0;
-    let mut s = b.earliest.0;
     let mut shortest = reach::no_hours();
     let mut longest = reach::no_hours();
-    let mut best = Witnessed::Never;
-    while s <= last {
+    let mut best = None;
+    for s in b.earliest.0..b.latest.0 + 1 {
         let start = Hour(s);
         shortest = reach::lengthen(calendar, work_time, b, start, shortest, true);
         longest = reach::lengthen(calendar, work_time, b, start, longest, false);
         best = with_start(calendar, work_time, b, start, shortest, longest, best);
         shortest = reach::without_first(calendar, start, shortest);
         longest = reach::without_first(calendar, start, longest);
-        s += 1;
     }
     best
 }
 
 // The answer without its witnesses.
-pub fn without_witnesses(found: Witnessed) -> Fit
+pub fn without_witnesses(found: Option<Witnessed>) -> Option<Window>
     ensures { result ≡ without_witnesses found }
 {
-    let Witnessed::Within(w, by) = found else {
-        return Fit::Never;
-    };
-    Fit::Within(w)
+    found.map(|f| f.window)
 }
 
 // The calendar rule. Its input is tested as a plan of one calendar and one task, with H the calendar's length.
-pub fn calendar_rule(calendar: &[u8], work_time: Duration, b: Bounds) -> RuleAnswer
-    ensures { rule_answer result ≡ calendar_rule calendar.now work_time.0 b }
+pub fn calendar_rule(
+    calendar: &[u8],
+    work_time: Duration,
+    b: Bounds,
+) -> Result<Option<Witnessed>, Refusal>
+    ensures { answer_of result ≡ calendar_rule calendar.now work_time.0 b }
 {
-    let MaybeDuration::Within(hours) = Duration::of_plan(calendar.len()) else {
-        return RuleAnswer::Refused(Refusal::Hours);
-    };
-    let capacity = [0u16];
-    let number = [0u16];
+    let hours = Duration::of_plan(calendar.len()).ok_or(Refusal::Hours)?;
     let work = [work_time.0];
-    let height = [0u16];
+    let plan = Plan::new(hours.0, &[0], calendar, &[0], &work, &[0]);
     let cells = [
         b.earliest.0,
         b.latest.0,
@@ -205,15 +185,6 @@ pub fn calendar_rule(calendar: &[u8], work_time: Duration, b: Bounds) -> RuleAns
         b.fewest.0,
         b.most.0,
     ];
-    let tested = input::test_input(
-        hours.0, &capacity, calendar, &number, &work, &height, &cells,
-    );
-    if let Tested::Refused(r) = tested {
-        return RuleAnswer::Refused(r);
-    }
-    let found = rule(calendar, work_time, b);
-    let Witnessed::Within(w, by) = found else {
-        return RuleAnswer::Never;
-    };
-    RuleAnswer::Within(w, by)
+    input::test_input(&plan, &cells)?;
+    Ok(rule(calendar, work_time, b))
 }

@@ -6,18 +6,6 @@ use crate::{Triple, Window, Witnessed, Witnesses};
 use stretches::Stretch;
 use units::{Bounds, Duration, Hour};
 
-fn lesser(a: u16, b: u16) -> u16
-    ensures { result ≡ min a b }
-{
-    if a <= b { a } else { b }
-}
-
-fn greater(a: u16, b: u16) -> u16
-    ensures { result ≡ max a b }
-{
-    if a <= b { b } else { a }
-}
-
 // The window of the triples that start at s and last from the shorter stretch to the last open hour of the longer: the overtime falls with the
 // length.
 pub fn window_from(work_time: Duration, s: Hour, shortest: Stretch, longest: Stretch) -> Window
@@ -69,7 +57,7 @@ pub fn witnesses_from(
         },
         fewest: Triple {
             start: s,
-            elapsed: Duration(greater(least.0, longest.regular.0)),
+            elapsed: least.max(longest.regular),
             overtime: fewest,
         },
         most: first,
@@ -84,15 +72,15 @@ fn wider(w: Window, v: Window) -> Window
     let b = v.bounds;
     Window {
         bounds: Bounds {
-            earliest: Hour(lesser(a.earliest.0, b.earliest.0)),
-            latest: Hour(greater(a.latest.0, b.latest.0)),
-            shortest: Duration(lesser(a.shortest.0, b.shortest.0)),
-            longest: Duration(greater(a.longest.0, b.longest.0)),
-            fewest: Duration(lesser(a.fewest.0, b.fewest.0)),
-            most: Duration(greater(a.most.0, b.most.0)),
+            earliest: a.earliest.min(b.earliest),
+            latest: a.latest.max(b.latest),
+            shortest: a.shortest.min(b.shortest),
+            longest: a.longest.max(b.longest),
+            fewest: a.fewest.min(b.fewest),
+            most: a.most.max(b.most),
         },
-        ect: Hour(lesser(w.ect.0, v.ect.0)),
-        lct: Hour(greater(w.lct.0, v.lct.0)),
+        ect: w.ect.min(v.ect),
+        lct: w.lct.max(v.lct),
     }
 }
 
@@ -108,37 +96,31 @@ fn first_of(a: Witnesses, b: Witnesses) -> Witnesses
     ensures { result ≡ first_of_both a b }
 {
     Witnesses {
-        earliest: either(
-            a.earliest,
-            b.earliest,
-            b.earliest.start.0 < a.earliest.start.0,
-        ),
-        latest: either(a.latest, b.latest, a.latest.start.0 < b.latest.start.0),
+        earliest: either(a.earliest, b.earliest, b.earliest.start < a.earliest.start),
+        latest: either(a.latest, b.latest, a.latest.start < b.latest.start),
         shortest: either(
             a.shortest,
             b.shortest,
-            b.shortest.elapsed.0 < a.shortest.elapsed.0,
+            b.shortest.elapsed < a.shortest.elapsed,
         ),
-        longest: either(
-            a.longest,
-            b.longest,
-            a.longest.elapsed.0 < b.longest.elapsed.0,
-        ),
-        fewest: either(
-            a.fewest,
-            b.fewest,
-            b.fewest.overtime.0 < a.fewest.overtime.0,
-        ),
-        most: either(a.most, b.most, a.most.overtime.0 < b.most.overtime.0),
+        longest: either(a.longest, b.longest, a.longest.elapsed < b.longest.elapsed),
+        fewest: either(a.fewest, b.fewest, b.fewest.overtime < a.fewest.overtime),
+        most: either(a.most, b.most, a.most.overtime < b.most.overtime),
     }
 }
 
 // The answer with one window's triples more, all after those before.
-pub fn with_window(found: Witnessed, v: Window, later: Witnesses) -> Witnessed
+pub fn with_window(found: Option<Witnessed>, v: Window, later: Witnesses) -> Option<Witnessed>
     ensures { result ≡ with_window found v later }
 {
-    let Witnessed::Within(w, by) = found else {
-        return Witnessed::Within(v, later);
+    let Some(before) = found else {
+        return Some(Witnessed {
+            window: v,
+            by: later,
+        });
     };
-    Witnessed::Within(wider(w, v), first_of(by, later))
+    Some(Witnessed {
+        window: wider(before.window, v),
+        by: first_of(before.by, later),
+    })
 }

@@ -12,7 +12,7 @@ use Rattle.units.specs.Choice.{◌or_else◌, some_if}
 use Rattle.plan.specs.declared.Refusal.{Refusal}
 use Rattle.units.proofs.Choices.{some-if, none-if, if_none, else-none, else-some}
 use Rattle.plan.specs.declared.Fault.{Fault}
-use Rattle.plan.specs.Refusals.{fault, fault_of, tested_fault, unless, refused, answered}
+use Rattle.plan.specs.Refusals.{fault, fault_of, tested_fault, answer_of, unless, refused, answered}
 
 module _ (test : Bool) (number place : ℕ) where
   pub unless-true : test ≡ true → unless test number place ≡ None
@@ -43,6 +43,10 @@ refused≢answered e = absurd (let z : ◌≡◌ {A = ℕ} 0 1 = cc in omega ari
 -- the refusal that is handed on is the callee's
 pub handed-on : {A : Type 0} (d : Refusal) (r : Result A Refusal) → IsErrAnd r (λ e. e ≡ d) → tested_fault r ≡ Some (fault_of d)
 handed-on d r h = let p = err_from_is_err_and r h in rw (p.1, p.2) refl
+
+-- and of an entry point's answer
+pub refused-on : {A : Type 0} (d : Refusal) (r : Result A Refusal) → IsErrAnd r (λ e. e ≡ d) → answer_of r ≡ refused (fault_of d)
+refused-on d r h = let p = err_from_is_err_and r h in rw (p.1, p.2) refl
 
 module _ {A : Type 0} (test : Bool) (x : A) {o : Option A} (e : Refusal) (made : o ≡ some_if test x) where
   -- there is none: the test fails, and the refusal is the one that it names

@@ -52,6 +52,11 @@ fault_of Rooms = fault 17 0
 fault_of MemorySize = fault 31 0
 fault_of OutputSize = fault 33 0
 
+-- what an entry point answers, where its values need no other words
+abbrev pub answer_of : {A : Type 0} → Result A Refusal → Answer A
+answer_of (Ok a) = answered a
+answer_of (Err r) = refused (fault_of r)
+
 -- what the plan's tests answer
 abbrev pub tested_fault : {A : Type 0} → Result A Refusal → Option Fault
 tested_fault (Ok _) = None

@@ -9,7 +9,6 @@ use native.Mathlib.Omega.{arith}
 use lib.ListN.{length}
 use lib.Dec.{leb}
 use borrow.Author.Tests.{le-leb, lt-leb, leb-true, eqb-true, eq-eqb}
-use Rattle.units.specs.Choice.{◌and◌}
 use Rattle.units.specs.Limits.{most_hours, duration}
 use Rattle.units.specs.Sums.{one_if, count_where, sum_to}
 use Rattle.units.specs.declared.Bounds.{Bounds}

@@ -4,7 +4,7 @@ ghost use Rattle.units.specs.Limits.{most_hours, duration};
 ghost use Rattle.stretches.specs.Inner.Stretches.{HasHour, IsStretch, HasRoom, without_hour, no_hours, stretch_of, may_end, may_last, stops_at, lengthened};
 
 use crate::{Counts, Stretch, one_if, with_hour};
-use plan::{CLOSED, OVERTIME, REGULAR, is_kind};
+use plan::{HourKind, is_kind};
 use units::{Bounds, Duration, Hour};
 
 // One hour less, where there is one.
@@ -20,8 +20,8 @@ fn without_hour(n: Counts, calendar: &[u8], t: usize) -> Counts
     ensures { result ≡ without_hour n calendar.now t }
 {
     Counts {
-        regular: n.regular - one_if(calendar, t, REGULAR),
-        overtime: n.overtime - one_if(calendar, t, OVERTIME),
+        regular: n.regular - one_if(calendar, t, HourKind::Regular),
+        overtime: n.overtime - one_if(calendar, t, HourKind::Overtime),
     }
 }
 
@@ -54,8 +54,8 @@ fn longer(calendar: &[u8], s: Hour, a: Stretch) -> Stretch
     ensures { result ≡ stretch_of calendar.now s.0 (a.hours.0 + 1) }
 {
     let next = (s.0 as usize) + (a.hours.0 as usize);
-    let is_open = !is_kind(calendar, next, CLOSED);
-    let is_regular = is_kind(calendar, next, REGULAR);
+    let is_open = !is_kind(calendar, next, HourKind::Closed);
+    let is_regular = is_kind(calendar, next, HourKind::Regular);
     Stretch {
         hours: Duration(a.hours.0 + 1),
         last: up_to_last(a.last, a.hours, is_open),
@@ -112,7 +112,8 @@ fn may_last(calendar: &[u8], work_time: Duration, b: Bounds, s: Hour, a: Stretch
     if b.longest.0 <= a.hours.0 {
         return false;
     }
-    let worked = a.counts.regular + one_if(calendar, first + (a.hours.0 as usize), REGULAR);
+    let worked = a.counts.regular
+        + one_if(calendar, first + (a.hours.0 as usize), HourKind::Regular);
     if p < worked {
         return false;
     }
@@ -123,7 +124,7 @@ fn may_last(calendar: &[u8], work_time: Duration, b: Bounds, s: Hour, a: Stretch
     if a.hours.0 < 1 {
         return 1 <= p;
     }
-    a.counts.regular - one_if(calendar, first, REGULAR) + 2 <= p
+    a.counts.regular - one_if(calendar, first, HourKind::Regular) + 2 <= p
 }
 
 // Whether to lengthen the stretch no more: for the shortest, since a task may end with it; for the longest, since no task may last longer.

@@ -1,11 +1,30 @@
 -- Laws of hours that are compared: what the code's test tells of their numbers. Assumes nothing.
+use Rattle.std.proofs.Common.{rules}
+use Rattle.std.specs.Ordering.{is_le, is_lt, nat_cmp}
+use native.Mathlib.Decide.{dec_le}
 use mathlib.Core.Path.{◌≡◌, sym, ap, ◌∙◌}
 use mathlib.Core.Bool.{Bool, true, false}
 use Prim.Native.Nat.{ℕ, ◌≤◌, ◌<◌}
-use lib.Dec.{ltb}
+use lib.Dec.{leb, ltb}
 use borrow.Author.Tests.{ltb-true, ltb-false}
 use Rattle.units.specs.Limits.{hour}
 use Rattle.units.specs.declared.Hour.{Hour}
+
+-- what the order of hours, and of durations and heights, says of their numbers
+module _ (l u : ℕ) where
+  pub le-cmp : is_le (nat_cmp l u) ≡ leb l u
+  le-cmp = go (dec_le l u)
+    where
+      go : Dec (l ≤ u) → is_le (nat_cmp l u) ≡ leb l u
+      go (yes h) = search rules
+      go (no h) = search rules
+
+  pub lt-cmp : is_lt (nat_cmp l u) ≡ ltb l u
+  lt-cmp = go (dec_le u l)
+    where
+      go : Dec (u ≤ l) → is_lt (nat_cmp l u) ≡ ltb l u
+      go (yes h) = search rules
+      go (no h) = search rules
 
 module _ (s t : ℕ) {r : Bool} (is : r ≡ ltb s t) where
   pub before : r ≡ true → s < t

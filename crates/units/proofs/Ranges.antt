@@ -1,13 +1,11 @@
 -- Laws of ranges and boxes. Assumes nothing.
-use Rattle.std.proofs.Common.{rules}
 use mathlib.Core.Path.{◌≡◌, refl, sym, ap₂, ◌∙◌}
 use mathlib.Core.Bool.{Bool, true, false}
 use Rattle.std.specs.Prelude.{Option}
 use Prim.Native.Nat.{ℕ, ◌≤◌, ◌<◌}
 use native.Mathlib.Omega.{arith}
 use lib.Dec.{leb}
-use Rattle.std.specs.Ordering.{is_le, nat_cmp}
-use native.Mathlib.Decide.{dec_le}
+use Rattle.std.specs.Ordering.{is_le}
 use Rattle.std.specs.declared.cmp.Ordering.{Ordering}
 use borrow.Author.Tests.{le-leb, lt-leb, lt-ltb, leb-true, ltb-true}
 use Rattle.units.specs.Choice.{◌and◌, some_if}
@@ -60,14 +58,6 @@ module _ (kind : ℕ → Bool) (lower upper : ℕ) where
   in_order_lem e = leb-true _ _ (and_right _ _ (and_right _ _ e))
 
 -- ---- two bounds as their constructor made them: they are in order exactly when they make a range of their kind
-
--- what the order of hours, and of durations, says of their numbers
-pub le-cmp : (l u : ℕ) → is_le (nat_cmp l u) ≡ leb l u
-le-cmp l u = go (dec_le l u)
-  where
-    go : Dec (l ≤ u) → is_le (nat_cmp l u) ≡ leb l u
-    go (yes h) = search rules
-    go (no h) = search rules
 
 module _ {A : Type 0} (kind : ℕ → Bool) (cmp : A → A → Ordering) (make : ℕ → A) (l u : ℕ) where
   pub made_range : is_le (cmp (make l) (make u)) ≡ leb l u → in_order cmp (some_if (kind l) (make l)) (some_if (kind u) (make u)) ≡ is_range kind l u

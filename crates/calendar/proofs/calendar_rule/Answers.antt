@@ -1,33 +1,28 @@
 use mathlib.Core.Path.{sym, ap, ◌∙◌}
-use Rattle.units.proofs.Choices.{if_none, if_some}
-use Rattle.plan.specs.Refusals.{answered, tested_fault}
+use Rattle.plan.specs.Refusals.{fault_of, refused, answered}
+use Rattle.plan.proofs.Refusals.{none-there, one-there, refused-on}
 use Rattle.calendar.proofs.Entry.{one-test, refused-by, answered-by, no_length, ready}
 use Rattle.calendar.proofs.calendar_rule.Goals as goal
 
-pub returns-in_default : goal.returns-in_default
-returns-in_default c = sym (no_length _ _ _ (if_none _ _ (sym c.in_default.ensures)))
+pub returns-in_err-hours : goal.returns-in_err-hours
+returns-in_err-hours c =
+    let none = none-there _ _ _ c.of_plan.ensures c.in_err-hours.ensures.value in
+    refused-on _ _ c.from_residual.ensures.1 ∙ ap (λ r. refused (fault_of r)) none.1 ∙ sym (no_length _ _ _ none.0)
 
 -- the tests are those of a plan of one task, of as many hours as the calendar has
-pub returns-in-Refused : goal.returns-in-Refused
-returns-in-Refused c =
-    let hours = if_some _ _ _ (sym c.in-Within.ensures) in
-    let test = c.test_input-tested.ensures ∙ one-test _ _ _ _ hours.1 in
-    sym (refused-by _ _ _ _ (sym test ∙ ap tested_fault c.in-Refused.is))
+pub returns-in_err-test_input : goal.returns-in_err-test_input
+returns-in_err-test_input c =
+    let hours = one-there _ _ _ c.of_plan.ensures c.in_ok-hours.ensures.value in
+    refused-on _ _ c.from_residual-in_err-test_input.ensures.1
+    ∙ sym (refused-by _ _ _ _ (sym (c.in_err-test_input.ensures ∙ one-test _ _ _ _ hours.1 c.new-plan.ensures)))
 
-pub rule-found-requires : goal.rule-found-requires
-rule-found-requires c =
-    let hours = if_some _ _ _ (sym c.in-Within.ensures) in
-    let test = c.test_input-tested.ensures ∙ one-test _ _ _ _ hours.1 in
-    ready _ _ _ (sym test ∙ ap tested_fault c.in_default-tested.is)
-
-pub returns-in_default-found : goal.returns-in_default-found
-returns-in_default-found c =
-    let hours = if_some _ _ _ (sym c.in-Within.ensures) in
-    let test = c.test_input-tested.ensures ∙ one-test _ _ _ _ hours.1 in
-    ap answered c.in_default-found.ensures ∙ sym (answered-by _ _ _ (sym test ∙ ap tested_fault c.in_default-tested.is))
+pub rule-requires : goal.rule-requires
+rule-requires c =
+    let hours = one-there _ _ _ c.of_plan.ensures c.in_ok-hours.ensures.value in
+    ready _ _ _ (sym (c.in_ok-test_input.ensures ∙ one-test _ _ _ _ hours.1 c.new-plan.ensures))
 
 pub returns : goal.returns
 returns c =
-    let hours = if_some _ _ _ (sym c.in-Within.ensures) in
-    let test = c.test_input-tested.ensures ∙ one-test _ _ _ _ hours.1 in
-    ap answered c.in-Within-found.ensures ∙ sym (answered-by _ _ _ (sym test ∙ ap tested_fault c.in_default-tested.is))
+    let hours = one-there _ _ _ c.of_plan.ensures c.in_ok-hours.ensures.value in
+    ap answered c.rule.ensures
+    ∙ sym (answered-by _ _ _ (sym (c.in_ok-test_input.ensures ∙ one-test _ _ _ _ hours.1 c.new-plan.ensures)))

@@ -12,22 +12,17 @@ unfolding with_triples witnessed_rule valid_triples
 loop-s-init c = (carried_first _ _ c.no_hours-shortest.ensures c.no_hours-longest.ensures, refl)
 
 pub lengthen-shortest-requires : goal.lengthen-shortest-requires
-lengthen-shortest-requires c = shortest-stretch c.requires c.loop-s-test.true c.loop-s.invariant.0
+lengthen-shortest-requires c = shortest-stretch c.requires (omega (arith, c.loop-s-test.true)) c.loop-s.invariant.0
 
 pub lengthen-longest-requires : goal.lengthen-longest-requires
 lengthen-longest-requires c =
-    longest-stretch c.requires c.loop-s-test.true c.loop-s.invariant.0
-
-pub overflow_add-s : goal.overflow_add-s
-overflow_add-s c =
-    let known = c.requires in
-    omega (arith, known.latest, known.short, c.loop-s-test.true)
+    longest-stretch c.requires (omega (arith, c.loop-s-test.true)) c.loop-s.invariant.0
 
 pub loop-s-preserved : goal.loop-s-preserved
 loop-s-preserved c = (
-  carried-next (carried_on c.requires c.loop-s-test.true c.loop-s.invariant.0 _ _
+  carried-next (carried_on c.requires (omega (arith, c.loop-s-test.true)) c.loop-s.invariant.0 _ _
       c.lengthen-shortest.ensures c.lengthen-longest.ensures) _ _ c.without_first-shortest.ensures c.without_first-longest.ensures,
-  rw c.with_start-best.ensures (sym (with-step _ _ _ _ c.loop-s-test.true) ∙ c.loop-s.invariant.1),
+  rw c.with_start-best.ensures (sym (with-step _ _ _ _ (omega (arith, c.loop-s-test.true))) ∙ c.loop-s.invariant.1),
 )
 
 pub returns : goal.returns
@@ -35,15 +30,15 @@ returns c = unmoved _ (over_none _ _ _ (omega arith)) ∙ c.loop-s.invariant.1
 
 pub with_start-best-requires : goal.with_start-best-requires
 with_start-best-requires c =
-    (carried_on c.requires c.loop-s-test.true c.loop-s.invariant.0 _ _
+    (carried_on c.requires (omega (arith, c.loop-s-test.true)) c.loop-s.invariant.0 _ _
     c.lengthen-shortest.ensures c.lengthen-longest.ensures)
 
 pub without_first-shortest-requires : goal.without_first-shortest-requires
 without_first-shortest-requires c =
-    (carried_on c.requires c.loop-s-test.true c.loop-s.invariant.0 _ _
+    (carried_on c.requires (omega (arith, c.loop-s-test.true)) c.loop-s.invariant.0 _ _
     c.lengthen-shortest.ensures c.lengthen-longest.ensures).is_shortest
 
 pub without_first-longest-requires : goal.without_first-longest-requires
 without_first-longest-requires c =
-    (carried_on c.requires c.loop-s-test.true c.loop-s.invariant.0 _ _
+    (carried_on c.requires (omega (arith, c.loop-s-test.true)) c.loop-s.invariant.0 _ _
     c.lengthen-shortest.ensures c.lengthen-longest.ensures).is_longest

@@ -1,5 +1,4 @@
 use mathlib.Core.Path.{◌≡◌}
-use Prim.Native.Nat.{◌+◌, ◌-◌}
 use Rattle.calendar.specs.Triples.{over, starting}
 use Rattle.calendar.specs.Rule.{witnessed_rule}
 use Rattle.calendar.specs.Inner.Windows.{with_triples}
@@ -11,6 +10,3 @@ use Rattle.calendar.proofs.rule.Given as goal
 abbrev pub invariant-loop-s : goal.invariant-loop-s
 invariant-loop-s l = Carried l.calendar l.work_time.0 l.b l.s l.shortest l.longest
     × (with_triples l.best (over l.s l.b.latest.0 (starting l.calendar l.work_time.0 l.b)) ≡ witnessed_rule l.calendar l.work_time.0 l.b)
-
-abbrev pub decreases-loop-s : goal.decreases-loop-s
-decreases-loop-s l = l.last + 1 - l.s

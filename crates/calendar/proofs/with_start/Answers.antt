@@ -24,8 +24,8 @@ window_from-window-requires c =
     let ends = sym c.may_end.ensures ∙ c.if-not-may_end.false in
     window-ready c.requires starts ends c.if-longest-shortest.false
 
-pub witnesses_from-witnesses-requires : goal.witnesses_from-witnesses-requires
-witnesses_from-witnesses-requires c =
+pub witnesses_from-by-requires : goal.witnesses_from-by-requires
+witnesses_from-by-requires c =
     let starts = sym c.is_kind.ensures ∙ c.if-is_kind.false in
     let ends = sym c.may_end.ensures ∙ c.if-not-may_end.false in
     window-ready c.requires starts ends c.if-longest-shortest.false
@@ -35,4 +35,4 @@ returns c =
     let starts = sym c.is_kind.ensures ∙ c.if-is_kind.false in
     let ends = sym c.may_end.ensures ∙ c.if-not-may_end.false in
     let window = window-is c.requires starts ends c.if-longest-shortest.false in
-    rw (c.with_window.ensures, c.window_from-window.ensures, c.witnesses_from-witnesses.ensures) (sym (with-window-of _ _ _ _ window))
+    rw (c.with_window.ensures, c.window_from-window.ensures, c.witnesses_from-by.ensures) (sym (with-window-of _ _ _ _ window))

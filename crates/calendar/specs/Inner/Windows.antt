@@ -1,5 +1,5 @@
 -- Windows and their witnesses: of the valid triples from one start, and of those from several.
-use Rattle.std.specs.Prelude.{List, ℕ, ◌+◌, ◌-◌, ◌≤◌, min, max}
+use Rattle.std.specs.Prelude.{List, ℕ, ◌+◌, ◌-◌, ◌≤◌, min, max, Option, None, Some}
 use Rattle.units.specs.Extremes.{less, more, better_of}
 use Rattle.units.specs.Limits.{most_hours, hour, duration}
 use Rattle.stretches.specs.declared.Stretch.{Stretch}
@@ -7,9 +7,8 @@ use Rattle.calendar.specs.declared.Triple.{Triple}
 use Rattle.calendar.specs.declared.Window.{Window}
 use Rattle.calendar.specs.declared.Witnesses.{Witnesses}
 use Rattle.calendar.specs.declared.Witnessed.{Witnessed}
-use Rattle.calendar.specs.declared.Witnessed.TheVariants.{Never, Within}
 use Rattle.calendar.specs.Triples.{triple, start_of, elapsed_of, overtime_of}
-use Rattle.calendar.specs.Rule.{spread, firsts, witnessed_of}
+use Rattle.calendar.specs.Rule.{spread, firsts, witnessed, witnessed_of}
 
 -- a task with the work time p, which starts at s, ends in time with the shortest stretch and with the last open hour of the longest, and neither
 -- has more regular hours than p
@@ -87,11 +86,11 @@ first_of_both a b =
       most = better_of more overtime_of a.most b.most;
     }
 
-abbrev pub with_window : Witnessed → Window → Witnesses → Witnessed
-with_window Never v later = Within v later
-with_window (Within w by) v later = Within (wider w v) (first_of_both by later)
+abbrev pub with_window : Option Witnessed → Window → Witnesses → Option Witnessed
+with_window None v later = Some (witnessed v later)
+with_window (Some found) v later = Some (witnessed (wider found.window v) (first_of_both found.by later))
 
 -- an answer with further triples
-unfoldable pub with_triples : Witnessed → List Triple → Witnessed
-with_triples Never ts = witnessed_of ts
-with_triples (Within w by) ts = Within (spread w ts) (firsts by ts)
+unfoldable pub with_triples : Option Witnessed → List Triple → Option Witnessed
+with_triples None ts = witnessed_of ts
+with_triples (Some found) ts = Some (witnessed (spread found.window ts) (firsts found.by ts))

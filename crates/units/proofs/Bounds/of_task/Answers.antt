@@ -2,7 +2,8 @@ use mathlib.Core.Path.{sym, ap, ◌∙◌}
 use Rattle.units.specs.Limits.{hour, duration, is_hour, is_work_time, is_overtime}
 use Rattle.units.specs.Choice.{some_if}
 use Rattle.units.proofs.Choices.{none-if}
-use Rattle.units.proofs.Ranges.{made, le-cmp, not-starts, not-lengths, by-overtimes}
+use Rattle.units.proofs.Hours.{le-cmp}
+use Rattle.units.proofs.Ranges.{made, not-starts, not-lengths, by-overtimes}
 use Rattle.units.proofs.Bounds.of_task.Goals as goal
 
 pub returns-then-not-are_in_order : goal.returns-then-not-are_in_order
