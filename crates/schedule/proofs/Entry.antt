@@ -6,16 +6,16 @@ use mathlib.Core.List.{List}
 use Prim.Native.Nat.{ℕ, ◌+◌, ◌-◌, ◌≤◌, ◌<◌}
 use native.Mathlib.Omega.{arith}
 use lib.Dec.{leb, ltb}
-use lib.ListN.{length, get_or, take, drop, length-take}
+use lib.ListN.{length, get_or, length-take}
 use borrow.Author.Tests.{ltb-true, ltb-false, lt-ltb, le-ltb, le-leb, lt-leb}
 use Rattle.units.specs.Choice.{first_of}
-use Rattle.units.specs.Limits.{hour, duration}
+use Rattle.units.specs.Limits.{most_hours, hour, duration}
 use Rattle.units.specs.Sums.{sum_where}
 use Rattle.units.specs.declared.Bounds.{Bounds}
 use Rattle.units.specs.declared.Duration.{Duration}
 use Rattle.units.specs.declared.Hour.{Hour}
 use Rattle.units.proofs.Choices.{not_left, and-rest, first-eq}
-use Rattle.plan.specs.Plan.{Shifts, Plan, room_count, task_count, first_symbol, calendar_at, calendar_of, work_time_of, capacity_of, room_part, heights_of, height_of, heights_where}
+use Rattle.plan.specs.Plan.{Shifts, Plan, room_count, task_count, calendar_at, calendar_of, work_time_of, room_part, heights_of, height_of, heights_where}
 use Rattle.plan.specs.Boxes.{bounds_at}
 use Rattle.plan.specs.declared.Fault.{Fault}
 use Rattle.plan.specs.Refusals.{unless}
@@ -66,16 +66,18 @@ module _ (n r capacity k : ℕ) (is : r ≡ n) (limit : k ≡ capacity) (over : 
 pub running-as : (hs is schedule : List ℕ) (t : ℕ) (r : ℕ) → hs ≡ is → r ≡ running_heights hs schedule t → r ≡ running_heights is schedule t
 running-as hs is schedule t r e q = rw (← e) q
 
--- the first so many of a list
-pub taken-small : (l all : List ℕ) (n m : ℕ) → l ≡ take n all → n ≤ m → length l ≤ m
-taken-small l all n m e h = rw e (simp length-take (omega arith))
+-- a task's calendar is no longer than H
+pub calendar-small : (S : Shifts) (i : ℕ) (cal : List ℕ) → cal ≡ calendar_of S i → S.hours ≤ most_hours → length cal ≤ most_hours
+unfolding calendar_of calendar_at
+calendar-small S i cal e h = rw e (simp length-take (omega arith))
 
 -- a task's own test, from what the code read of it
-pub triple-is : (S : Shifts) (boxes schedule : List ℕ) (i : ℕ) (cal : List ℕ) (b : Bounds) (x : Triple) (r : Option Fault)
-    → cal ≡ take S.hours (drop (first_symbol S.hours (get_or S.task_calendars i 0)) S.calendars) → b ≡ bounds_at boxes i
-    → x ≡ triple_at schedule i → r ≡ one_triple_fault cal (get_or S.work_times i 0) b i x → r ≡ triple_fault S boxes (triple_at schedule) i
-unfolding triple_fault calendar_of calendar_at
-triple-is S boxes schedule i cal b x r p q s e = rw (← p, ← q, ← s) e
+pub triple-is : (S : Shifts) (boxes schedule : List ℕ) (i : ℕ) (cal : List ℕ) (p : Duration) (b : Bounds) (x : Triple) (r : Option Fault)
+    → cal ≡ calendar_of S i → p ≡ duration (work_time_of S i) → b ≡ bounds_at boxes i → x ≡ triple_at schedule i
+    → r ≡ one_triple_fault cal p.0 b i x → r ≡ triple_fault S boxes (triple_at schedule) i
+unfolding triple_fault
+triple-is S boxes schedule i cal p b x r e f q s k =
+    k ∙ rw (e, q, s) (ap (λ (d : Duration). one_triple_fault (calendar_of S i) d.0 (bounds_at boxes i) i (triple_at schedule i)) f)
 
 -- one task for each height of a room, so the code counts the heights
 pub hours-are : (P : Plan) (schedule : List ℕ) → ((room : ℕ) → room < room_count P → length (heights_of P room) ≡ task_count P)

@@ -1,6 +1,6 @@
 -- The schedule checker as an entry point (01, "Refused because of the input", and the order below it; rooms: 02, W-202).
 use Rattle.std.specs.Prelude.{Bool, List, ℕ, ◌*◌, leb, eqb, length}
-use Rattle.std.specs.Prelude.{Option}
+use Rattle.std.specs.Prelude.{Option, Result, Ok, Err}
 use Rattle.units.specs.Choice.{◌and◌, ◌or_else◌, first_of}
 use Rattle.plan.specs.Plan.{Shifts, Plan, room_count, task_count, calendar_of, work_time_of, capacity_of}
 use Rattle.plan.specs.Boxes.{bounds_at}
@@ -10,8 +10,8 @@ use Rattle.plan.specs.Faults.{is_right_size, plan_fault}
 use Rattle.units.specs.declared.Bounds.{Bounds}
 use Rattle.calendar.specs.declared.Triple.{Triple}
 use Rattle.calendar.specs.Triples.{triple_numbers, valid_triple, in_bounds}
-use Rattle.schedule.specs.declared.ScheduleChecked.{ScheduleChecked}
-use Rattle.schedule.specs.declared.ScheduleChecked.TheVariants.{Refused, Feasible}
+use Rattle.plan.specs.declared.Refusal.{Refusal}
+use Rattle.units.specs.declared.Hour.{Hour}
 use Rattle.schedule.specs.Schedule.{triple_at, running, makespan}
 
 -- task by task 14, 15: of task i, by its calendar, its work time p, its box and its triple
@@ -48,6 +48,6 @@ unfoldable pub check_schedule : Plan → List ℕ → List ℕ → Answer ℕ
 check_schedule P boxes schedule = answer_unless (check_fault P boxes schedule) (makespan P (triple_at schedule))
 
 -- the number and the values of each case of the answer
-abbrev pub schedule_answer : ScheduleChecked → Answer ℕ
-schedule_answer (Refused r) = refused (fault_of r)
-schedule_answer (Feasible end) = answered end.0
+abbrev pub schedule_answer : Result Hour Refusal → Answer ℕ
+schedule_answer (Ok end) = answered end.0
+schedule_answer (Err r) = refused (fault_of r)

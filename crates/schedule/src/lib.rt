@@ -1,13 +1,14 @@
 // The schedule checker: whether a schedule is feasible, and its makespan.
 #![tactic(auto)]
 
-ghost use Rattle.std.specs.Prelude.{◌≡◌, ◌+◌, ◌*◌, ◌≤◌, max, length};
+ghost use Rattle.std.specs.Prelude.{◌≡◌, ◌+◌, ◌*◌, ◌≤◌, length};
 ghost use Rattle.units.specs.Choice.{◌and◌, first_of};
 ghost use Rattle.units.specs.Limits.{most_hours, within};
 ghost use Rattle.units.specs.Sums.{max_to};
 ghost use Rattle.plan.specs.Refusals.{tested_fault};
-ghost use Rattle.plan.specs.Faults.{one_for_each_task};
-ghost use Rattle.plan.specs.Lent.{shifts_of, old_shifts, old_plan};
+ghost use Rattle.plan.specs.Plan.{room_count, task_count};
+ghost use Rattle.plan.specs.Faults.{is_right_size};
+ghost use Rattle.plan.specs.Lent.{shifts_in, plan_in};
 ghost use Rattle.calendar.specs.Triples.{triple_numbers, end_of, in_bounds};
 ghost use Rattle.schedule.specs.Schedule.{triple_at, runs};
 ghost use Rattle.schedule.specs.Entry.{one_triple_fault, triple_fault, is_sized, check_fault, check_schedule, schedule_answer};
@@ -15,15 +16,8 @@ ghost use Rattle.schedule.specs.Decision.{Decides};
 ghost use Rattle.schedule.specs.Inner.Ready.{TriplesReady, HoursReady, RoomsReady, EndsReady, running_heights, heights_fault};
 
 use calendar::Triple;
-use plan::{Refusal, Tested};
+use plan::{Plan, Refusal};
 use units::{Bounds, Duration, Height, Hour};
-
-// What the schedule checker answers; a feasible schedule with its makespan.
-#[derive(Clone, Copy)]
-pub enum ScheduleChecked {
-    Refused(Refusal),
-    Feasible(Hour),
-}
 
 // The triple of task i.
 fn triple_at(schedule: &[u16], i: usize) -> Triple
@@ -38,26 +32,21 @@ fn triple_at(schedule: &[u16], i: usize) -> Triple
     }
 }
 
-fn is_within(least: u16, most: u16, number: u16) -> bool
+// Whether a number lies within the bounds of its kind.
+fn is_between(least: u16, most: u16, number: u16) -> bool
     ensures { result ≡ within least most number }
 {
-    if number < least {
-        return false;
-    }
-    number <= most
+    units::is_within(least as usize, most as usize, number as usize)
 }
 
 // Whether a triple lies in a box.
+#[tactic(auto, unfolding(calendar::specs::Triples::in_bounds))]
 fn is_in_bounds(b: Bounds, t: Triple) -> bool
     ensures { result ≡ in_bounds b t }
 {
-    if !is_within(b.earliest.0, b.latest.0, t.start.0) {
-        return false;
-    }
-    if !is_within(b.shortest.0, b.longest.0, t.elapsed.0) {
-        return false;
-    }
-    is_within(b.fewest.0, b.most.0, t.overtime.0)
+    is_between(b.earliest.0, b.latest.0, t.start.0)
+        && is_between(b.shortest.0, b.longest.0, t.elapsed.0)
+        && is_between(b.fewest.0, b.most.0, t.overtime.0)
 }
 
 // 14, 15 of one task.
@@ -67,56 +56,46 @@ fn test_triple(
     work_time: Duration,
     bounds: Bounds,
     t: Triple,
-) -> Tested
+) -> Result<(), Refusal>
     requires { length calendar.now ≤ most_hours }
     ensures { tested_fault result ≡ one_triple_fault calendar.now work_time.0 bounds task t }
 {
     if !is_in_bounds(bounds, t) {
-        return Tested::Refused(Refusal::OutsideBounds(task));
+        return Err(Refusal::OutsideBounds(task));
     }
     if !calendar::is_valid(calendar, work_time, t) {
-        return Tested::Refused(Refusal::NotValid(task));
+        return Err(Refusal::NotValid(task));
     }
-    Tested::Passed
+    Ok(())
 }
 
 // Task by task.
-fn test_triples(
-    hours: Duration,
-    calendars: &[u8],
-    task_calendars: &[u16],
-    work_times: &[u16],
-    boxes: &[u16],
-    schedule: &[u16],
-) -> Tested
-    requires { TriplesReady (shifts_of hours.0 calendars task_calendars work_times) boxes.now schedule.now }
-    ensures { let S = old_shifts hours.0 calendars task_calendars work_times in
+fn test_triples(plan: &Plan, boxes: &[u16], schedule: &[u16]) -> Result<(), Refusal>
+    requires { TriplesReady (shifts_in plan.now.shifts) boxes.now schedule.now }
+    ensures { let S = shifts_in plan.now.shifts in
         tested_fault result ≡ first_of (triple_fault S boxes.now (triple_at schedule.now)) (length S.task_calendars) }
 {
-    for i in 0..task_calendars.len() {
-        let tested = test_triple(
+    let shifts = &plan.shifts;
+    for i in 0..plan.tasks() {
+        test_triple(
             i,
-            plan::calendar_at(calendars, hours, task_calendars[i]),
-            Duration(work_times[i]),
+            shifts.calendar_of(i),
+            shifts.work_time_of(i),
             plan::bounds_at(boxes, i),
             triple_at(schedule, i),
-        );
-        let Tested::Passed = tested else {
-            return tested;
-        };
+        )?;
     }
-    Tested::Passed
+    Ok(())
 }
 
 // Whether a task with the triple runs in the hour. The time since its start is compared, since an end may not fit.
 fn is_running(t: Triple, hour: Hour) -> bool
     ensures { result ≡ runs t hour.0 }
 {
-    let start = t.start;
-    if hour.0 < start.0 {
+    if hour < t.start {
         return false;
     }
-    hour.since(start).0 < t.elapsed.0
+    hour.since(t.start) < t.elapsed
 }
 
 // The heights in a room of the tasks that run in the hour, added.
@@ -125,135 +104,60 @@ fn running_heights(heights: &[u16], schedule: &[u16], hour: Hour) -> Height
     ensures { result.0 ≡ running_heights heights.now schedule.now hour.0 }
 {
     let mut sum = Height(0);
-    for i in 0..heights.len() {
+    for (i, height) in heights.iter().enumerate() {
         if is_running(triple_at(schedule, i), hour) {
-            sum = sum.plus(plan::height_at(heights, i));
+            sum = sum.plus(Height(*height));
         }
     }
     sum
 }
 
 // 16, where the tasks that run in the hour take more than a room's capacity.
-fn test_hour(
-    capacities: &[u16],
-    tasks: usize,
-    heights: &[u16],
-    schedule: &[u16],
-    hour: Hour,
-) -> Tested
-    requires { RoomsReady (length capacities.now) tasks heights.now schedule.now }
-    ensures { tested_fault result ≡ heights_fault capacities.now tasks heights.now schedule.now hour.0 }
+fn test_hour(plan: &Plan, schedule: &[u16], hour: Hour) -> Result<(), Refusal>
+    requires { let P = plan_in plan.now in RoomsReady (room_count P) (task_count P) P.heights schedule.now }
+    ensures { let P = plan_in plan.now in
+        tested_fault result ≡ heights_fault P.capacities (task_count P) P.heights schedule.now hour.0 }
 {
-    for room in 0..capacities.len() {
-        let in_room = plan::room_part(heights, tasks, room);
-        let capacity = plan::height_at(capacities, room);
-        if running_heights(in_room, schedule, hour).exceeds(capacity) {
-            return Tested::Refused(Refusal::OverCapacity(hour.0 as usize));
+    for (room, capacity) in plan.capacities.iter().enumerate() {
+        let running = running_heights(plan.heights_of(room), schedule, hour);
+        if running > Height(*capacity) {
+            return Err(Refusal::OverCapacity(hour.0 as usize));
         }
     }
-    Tested::Passed
+    Ok(())
 }
 
 // 16, at the first hour in which the running tasks take more than the capacity of any room.
-fn test_hours(
-    hours: Duration,
-    capacities: &[u16],
-    tasks: usize,
-    heights: &[u16],
-    schedule: &[u16],
-) -> Tested
-    requires { RoomsReady (length capacities.now) tasks heights.now schedule.now }
-    ensures { tested_fault result ≡ first_of (heights_fault capacities.now tasks heights.now schedule.now) hours.0 }
+fn test_hours(plan: &Plan, schedule: &[u16]) -> Result<(), Refusal>
+    requires { let P = plan_in plan.now in RoomsReady (room_count P) (task_count P) P.heights schedule.now }
+    ensures { let P = plan_in plan.now in
+        tested_fault result ≡ first_of (heights_fault P.capacities (task_count P) P.heights schedule.now) P.shifts.hours }
 {
-    for hour in 0..hours.0 {
-        let tested = test_hour(capacities, tasks, heights, schedule, Hour(hour));
-        let Tested::Passed = tested else {
-            return tested;
-        };
+    for hour in 0..plan.shifts.hours.0 {
+        test_hour(plan, schedule, Hour(hour))?;
     }
-    Tested::Passed
+    Ok(())
 }
 
 // Whether the fields, the boxes and the schedule number one for each task.
-fn is_right_size(
-    capacities: &[u16],
-    task_calendars: &[u16],
-    work_times: &[u16],
-    heights: &[u16],
-    boxes: &[u16],
-    schedule: &[u16],
-) -> bool
-    ensures { result ≡ (one_for_each_task capacities.now task_calendars.now work_times.now heights.now boxes.now
-        and is_sized (length task_calendars.now) schedule.now) }
+#[tactic(auto, unfolding(crate::specs::Entry::is_sized))]
+fn is_right_size(plan: &Plan, boxes: &[u16], schedule: &[u16]) -> bool
+    ensures { let P = plan_in plan.now in result ≡ (is_right_size P boxes.now and is_sized (task_count P) schedule.now) }
 {
-    if !input::has_one_for_each_task(capacities, task_calendars, work_times, heights, boxes) {
-        return false;
-    }
-    units::is_for_each(schedule.len(), Triple::NUMBERS, task_calendars.len())
+    input::has_one_for_each_task(plan, boxes)
+        && units::is_for_each(schedule.len(), Triple::NUMBERS, plan.tasks())
 }
 
 // The tests of a schedule: 31, the plan's tests, the triples, the hours.
-fn test_schedule(
-    hours: u16,
-    capacities: &[u16],
-    calendars: &[u8],
-    task_calendars: &[u16],
-    work_times: &[u16],
-    heights: &[u16],
-    boxes: &[u16],
-    schedule: &[u16],
-) -> Tested
-    ensures { let P = old_plan hours capacities calendars task_calendars work_times heights in
-        tested_fault result ≡ check_fault P boxes.now schedule.now }
+fn test_schedule(plan: &Plan, boxes: &[u16], schedule: &[u16]) -> Result<(), Refusal>
+    ensures { tested_fault result ≡ check_fault (plan_in plan.now) boxes.now schedule.now }
 {
-    if !is_right_size(
-        capacities,
-        task_calendars,
-        work_times,
-        heights,
-        boxes,
-        schedule,
-    ) {
-        return Tested::Refused(Refusal::MemorySize);
+    if !is_right_size(plan, boxes, schedule) {
+        return Err(Refusal::MemorySize);
     }
-    let by_plan = input::test_plan(
-        hours,
-        capacities,
-        calendars,
-        task_calendars,
-        work_times,
-        heights,
-        boxes,
-    );
-    let Tested::Passed = by_plan else {
-        return by_plan;
-    };
-    let plan_length = Duration(hours);
-    let by_triples = test_triples(
-        plan_length,
-        calendars,
-        task_calendars,
-        work_times,
-        boxes,
-        schedule,
-    );
-    let Tested::Passed = by_triples else {
-        return by_triples;
-    };
-    test_hours(
-        plan_length,
-        capacities,
-        task_calendars.len(),
-        heights,
-        schedule,
-    )
-}
-
-// The later of two hours.
-fn later(a: Hour, b: Hour) -> Hour
-    ensures { result.0 ≡ max a.0 b.0 }
-{
-    if a.0 <= b.0 { b } else { a }
+    input::test_plan(plan, boxes)?;
+    test_triples(plan, boxes, schedule)?;
+    test_hours(plan, schedule)
 }
 
 // The largest end.
@@ -264,40 +168,16 @@ fn latest_end(schedule: &[u16], tasks: usize) -> Hour
     let mut latest = Hour(0);
     for i in 0..tasks {
         let t = triple_at(schedule, i);
-        let start = t.start;
-        latest = later(latest, start.plus(t.elapsed));
+        latest = latest.max(t.start.plus(t.elapsed));
     }
     latest
 }
 
 // The schedule checker: accepts exactly the feasible schedules of a plan that passes the tests, with the makespan.
-pub fn check_schedule(
-    hours: u16,
-    capacities: &[u16],
-    calendars: &[u8],
-    task_calendars: &[u16],
-    work_times: &[u16],
-    heights: &[u16],
-    boxes: &[u16],
-    schedule: &[u16],
-) -> ScheduleChecked
-    ensures answer { let P = old_plan hours capacities calendars task_calendars work_times heights in
-        schedule_answer result ≡ check_schedule P boxes.now schedule.now }
-    ensures exactly { let P = old_plan hours capacities calendars task_calendars work_times heights in
-        Decides P boxes.now schedule.now (schedule_answer result) }
+pub fn check_schedule(plan: &Plan, boxes: &[u16], schedule: &[u16]) -> Result<Hour, Refusal>
+    ensures answer { schedule_answer result ≡ check_schedule (plan_in plan.now) boxes.now schedule.now }
+    ensures exactly { Decides (plan_in plan.now) boxes.now schedule.now (schedule_answer result) }
 {
-    let tested = test_schedule(
-        hours,
-        capacities,
-        calendars,
-        task_calendars,
-        work_times,
-        heights,
-        boxes,
-        schedule,
-    );
-    match tested {
-        Tested::Refused(refusal) => ScheduleChecked::Refused(refusal),
-        Tested::Passed => ScheduleChecked::Feasible(latest_end(schedule, task_calendars.len())),
-    }
+    test_schedule(plan, boxes, schedule)?;
+    Ok(latest_end(schedule, plan.tasks()))
 }

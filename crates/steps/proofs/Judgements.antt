@@ -1,4 +1,5 @@
 -- What is known of a step, by its kind, once it is judged to move a bound or to be impossible. Assumes nothing.
+use Rattle.std.specs.Prelude.{Option, None, Some}
 use mathlib.Core.Path.{◌≡◌, refl, subst}
 use mathlib.Core.Bool.{true, false}
 use mathlib.Core.List.{List}
@@ -11,8 +12,6 @@ use Rattle.units.proofs.Choices.{and_left, and_right, if-all, some_at}
 use Rattle.plan.specs.Plan.{Plan, room_count, task_count, capacity_of, height_of}
 use Rattle.plan.specs.Boxes.{bounds_at, with_bounds}
 use Rattle.calendar.specs.declared.Window.{Window}
-use Rattle.calendar.specs.declared.Fit.{Fit}
-use Rattle.calendar.specs.declared.Fit.TheVariants.{Never, Within}
 use Rattle.calendar.specs.Rule.{lst, ect}
 use Rattle.steps.specs.declared.Step.{Step}
 use Rattle.steps.specs.Load.{fit_at, load, others_load, room_excess, excess}
@@ -29,17 +28,17 @@ judgement-all C not_admitted u n i m a b c d = b refl
 judgement-all C impossible u n i m a b c d = c refl
 judgement-all C (moved left) u n i m a b c d = d left refl
 
-pub fit_all : {A : Type 0} (C : A → Type 0) (f : Fit) (a : A) (g : Window → A) → (f ≡ Never → C a) → ((w : Window) → f ≡ Within w → C (g w))
+pub fit_all : {A : Type 0} (C : A → Type 0) (f : Option Window) (a : A) (g : Window → A) → (f ≡ None → C a) → ((w : Window) → f ≡ Some w → C (g w))
     → C (on_fit f a g)
 unfolding on_fit
-fit_all C Never a g p q = p refl
-fit_all C (Within w) a g p q = q w refl
+fit_all C None a g p q = p refl
+fit_all C (Some w) a g p q = q w refl
 
 -- what L and U share: the task and the hour exist, the task has a valid triple, and there is the excess, in some room
 pub record Crowded (P : Plan) (boxes : List ℕ) (i t : ℕ) (w : Window) : Type 0 where
   pub task : i < task_count P
   pub hour : t < P.shifts.hours
-  pub fit : fit_at P.shifts boxes i ≡ Within w
+  pub fit : fit_at P.shifts boxes i ≡ Some w
   pub room : ℕ
   pub there : room < room_count P
   pub excess : capacity_of P room < height_of P room i + others_load P room boxes i t
@@ -47,7 +46,7 @@ pub record Crowded (P : Plan) (boxes : List ℕ) (i t : ℕ) (w : Window) : Type
 module _ (P : Plan) (boxes : List ℕ) (i t : ℕ) where
   -- a step moves a bound
   pub data Moves (left : List ℕ) : Kind → Type 0 where
-    moves_c : (w : Window) → i < task_count P → fit_at P.shifts boxes i ≡ Within w → same_bounds w.bounds (bounds_at boxes i) ≡ false
+    moves_c : (w : Window) → i < task_count P → fit_at P.shifts boxes i ≡ Some w → same_bounds w.bounds (bounds_at boxes i) ≡ false
         → left ≡ with_bounds boxes i w.bounds → Moves left kind_c
     moves_l : (w : Window) → Crowded P boxes i t w → t < ect w → (bounds_at boxes i).earliest.0 ≤ t → t < (bounds_at boxes i).latest.0
         → left ≡ with_bounds boxes i (with_earliest (bounds_at boxes i) (t + 1)) → Moves left kind_l
@@ -57,7 +56,7 @@ module _ (P : Plan) (boxes : List ℕ) (i t : ℕ) where
 
   -- a step says impossible
   pub data Stops : Kind → Type 0 where
-    stops_c : i < task_count P → fit_at P.shifts boxes i ≡ Never → Stops kind_c
+    stops_c : i < task_count P → fit_at P.shifts boxes i ≡ None → Stops kind_c
     stops_o : i < room_count P → t < P.shifts.hours → capacity_of P i < load P i boxes t → Stops kind_o
     stops_l : (w : Window) → Crowded P boxes i t w → t < ect w → (bounds_at boxes i).latest.0 ≤ t → Stops kind_l
     stops_u : (w : Window) → Crowded P boxes i t w → lst w ≤ t → t < (bounds_at boxes i).earliest.0 + (bounds_at boxes i).shortest.0 → Stops kind_u
@@ -78,7 +77,7 @@ module _ (P : Plan) (boxes : List ℕ) (i t : ℕ) where
   unfolding judge_o Known
   known-O l m = if-all (Known kind_o) _ _ _ (λ over. stops_o l m (ltb-true _ _ over)) (λ under. tt)
 
-  crowded : (w : Window) → i < task_count P → t < P.shifts.hours → fit_at P.shifts boxes i ≡ Within w → excess P boxes i t ≡ true
+  crowded : (w : Window) → i < task_count P → t < P.shifts.hours → fit_at P.shifts boxes i ≡ Some w → excess P boxes i t ≡ true
       → Crowded P boxes i t w
   unfolding excess room_excess
   crowded w l m q e =

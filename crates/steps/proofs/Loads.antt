@@ -1,4 +1,5 @@
 -- Laws of sums over the tasks that pass a test, and of the load against the heights of a feasible schedule's running tasks. Assumes nothing.
+use Rattle.std.specs.Prelude.{Option, None, Some}
 use Rattle.std.specs.Prelude.{if◌then◌else◌}
 use mathlib.Core.Path.{◌≡◌, refl}
 use mathlib.Core.Bool.{Bool, true, false, not, false≢true}
@@ -15,8 +16,6 @@ use Rattle.plan.specs.Plan.{Plan, task_count, height_of, heights_where}
 use Rattle.plan.specs.Boxes.{bounds_at}
 use Rattle.calendar.specs.declared.Triple.{Triple}
 use Rattle.calendar.specs.declared.Window.{Window}
-use Rattle.calendar.specs.declared.Fit.{Fit}
-use Rattle.calendar.specs.declared.Fit.TheVariants.{Never, Within}
 use Rattle.calendar.specs.Triples.{start_of, end_of}
 use Rattle.calendar.specs.Rule.{lst, ect}
 use Rattle.calendar.proofs.Triples.{in_bounds_lem, Held, rule-held}
@@ -49,10 +48,10 @@ module _ (heights : ℕ → ℕ) (n : ℕ) (must may : ℕ → Bool) (sure : (j 
 
 -- ---- a task that must run in an hour runs then, in each triple that its window holds
 
-must-run : (f : Fit) (x : Triple) (t : ℕ) → ((w : Window) → f ≡ Within w → Held w x) → must_run f t ≡ true → runs x t ≡ true
+must-run : (f : Option Window) (x : Triple) (t : ℕ) → ((w : Window) → f ≡ Some w → Held w x) → must_run f t ≡ true → runs x t ≡ true
 unfolding must_run runs
-must-run Never x t held e = absurd (false≢true e)
-must-run (Within w) x t held e =
+must-run None x t held e = absurd (false≢true e)
+must-run (Some w) x t held e =
     let h = held w refl in
     let l : lst w ≤ t = leb-true _ _ (and_left _ _ e) in
     let u : t < ect w = ltb-true _ _ (and_right _ _ e) in
@@ -60,7 +59,7 @@ must-run (Within w) x t held e =
 
 module _ (P : Plan) (boxes : List ℕ) (σ : ℕ → Triple) (F : Feasible P boxes σ) where
   -- the windows hold the triples of a feasible schedule
-  pub fit-held : (i : ℕ) → i < task_count P → (w : Window) → fit_at P.shifts boxes i ≡ Within w → Held w (σ i)
+  pub fit-held : (i : ℕ) → i < task_count P → (w : Window) → fit_at P.shifts boxes i ≡ Some w → Held w (σ i)
   unfolding fit_at
   fit-held i l w e = rule-held _ _ (bounds_at boxes i) w e (σ i) (in_bounds_lem _ _ (F.inside i l)) (F.fits i l)
 

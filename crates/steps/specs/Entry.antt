@@ -1,6 +1,6 @@
 -- The log checker and the filter as entry points: what each answers and leaves in lent memory (01, "Steps", and the order of refusals).
 use Rattle.std.specs.Prelude.{Bool, false, List, [], ◌∷◌, map, ℕ, zero, suc, ◌+◌, eqb, length, get_or}
-use Rattle.std.specs.Prelude.{Option, Some}
+use Rattle.std.specs.Prelude.{Option, Some, Result, Ok, Err}
 use Rattle.units.specs.Choice.{◌and◌, on_option, ◌or_else◌}
 use Rattle.units.specs.Cells.{written}
 use Rattle.plan.specs.Plan.{Plan}
@@ -8,10 +8,11 @@ use Rattle.plan.specs.declared.Fault.{Fault}
 use Rattle.plan.specs.Refusals.{fault, unless, Answer, refused, answered, answer_unless, fault_of}
 use Rattle.plan.specs.Faults.{is_right_size, plan_fault}
 use Rattle.steps.specs.declared.Step.{Step}
-use Rattle.steps.specs.declared.LogChecked.{LogChecked}
-use Rattle.steps.specs.declared.LogChecked.TheVariants as checked
+use Rattle.steps.specs.declared.Accepted.{Accepted}
 use Rattle.steps.specs.declared.Filtered.{Filtered}
-use Rattle.steps.specs.declared.Filtered.TheVariants as filtered
+use Rattle.steps.specs.declared.Ending as Declared
+use Rattle.steps.specs.declared.Ending.TheVariants as declared
+use Rattle.plan.specs.declared.Refusal.{Refusal}
 use Rattle.steps.specs.Steps.{step}
 use Rattle.steps.specs.Log.{LogEnd, log_end, replay}
 use Rattle.steps.specs.Filter.{Ending, settled, impossible, no_room, Run, count, run}
@@ -44,17 +45,8 @@ check_log P boxes kinds tasks hours =
     on_option (entry_fault P boxes kinds tasks hours) (replay P boxes (steps_in kinds tasks hours)) (λ f. log_end 0 false boxes (Some f))
 
 -- accepting, it answers the number of steps and whether the last said impossible
-pub record Accepted : Type 0 where
-  pub steps : ℕ
-  pub impossible : Bool
-
 unfoldable pub check_answer : LogEnd → Answer Accepted
 check_answer e = answer_unless e.refusal (record { steps = e.steps; impossible = e.impossible })
-
--- the number and the values of each case of the log checker's answer
-abbrev pub log_answer : LogChecked → Answer Accepted
-log_answer (checked.Refused r) = refused (fault_of r)
-log_answer (checked.Accepted n said) = answered (record { steps = n; impossible = said })
 
 -- What the filter answers: a refusal; 32, with the count; settled or impossible, with the count.
 pub data FilterAnswer : Type 0 where
@@ -100,11 +92,14 @@ filter_plan P boxes kinds tasks hours =
     (λ f. filter_end (refused_by f) boxes kinds tasks hours)
 
 -- the number and the values of each case of the filter's answer
-abbrev pub filter_answer : Filtered → FilterAnswer
-filter_answer (filtered.Refused r) = refused_by (fault_of r)
-filter_answer (filtered.NoRoom n) = no_room_for (fault 32 0) n
-filter_answer (filtered.Settled n) = settled_after n
-filter_answer (filtered.Impossible n) = impossible_after n
+abbrev pub ending_of : Declared.Ending → Ending
+ending_of declared.Settled = settled
+ending_of declared.Impossible = impossible
+ending_of declared.NoRoom = no_room
+
+abbrev pub filter_answer : Result Filtered Refusal → FilterAnswer
+filter_answer (Err r) = refused_by (fault_of r)
+filter_answer (Ok f) = ending_answer (ending_of f.ending) f.count
 
 -- The same of a log that is given as a list of records, in the three slices that hold them: what the log checker makes of it; what the filter
 -- answers and leaves, with the first so many steps of the log.

@@ -1,4 +1,5 @@
 -- Steps, each with its admission and its effect (01, "Steps"; rooms: 02, W-202).
+use Rattle.std.specs.Prelude.{Option, None, Some}
 use Rattle.std.specs.Prelude.{Bool, false, List, ℕ, ◌+◌, ◌-◌, leb, ltb, eqb, if◌then◌else◌}
 use Rattle.units.specs.Choice.{◌and◌}
 use Rattle.units.specs.Limits.{is_hour, is_room_number, with_earliest, with_latest}
@@ -6,8 +7,6 @@ use Rattle.units.specs.declared.Bounds.{Bounds}
 use Rattle.plan.specs.Plan.{Plan, room_count, task_count, capacity_of}
 use Rattle.plan.specs.Boxes.{bounds_at, with_bounds}
 use Rattle.calendar.specs.declared.Window.{Window}
-use Rattle.calendar.specs.declared.Fit.{Fit}
-use Rattle.calendar.specs.declared.Fit.TheVariants.{Never, Within}
 use Rattle.calendar.specs.Rule.{lst, ect}
 use Rattle.steps.specs.declared.Step.{Step}
 use Rattle.steps.specs.Load.{fit_at, load, excess}
@@ -60,9 +59,9 @@ on_judgement impossible u n i m = i
 on_judgement (moved boxes) u n i m = m boxes
 
 -- the case of a task with no valid triple, and that of one with the window
-unfoldable pub on_fit : {A : Type 0} → Fit → A → (Window → A) → A
-on_fit Never a f = a
-on_fit (Within w) a f = f w
+unfoldable pub on_fit : {A : Type 0} → Option Window → A → (Window → A) → A
+on_fit None a f = a
+on_fit (Some w) a f = f w
 
 unfoldable pub same_bounds : Bounds → Bounds → Bool
 same_bounds a b =

@@ -1,16 +1,15 @@
 -- The starred weeks of 01's "Worked weeks", those of calendar A with their witnesses (02, W-204): a list of weeks and their outcomes, of the
 -- calendar rule and the filter as they are called. That the definitions give each outcome is proved.
+use Rattle.std.specs.Prelude.{Option, None, Some}
 use Rattle.std.specs.Prelude.{Bool, true, false, List, [], ◌∷◌, ◌++◌, map, ℕ, zero, suc, length, replicate, if◌then◌else◌}
 use Rattle.units.specs.Limits.{hour, duration}
 use Rattle.units.specs.declared.Bounds.{Bounds}
 use Rattle.plan.specs.Plan.{Plan, plan}
 use Rattle.plan.specs.Refusals.{fault, Answer, answered}
 use Rattle.calendar.specs.declared.Triple.{Triple}
-use Rattle.calendar.specs.declared.Fit.{Fit}
 use Rattle.calendar.specs.declared.Window.{Window}
 use Rattle.calendar.specs.declared.Witnesses.{Witnesses}
 use Rattle.calendar.specs.declared.Witnessed.{Witnessed}
-use Rattle.calendar.specs.declared.Witnessed.TheVariants.{Never, Within}
 use Rattle.calendar.specs.Triples.{triple, end_of, valid_triple, valid_triples}
 use Rattle.calendar.specs.Rule.{rule_of}
 use Rattle.calendar.specs.Entry.{calendar_rule}
@@ -46,14 +45,14 @@ pub data Week : Type 0 where
   filter : Plan → List ℕ → ℕ → Week
 
 pub data Outcome : Type 0 where
-  fits : Answer Witnessed → Outcome
+  fits : Answer (Option Witnessed) → Outcome
   hours : List ℕ → Outcome
   triples : List Triple → List ℕ → Outcome
   holds : Bool → Outcome
   leaves : FilterAnswer → List ℕ → List Step → Outcome
 
 -- the hours 0 .. n - 1 that the compulsory part holds
-unfoldable pub hours_held : Fit → ℕ → List ℕ
+unfoldable pub hours_held : Option Window → ℕ → List ℕ
 hours_held fit zero = []
 hours_held fit (suc n) = hours_held fit n ++ (if must_run fit n then n ∷ [] else [])
 
@@ -94,20 +93,20 @@ unfoldable pub weeks : List Starred
 weeks =
     -- A, S 0..8, E 1..9, O 0..3: S 1..5, E 3..7, O 1..3, ect 4, lct 8, no compulsory part
     starred (rule calendar_a 3 (bounds 0 8 1 9 0 3))
-    (fits (answered (Within (window (bounds 1 5 3 7 1 3) 4 8)
-    (by (triple 1 3 3) (triple 5 3 1) (triple 1 3 3) (triple 1 7 1) (triple 1 7 1) (triple 1 3 3)))))
+    (fits (answered (Some (witnessed (window (bounds 1 5 3 7 1 3) 4 8)
+    (by (triple 1 3 3) (triple 5 3 1) (triple 1 3 3) (triple 1 7 1) (triple 1 7 1) (triple 1 3 3))))))
     ∷ starred (compulsory_part calendar_a 3 (bounds 0 8 1 9 0 3)) (hours [])
     -- the same with O 0..1: S 1..5, E 3..7, O 1..1, compulsory part [5, 8)
     ∷ starred (rule calendar_a 3 (bounds 0 8 1 9 0 1))
-    (fits (answered (Within (window (bounds 1 5 3 7 1 1) 8 8)
-    (by (triple 1 7 1) (triple 5 3 1) (triple 5 3 1) (triple 1 7 1) (triple 1 7 1) (triple 1 7 1)))))
+    (fits (answered (Some (witnessed (window (bounds 1 5 3 7 1 1) 8 8)
+    (by (triple 1 7 1) (triple 5 3 1) (triple 5 3 1) (triple 1 7 1) (triple 1 7 1) (triple 1 7 1))))))
     ∷ starred (compulsory_part calendar_a 3 (bounds 0 8 1 9 0 1)) (hours (5 ∷ 6 ∷ 7 ∷ []))
     -- O 0..0: no valid triple
-    ∷ starred (rule calendar_a 3 (bounds 0 8 1 9 0 0)) (fits (answered Never))
+    ∷ starred (rule calendar_a 3 (bounds 0 8 1 9 0 0)) (fits (answered None))
     -- O 2..2: S 1..3, E 4..6, compulsory part [3, 7)
     ∷ starred (rule calendar_a 3 (bounds 0 8 1 9 2 2))
-    (fits (answered (Within (window (bounds 1 3 4 6 2 2) 7 7)
-    (by (triple 1 6 2) (triple 3 4 2) (triple 3 4 2) (triple 1 6 2) (triple 1 6 2) (triple 1 6 2)))))
+    (fits (answered (Some (witnessed (window (bounds 1 3 4 6 2 2) 7 7)
+    (by (triple 1 6 2) (triple 3 4 2) (triple 3 4 2) (triple 1 6 2) (triple 1 6 2) (triple 1 6 2))))))
     ∷ starred (compulsory_part calendar_a 3 (bounds 0 8 1 9 2 2)) (hours (3 ∷ 4 ∷ 5 ∷ 6 ∷ []))
     -- A: (1, 7, 1) valid; (6, 2, 1) not, it holds no overtime hour
     ∷ starred (is_valid calendar_a 3 (triple 1 7 1)) (holds true)

@@ -2,11 +2,10 @@
 // proofs/; the code is in `turns` and `propagation`.
 #![tactic(auto)]
 
-use plan::Refusal;
 use units::Bounds;
 
 // A step of a log: its kind, a letter as one byte, a task and an hour. A field that the kind does not use is 0.
-#[derive(Clone, Copy)]
+#[derive(Clone, Copy, PartialEq, Eq)]
 pub struct Step {
     pub kind: u8,
     pub task: u16,
@@ -14,7 +13,7 @@ pub struct Step {
 }
 
 // What a step comes to at its turn; where it moves a bound, the task whose bound it moves, and the bounds that the task has then.
-#[derive(Clone, Copy)]
+#[derive(Clone, Copy, PartialEq, Eq)]
 pub enum Judged {
     NotAdmitted,
     Unknown,
@@ -22,25 +21,24 @@ pub enum Judged {
     Moved { task: u16, bounds: Bounds },
 }
 
-// The first admitted step, if there is one.
-#[derive(Clone, Copy)]
-pub enum Found {
-    Nothing,
-    At(Step),
+// What the log checker answers where it accepts: the number of steps, and whether the last said impossible.
+#[derive(Clone, Copy, PartialEq, Eq)]
+pub struct Accepted {
+    pub steps: usize,
+    pub impossible: bool,
 }
 
-// What the log checker answers: a refusal, or the number of steps and whether the last said impossible.
-#[derive(Clone, Copy)]
-pub enum LogChecked {
-    Refused(Refusal),
-    Accepted { steps: usize, impossible: bool },
+// How a run of the filter ends. Without room is refusal 32.
+#[derive(Clone, Copy, PartialEq, Eq)]
+pub enum Ending {
+    Settled,
+    Impossible,
+    NoRoom,
 }
 
-// What the filter answers: a refusal, or the count of the steps taken with how the run ended. Without room is refusal 32.
-#[derive(Clone, Copy)]
-pub enum Filtered {
-    Refused(Refusal),
-    NoRoom(usize),
-    Settled(usize),
-    Impossible(usize),
+// What the filter answers where the plan passes its tests: how the run ended, and the count of the steps taken.
+#[derive(Clone, Copy, PartialEq, Eq)]
+pub struct Filtered {
+    pub ending: Ending,
+    pub count: usize,
 }

@@ -1,6 +1,6 @@
 -- Laws of hours that are compared: what the code's test tells of their numbers. Assumes nothing.
 use Rattle.std.proofs.Common.{rules}
-use Rattle.std.specs.Ordering.{is_le, is_lt, nat_cmp}
+use Rattle.std.specs.Ordering.{is_le, is_lt, is_gt, nat_cmp}
 use native.Mathlib.Decide.{dec_le}
 use mathlib.Core.Path.{◌≡◌, sym, ap, ◌∙◌}
 use mathlib.Core.Bool.{Bool, true, false}
@@ -16,6 +16,13 @@ module _ (l u : ℕ) where
   le-cmp = go (dec_le l u)
     where
       go : Dec (l ≤ u) → is_le (nat_cmp l u) ≡ leb l u
+      go (yes h) = search rules
+      go (no h) = search rules
+
+  pub gt-cmp : is_gt (nat_cmp l u) ≡ ltb u l
+  gt-cmp = go (dec_le l u)
+    where
+      go : Dec (l ≤ u) → is_gt (nat_cmp l u) ≡ ltb u l
       go (yes h) = search rules
       go (no h) = search rules
 

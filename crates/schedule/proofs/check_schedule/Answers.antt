@@ -1,6 +1,15 @@
-use mathlib.Core.Path.{sym, ap, ◌∙◌}
-use Rattle.plan.specs.Plan.{task_count}
-use Rattle.plan.specs.Refusals.{answered}
+use mathlib.Core.Path.{◌≡◌, sym, ap, ◌∙◌}
+use mathlib.Core.List.{List}
+use Prim.Native.Nat.{ℕ}
+use Rattle.std.specs.Prelude.{Some, Result}
+use Rattle.std.specs.Result.{IsErrAnd}
+use Rattle.std.proofs.lemmas.Result.{err_from_is_err_and}
+use Rattle.units.specs.Sums.{max_to}
+use Rattle.units.specs.declared.Hour.{Hour}
+use Rattle.plan.specs.declared.Refusal.{Refusal}
+use Rattle.plan.specs.Plan.{Plan}
+use Rattle.plan.specs.Refusals.{answered, fault_of}
+use Rattle.schedule.specs.Entry.{check_fault, check_schedule, schedule_answer}
 use Rattle.schedule.specs.Schedule.{makespan}
 use Rattle.schedule.proofs.Readiness.{ends-ready}
 use Rattle.schedule.proofs.Decision.{faultless, accepts, refuses, decides-as}
@@ -8,18 +17,27 @@ use Rattle.schedule.proofs.check_schedule.Goals as goal
 
 pub latest_end-requires : goal.latest_end-requires
 latest_end-requires c =
-    let known = faultless _ _ _ (sym c.in-Passed.ensures) in
-    ends-ready known.input known.feasible
+    let known = faultless _ _ _ (sym c.in_ok-test_schedule.ensures) in
+    rw c.tasks.ensures (ends-ready known.input known.feasible)
 
-pub returns-in-Refused : goal.returns-in-Refused
-returns-in-Refused c =
-    let fault = sym c.in-Refused.ensures in
-    let answer = sym (refuses _ _ _ _ fault) in
-    record { answer = answer; exactly = decides-as _ _ _ _ answer }
+-- the refusal that is handed on is the answer
+told : (P : Plan) (boxes schedule : List ℕ) (r : Result Hour Refusal) (d : Refusal) → IsErrAnd r (λ e. e ≡ d)
+    → check_fault P boxes schedule ≡ Some (fault_of d) → schedule_answer r ≡ check_schedule P boxes schedule
+told P boxes schedule r d h q = let p = err_from_is_err_and r h in rw (p.1, p.2) (sym (refuses _ _ _ _ q))
 
-pub returns-in-Passed : goal.returns-in-Passed
+pub returns-in_err-test_schedule-clause-answer : goal.returns-in_err-test_schedule-clause-answer
+returns-in_err-test_schedule-clause-answer c = told _ _ _ _ _ c.from_residual.ensures.1 (sym c.in_err-test_schedule.ensures)
+
+pub returns-in_err-test_schedule-clause-exactly : goal.returns-in_err-test_schedule-clause-exactly
+returns-in_err-test_schedule-clause-exactly c = decides-as _ _ _ _ (told _ _ _ _ _ c.from_residual.ensures.1 (sym c.in_err-test_schedule.ensures))
+
+pub returns-clause-answer : goal.returns-clause-answer
 unfolding makespan
-returns-in-Passed c =
-    let None = sym c.in-Passed.ensures in
-    let answer = ap answered c.latest_end.ensures ∙ sym (accepts _ _ _ None) in
-    record { answer = answer; exactly = decides-as _ _ _ _ answer }
+returns-clause-answer c =
+    ap answered (c.latest_end.ensures ∙ ap (max_to _) c.tasks.ensures) ∙ sym (accepts _ _ _ (sym c.in_ok-test_schedule.ensures))
+
+pub returns-clause-exactly : goal.returns-clause-exactly
+unfolding makespan
+returns-clause-exactly c =
+    decides-as _ _ _ _
+    (ap answered (c.latest_end.ensures ∙ ap (max_to _) c.tasks.ensures) ∙ sym (accepts _ _ _ (sym c.in_ok-test_schedule.ensures)))

@@ -1,13 +1,10 @@
-use mathlib.Core.Path.{sym}
+use mathlib.Core.Path.{sym, ◌∙◌}
+use Rattle.units.proofs.Hours.{lt-cmp, before, not-before}
 use Rattle.schedule.proofs.Entry.{not-started, started}
-use borrow.Author.Rules.{rules}
 use Rattle.schedule.proofs.is_running.Goals as goal
 
-pub returns-then-hour-start : goal.returns-then-hour-start
-returns-then-hour-start c = sym (not-started _ _ c.if-hour-start.true)
-
-pub since-requires : goal.since-requires
-since-requires c = search rules
+pub returns-then-lt : goal.returns-then-lt
+returns-then-lt c = sym (not-started _ _ (before _ _ (c.lt.ensures ∙ lt-cmp _ _) c.if-lt.true))
 
 pub returns : goal.returns
-returns c = started _ _ _ c.if-hour-start.false c.since.ensures
+returns c = c.lt-2.ensures ∙ lt-cmp _ _ ∙ started _ _ _ (not-before _ _ (c.lt.ensures ∙ lt-cmp _ _) c.if-lt.false) c.since.ensures

@@ -1,5 +1,7 @@
 use mathlib.Core.Path.{◌≡◌, refl}
 use native.Mathlib.Omega.{arith}
+use Rattle.std.proofs.Common.{rules}
+use Rattle.std.specs.Prelude.{max}
 use Rattle.units.specs.Sums.{max_to}
 use Rattle.units.proofs.Summing.{max-with}
 use Rattle.schedule.proofs.Entry.{ends_as, end-as}
@@ -17,7 +19,8 @@ plus-requires c =
 pub loop-i-preserved : goal.loop-i-preserved
 loop-i-preserved c =
     let end = end-as _ _ c.triple_at-t.ensures _ c.plus.ensures in
-    (omega arith, max-with _ _ _ _ _ c.loop-i.invariant.1 end c.later-latest.ensures)
+    let later : c.max-latest.result.0 ≡ max c.loop-i.latest.0 c.plus.result.0 = search rules in
+    (omega arith, max-with _ _ _ _ _ c.loop-i.invariant.1 end later)
 
 pub returns : goal.returns
 returns c =

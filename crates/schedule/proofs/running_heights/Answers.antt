@@ -17,8 +17,7 @@ pub plus-sum-requires : goal.plus-sum-requires
 plus-sum-requires c =
     let ready = c.requires in
     let small = where-most _ _ _ _ most_height c.loop-i.invariant.1 (λ j l. ready.heights j (omega arith)) in
-    let own = number_of c.height_at.ensures in
-    omega (arith, ready.tasks, ready.heights c.loop-i.i c.loop-i-test.true, small, own)
+    omega (arith, ready.tasks, ready.heights c.loop-i.i c.loop-i-test.true, small)
 
 pub loop-i-preserved : goal.loop-i-preserved
 loop-i-preserved c =
@@ -28,7 +27,7 @@ loop-i-preserved c =
       omega arith,
       elim c.if-is_running.branch [
         | then-is_running w ↦
-            number_of w.sum-is ∙ added _ w.height_at.ensures w.plus-sum.ensures
+            number_of w.sum-is ∙ added _ refl w.plus-sum.ensures
             ∙ where-more _ _ _ _ sum-is (runs_as _ _ is _ _ _ runs-is w.if-is_running.true)
         | else-is_running w ↦ number_of w.sum-is ∙ where-skip _ _ _ _ sum-is (runs_as _ _ is _ _ _ runs-is w.if-is_running.false)
       ],

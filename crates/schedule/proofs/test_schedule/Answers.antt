@@ -1,8 +1,8 @@
-use mathlib.Core.Path.{◌≡◌, sym, ap, ◌∙◌}
-use Rattle.units.proofs.Choices.{and_left, else-none, outer-ends, outer-goes-on}
-use Rattle.plan.specs.Plan.{Plan, plan, room_count, task_count}
-use Rattle.plan.specs.Refusals.{tested_fault}
-use Rattle.plan.proofs.Refusals.{go_on, refuse}
+use mathlib.Core.Path.{◌≡◌, sym, ◌∙◌}
+use Rattle.units.proofs.Choices.{and_left, else-none, else-some}
+use Rattle.plan.specs.Plan.{Plan}
+use Rattle.plan.specs.Lent.{plan_in}
+use Rattle.plan.proofs.Refusals.{go_on, refuse, handed-on}
 use Rattle.schedule.specs.Schedule.{triple_at}
 use Rattle.schedule.specs.Entry.{schedule_fault, check_fault}
 use Rattle.plan.specs.Faults.{plan_fault}
@@ -27,45 +27,35 @@ pub returns-then-not-is_right_size : goal.returns-then-not-is_right_size
 unfolding check_fault
 returns-then-not-is_right_size c = sym (refuse _ 31 0 _ (sym c.is_right_size.ensures ∙ c.if-not-is_right_size.true))
 
-pub test_plan-by_plan-requires : goal.test_plan-by_plan-requires
-test_plan-by_plan-requires c = and_left _ _ (sym c.is_right_size.ensures ∙ c.if-not-is_right_size.false)
+pub test_plan-requires : goal.test_plan-requires
+test_plan-requires c = and_left _ _ (sym c.is_right_size.ensures ∙ c.if-not-is_right_size.false)
 
-pub returns-in_default : goal.returns-in_default
+pub returns-in_err-test_plan : goal.returns-in_err-test_plan
 unfolding check_fault
-returns-in_default c =
-    outer-ends _ _ c.test_plan-by_plan.ensures (ap tested_fault c.in_default.is)
-    ∙ sym (go_on _ 31 0 _ (sym c.is_right_size.ensures ∙ c.if-not-is_right_size.false))
-
-pub test_triples-by_triples-requires : goal.test_triples-by_triples-requires
-test_triples-by_triples-requires c =
-    let a = c.args in
-    let P = plan a.hours a.capacities.now a.calendars.now a.task_calendars.now a.work_times.now a.heights.now in
-    triples-ready
-    (passing P _ _ (sym c.is_right_size.ensures ∙ c.if-not-is_right_size.false) (sym c.in-Passed.ensures))
-
-pub returns-in_default-by_triples : goal.returns-in_default-by_triples
-unfolding schedule_fault
-returns-in_default-by_triples c =
-    outer-ends _ _ c.test_triples-by_triples.ensures (ap tested_fault c.in_default-by_triples.is)
+returns-in_err-test_plan c =
+    handed-on _ _ c.from_residual.ensures.1
     ∙ sym
-    (by-schedule _ _ _
-    (passing _ _ _ (sym c.is_right_size.ensures ∙ c.if-not-is_right_size.false) (sym c.in-Passed.ensures)))
+    (go_on _ 31 0 _ (sym c.is_right_size.ensures ∙ c.if-not-is_right_size.false) ∙ else-some _ _ _ (sym c.in_err-test_plan.ensures))
+
+pub test_triples-requires : goal.test_triples-requires
+test_triples-requires c =
+    triples-ready (passing (plan_in c.args.plan.now) _ _ (sym c.is_right_size.ensures ∙ c.if-not-is_right_size.false) (sym c.in_ok-test_plan.ensures))
+
+pub returns-in_err-test_triples : goal.returns-in_err-test_triples
+unfolding schedule_fault
+returns-in_err-test_triples c =
+    let input = passing (plan_in c.args.plan.now) _ _ (sym c.is_right_size.ensures ∙ c.if-not-is_right_size.false) (sym c.in_ok-test_plan.ensures) in
+    handed-on _ _ c.from_residual-in_err-test_triples.ensures.1
+    ∙ sym (by-schedule _ _ _ input ∙ else-some _ _ _ (sym c.in_err-test_triples.ensures))
 
 pub test_hours-requires : goal.test_hours-requires
 test_hours-requires c =
-    let a = c.args in
-    let P = plan a.hours a.capacities.now a.calendars.now a.task_calendars.now a.work_times.now a.heights.now in
-    rooms_ready
-    (passing P _ _ (sym c.is_right_size.ensures ∙ c.if-not-is_right_size.false) (sym c.in-Passed.ensures))
+    rooms_ready (passing (plan_in c.args.plan.now) _ _ (sym c.is_right_size.ensures ∙ c.if-not-is_right_size.false) (sym c.in_ok-test_plan.ensures))
 
 pub returns : goal.returns
 unfolding schedule_fault
 returns c =
-    let a = c.args in
-    let P = plan a.hours a.capacities.now a.calendars.now a.task_calendars.now a.work_times.now a.heights.now in
-    let size : RightSize P a.boxes.now a.schedule.now = sym c.is_right_size.ensures ∙ c.if-not-is_right_size.false in
-    let input : InputPasses P a.boxes.now a.schedule.now =
-    passing _ _ _ size (sym c.in-Passed.ensures) in
-    outer-goes-on _ _ c.test_triples-by_triples.ensures (ap tested_fault c.in-Passed-by_triples.is)
-    (c.test_hours.ensures ∙ hours-are _ _ (room-tasks input))
-    ∙ sym (by-schedule _ _ _ input)
+    let input = passing (plan_in c.args.plan.now) _ _ (sym c.is_right_size.ensures ∙ c.if-not-is_right_size.false) (sym c.in_ok-test_plan.ensures) in
+    c.test_hours.ensures
+    ∙ hours-are _ _ (room-tasks input)
+    ∙ sym (by-schedule _ _ _ input ∙ else-none _ _ (sym c.in_ok-test_triples.ensures))
