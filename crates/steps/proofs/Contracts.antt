@@ -25,7 +25,8 @@ use Rattle.schedule.specs.Schedule.{Feasible}
 use Rattle.steps.specs.Steps.{judge}
 use Rattle.steps.specs.Log.{LogEnd, log_end, replay_from, replay_by, replay}
 use Rattle.steps.specs.Filter.{filter_order, next, Ending, settled, impossible, no_room, Run, count, run}
-use Rattle.steps.specs.Entry.{step_at, steps_from, steps_in, one_for_each_step, entry_fault, Accepted, check_log, check_answer, check_records}
+use Rattle.steps.specs.declared.Accepted.{Accepted}
+use Rattle.steps.specs.Entry.{step_at, steps_from, steps_in, one_for_each_step, entry_fault, check_log, check_answer, check_records}
 use Rattle.steps.specs.Entry.{refused_by, ending_answer, FilterEnd, logged, filter_plan}
 use Rattle.steps.specs.Claim.{said_impossible, CheckedHolds, FilterHolds}
 use Rattle.steps.proofs.Judgements.{judgement-all}

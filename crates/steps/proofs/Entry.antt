@@ -17,7 +17,8 @@ use Rattle.plan.proofs.Refusals.{unless-none, go_on, refuse}
 use Rattle.plan.proofs.Passed.{passed}
 use Rattle.steps.specs.Log.{replay_from, replay}
 use Rattle.steps.specs.Filter.{count, run}
-use Rattle.steps.specs.Entry.{steps_from, steps_in, one_for_each_step, entry_fault, Accepted, check_log, check_answer, check_records}
+use Rattle.steps.specs.declared.Accepted.{Accepted}
+use Rattle.steps.specs.Entry.{steps_from, steps_in, one_for_each_step, entry_fault, check_log, check_answer, check_records}
 use Rattle.steps.specs.Entry.{refused_by, FilterEnd, filter_end, logged, filter_plan}
 use Rattle.steps.specs.Inner.From.{check_from, logged_from, filter_from}
 use Rattle.steps.specs.Claim.{CheckedHolds, FilterHolds}

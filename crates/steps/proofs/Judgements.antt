@@ -1,4 +1,5 @@
 -- What is known of a step, by its kind, once it is judged to move a bound or to be impossible. Assumes nothing.
+use lib.Dec.{leb, ltb}
 use Rattle.std.specs.Prelude.{Option, None, Some}
 use mathlib.Core.Path.{◌≡◌, refl, subst}
 use mathlib.Core.Bool.{true, false}
@@ -7,7 +8,7 @@ use Prim.Native.Nat.{ℕ, ◌+◌, ◌-◌, ◌≤◌, ◌<◌}
 use Rattle.std.specs.Prelude.{if◌then◌else◌}
 use Rattle.units.specs.Choice.{◌and◌}
 use borrow.Author.Tests.{leb-true, leb-false, ltb-true, ltb-false}
-use Rattle.units.specs.Limits.{is_hour, is_room_number, with_earliest, with_latest}
+use Rattle.units.specs.Limits.{with_earliest, with_latest}
 use Rattle.units.proofs.Choices.{and_left, and_right, if-all, some_at}
 use Rattle.plan.specs.Plan.{Plan, room_count, task_count, capacity_of, height_of}
 use Rattle.plan.specs.Boxes.{bounds_at, with_bounds}
@@ -87,25 +88,29 @@ module _ (P : Plan) (boxes : List ℕ) (i t : ℕ) where
   known-L : i < task_count P → t < P.shifts.hours → Known kind_l (judge_l P boxes i t)
   unfolding judge_l Known
   known-L l m =
+      let within = leb (bounds_at boxes i).earliest.0 t in
       fit_all (Known kind_l) (fit_at P.shifts boxes i) _ _ (λ q. tt)
-      (λ w q. if-all (Known kind_l) (_ and _ and _) (if _ then impossible else moved _) not_admitted
+      (λ w q. if-all (Known kind_l) (ltb t (ect w) and within and excess P boxes i t) (if _ then impossible else moved _) not_admitted
       (λ a.
-      let c = crowded w l m q (and_right _ _ (and_right _ _ a)) in
-      let ends : t < ect w = ltb-true _ _ (and_left _ _ a) in
+      let rest = and_right (ltb t (ect w)) _ a in
+      let c = crowded w l m q (and_right within _ rest) in
+      let ends : t < ect w = ltb-true _ _ (and_left (ltb t (ect w)) _ a) in
       if-all (Known kind_l) _ impossible (moved _) (λ last. stops_l w c ends (leb-true _ _ last))
-      (λ more. moves_l w c ends (leb-true _ _ (and_left _ _ (and_right _ _ a))) (leb-false _ _ more) refl))
+      (λ more. moves_l w c ends (leb-true _ _ (and_left within _ rest)) (leb-false _ _ more) refl))
       (λ a. tt))
 
   known-U : i < task_count P → t < P.shifts.hours → Known kind_u (judge_u P boxes i t)
   unfolding judge_u Known
   known-U l m =
+      let within = ltb t ((bounds_at boxes i).latest.0 + (bounds_at boxes i).shortest.0) in
       fit_all (Known kind_u) (fit_at P.shifts boxes i) _ _ (λ q. tt)
-      (λ w q. if-all (Known kind_u) (_ and _ and _) (if _ then impossible else moved _) not_admitted
+      (λ w q. if-all (Known kind_u) (leb (lst w) t and within and excess P boxes i t) (if _ then impossible else moved _) not_admitted
       (λ a.
-      let c = crowded w l m q (and_right _ _ (and_right _ _ a)) in
-      let starts : lst w ≤ t = leb-true _ _ (and_left _ _ a) in
+      let rest = and_right (leb (lst w) t) _ a in
+      let c = crowded w l m q (and_right within _ rest) in
+      let starts : lst w ≤ t = leb-true _ _ (and_left (leb (lst w) t) _ a) in
       if-all (Known kind_u) _ impossible (moved _) (λ first. stops_u w c starts (ltb-true _ _ first))
-      (λ more. moves_u w c starts (ltb-true _ _ (and_left _ _ (and_right _ _ a))) (ltb-false _ _ more) refl))
+      (λ more. moves_u w c starts (ltb-true _ _ (and_left within _ rest)) (ltb-false _ _ more) refl))
       (λ a. tt))
 
   known : (k : Kind) → is_step (room_count P) (task_count P) P.shifts.hours k i t ≡ true → Known k (judge_kind P boxes k i t)

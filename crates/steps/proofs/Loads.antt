@@ -1,7 +1,7 @@
 -- Laws of sums over the tasks that pass a test, and of the load against the heights of a feasible schedule's running tasks. Assumes nothing.
 use Rattle.std.specs.Prelude.{Option, None, Some}
 use Rattle.std.specs.Prelude.{if◌then◌else◌}
-use mathlib.Core.Path.{◌≡◌, refl}
+use mathlib.Core.Path.{◌≡◌, refl, ap}
 use mathlib.Core.Bool.{Bool, true, false, not, false≢true}
 use mathlib.Core.List.{List}
 use Prim.Native.Nat.{ℕ, ◌+◌, ◌≤◌, ◌<◌}
@@ -41,10 +41,13 @@ module _ (heights : ℕ → ℕ) (n : ℕ) (must may : ℕ → Bool) (sure : (j 
       let gap = sum-gap _ _ n i (heights i) l (λ j m ne. others j m) own in omega arith
     where
       others : (j : ℕ) → j < n → (if not (eqb j i) and must j then heights j else 0) ≤ (if may j then heights j else 0)
-      others j m = if-le (not (eqb j i) and must j) (may j) (heights j) (λ q. sure j m (and_right _ _ q))
+      others j m = if-le (not (eqb j i) and must j) (may j) (heights j) (λ q. sure j m (and_right (not (eqb j i)) (must j) q))
 
       own : (if not (eqb i i) and must i then heights i else 0) + heights i ≤ (if may i then heights i else 0)
-      own = rw (if-true (may i) (heights i) 0 e, if-false (not (eqb i i) and must i) (heights i) 0 (not_left _ _ (rw (eq-eqb i i refl)))) (omega arith)
+      own =
+          let left = if-false (not (eqb i i) and must i) (heights i) 0 (not_left (not (eqb i i)) (must i) (ap not (eq-eqb i i refl))) in
+          let kept = if-true (may i) (heights i) 0 e in
+          omega (arith, left, kept)
 
 -- ---- a task that must run in an hour runs then, in each triple that its window holds
 

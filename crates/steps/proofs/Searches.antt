@@ -8,7 +8,6 @@ use Prim.Native.Nat.{ℕ}
 use lib.Dec.{eqb}
 use borrow.Author.Tests.{eqb-true, ltb-true}
 use Rattle.units.specs.Choice.{on_option, ◌or_else◌}
-use Rattle.units.specs.Limits.{is_hour, is_room_number}
 use Rattle.units.proofs.Choices.{and_left, and_right, if-false, if-all, None≢Some, else-case, neither, first-at, first-none, else-on, first_on}
 use Rattle.plan.specs.Plan.{Plan, room_count, task_count}
 use Rattle.steps.specs.declared.Step.{Step}

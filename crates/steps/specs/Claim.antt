@@ -12,7 +12,8 @@ use Rattle.schedule.specs.Schedule.{Feasible}
 use Rattle.steps.specs.declared.Step.{Step}
 use Rattle.steps.specs.Log.{LogEnd, log_end, AllAdmitted}
 use Rattle.steps.specs.Filter.{Ending, settled, impossible, no_room, if_admitted}
-use Rattle.steps.specs.Entry.{Accepted, check_answer, FilterAnswer, settled_after, impossible_after, ending_answer, FilterLeft}
+use Rattle.steps.specs.declared.Accepted.{Accepted}
+use Rattle.steps.specs.Entry.{check_answer, FilterAnswer, settled_after, impossible_after, ending_answer, FilterLeft}
 use Rattle.steps.specs.Widths.{widths}
 
 -- the run's last step said impossible

@@ -5,7 +5,7 @@ use Rattle.units.specs.Choice.{◌and◌, on_option, ◌or_else◌}
 use Rattle.units.specs.Cells.{written}
 use Rattle.plan.specs.Plan.{Plan}
 use Rattle.plan.specs.declared.Fault.{Fault}
-use Rattle.plan.specs.Refusals.{fault, unless, Answer, refused, answered, answer_unless, fault_of}
+use Rattle.plan.specs.Refusals.{fault, unless, Answer, answer_unless, fault_of}
 use Rattle.plan.specs.Faults.{is_right_size, plan_fault}
 use Rattle.steps.specs.declared.Step.{Step}
 use Rattle.steps.specs.declared.Accepted.{Accepted}

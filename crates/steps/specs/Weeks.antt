@@ -11,7 +11,7 @@ use Rattle.calendar.specs.declared.Window.{Window}
 use Rattle.calendar.specs.declared.Witnesses.{Witnesses}
 use Rattle.calendar.specs.declared.Witnessed.{Witnessed}
 use Rattle.calendar.specs.Triples.{triple, end_of, valid_triple, valid_triples}
-use Rattle.calendar.specs.Rule.{rule_of}
+use Rattle.calendar.specs.Rule.{rule_of, witnessed}
 use Rattle.calendar.specs.Entry.{calendar_rule}
 use Rattle.steps.specs.Load.{must_run}
 use Rattle.steps.specs.Steps.{step, letter_c, letter_o, letter_l, letter_u}
