@@ -1,16 +1,18 @@
 // What a step comes to at its turn, from the boxes and the answers of the calendar rule that are kept.
-ghost use Rattle.std.specs.Prelude.{◌≡◌, ℕ, ◌+◌, ◌≤◌, ◌<◌, ltb, length, if◌then◌else◌};
+ghost use Rattle.std.specs.Prelude.{◌≡◌, ℕ, ◌+◌, ◌≤◌, ◌<◌, ltb, if◌then◌else◌};
 ghost use Rattle.units.specs.Choice.{◌and◌};
 ghost use Rattle.units.specs.Limits.{most_hours, is_hour, is_room_number};
-ghost use Rattle.steps.specs.Steps.{kind_of, is_step, same_bounds};
+ghost use Rattle.plan.specs.Plan.{room_count, task_count};
+ghost use Rattle.plan.specs.Lent.{plan_in};
+ghost use Rattle.steps.specs.Steps.{kind_of, is_step};
 ghost use Rattle.turns.specs.Inner.Ready.{RoomsReady, Ready};
 ghost use Rattle.turns.specs.Inner.Kept.{exceeds, excess_by, calendar_by, lower_by, upper_by, bound_by, judge_by};
 
-use crate::load;
-use calendar::{Fit, Window};
-use plan;
+use crate::{Fits, load};
+use calendar::Window;
+use plan::Plan;
 use steps::{Judged, Step};
-use units::{Bounds, Duration, Height, Hour, MaybeBounds, MaybeHour, MaybeRoomNumber, RoomNumber};
+use units::{Bounds, Duration, Height, Hour, RoomNumber};
 
 // Whether a task of the height exceeds a room's capacity in the hour, with the other tasks' load there. A task that must run in the hour is in its
 // load already.
@@ -19,51 +21,27 @@ pub fn exceeds(w: Window, height: Height, load: Height, capacity: Height, t: Hou
     ensures { result ≡ exceeds w height.0 load.0 capacity.0 t.0 }
 {
     if load::must_run(w, t) {
-        return load.exceeds(capacity);
+        return load > capacity;
     }
-    height.plus(load).exceeds(capacity)
-}
-
-// Whether no bound differs.
-pub fn same_bounds(a: Bounds, b: Bounds) -> bool
-    ensures { result ≡ same_bounds a b }
-{
-    if a.earliest.0 != b.earliest.0 {
-        return false;
-    }
-    if a.latest.0 != b.latest.0 {
-        return false;
-    }
-    if a.shortest.0 != b.shortest.0 {
-        return false;
-    }
-    if a.longest.0 != b.longest.0 {
-        return false;
-    }
-    if a.fewest.0 != b.fewest.0 {
-        return false;
-    }
-    a.most.0 == b.most.0
+    height.plus(load) > capacity
 }
 
 // Whether task i exceeds some room's capacity in the hour.
 fn has_excess(
     w: Window,
-    capacities: &[u16],
-    tasks: usize,
-    heights: &[u16],
-    fits: [Fit; Bounds::MOST],
+    plan: &Plan,
+    fits: &Fits,
     i: usize,
     t: Hour,
 ) -> bool
-    requires { RoomsReady (length capacities.now) tasks heights.now × (i < tasks) }
-    ensures { result ≡ excess_by tasks capacities.now heights.now fits w i t.0 }
+    requires { let P = plan_in plan.now in RoomsReady (room_count P) (task_count P) P.heights × (i < task_count P) }
+    ensures { let P = plan_in plan.now in result ≡ excess_by (task_count P) P.capacities P.heights fits.now w i t.0 }
 {
-    for room in 0..capacities.len() {
-        let in_room = plan::room_part(heights, tasks, room);
+    for room in 0..plan.capacities.len() {
+        let in_room = plan.heights_of(room);
         let load = load::load_at(fits, in_room, t);
         let height = plan::height_at(in_room, i);
-        if exceeds(w, height, load, plan::height_at(capacities, room), t) {
+        if exceeds(w, height, load, plan.capacity_of(room), t) {
             return true;
         }
     }
@@ -71,14 +49,14 @@ fn has_excess(
 }
 
 // C of a task with the bounds and the calendar rule's answer.
-fn judge_calendar(fit: Fit, task: u16, b: Bounds) -> Judged
+fn judge_calendar(fit: Option<Window>, task: u16, b: Bounds) -> Judged
     ensures { result ≡ calendar_by fit task b }
 {
-    let Fit::Within(w) = fit else {
+    let Some(w) = fit else {
         return Judged::Impossible;
     };
     let bounds = w.bounds;
-    if same_bounds(bounds, b) {
+    if bounds == b {
         return Judged::NotAdmitted;
     }
     Judged::Moved { task, bounds }
@@ -88,7 +66,7 @@ fn judge_calendar(fit: Fit, task: u16, b: Bounds) -> Judged
 fn judge_load(capacity: Height, load: Height) -> Judged
     ensures { result ≡ (if ltb capacity.0 load.0 then Judged.Impossible else Judged.NotAdmitted) }
 {
-    if load.exceeds(capacity) {
+    if load > capacity {
         return Judged::Impossible;
     }
     Judged::NotAdmitted
@@ -99,16 +77,16 @@ fn judge_lower(w: Window, task: u16, b: Bounds, excess: bool, t: Hour) -> Judged
     requires { t.0 < most_hours }
     ensures { result ≡ lower_by w task b excess t.0 }
 {
-    if !t.is_before(w.ect) {
+    if t >= w.ect {
         return Judged::NotAdmitted;
     }
-    if t.is_before(b.earliest) {
+    if t < b.earliest {
         return Judged::NotAdmitted;
     }
     if !excess {
         return Judged::NotAdmitted;
     }
-    let MaybeBounds::Within(bounds) = b.starting_from(t.plus(Duration(1))) else {
+    let Some(bounds) = b.starting_from(t.plus(Duration(1))) else {
         return Judged::Impossible;
     };
     Judged::Moved { task, bounds }
@@ -120,19 +98,19 @@ fn judge_upper(w: Window, task: u16, b: Bounds, excess: bool, t: Hour) -> Judged
     requires { b.latest.0 + b.shortest.0 < 65536 }
     ensures { result ≡ upper_by w task b excess t.0 }
 {
-    if t.is_before(w.bounds.latest) {
+    if t < w.bounds.latest {
         return Judged::NotAdmitted;
     }
-    if !t.is_before(b.latest.plus(b.shortest)) {
+    if t >= b.latest.plus(b.shortest) {
         return Judged::NotAdmitted;
     }
     if !excess {
         return Judged::NotAdmitted;
     }
-    let MaybeHour::Within(latest) = t.minus(b.shortest) else {
+    let Some(latest) = t.minus(b.shortest) else {
         return Judged::Impossible;
     };
-    let MaybeBounds::Within(bounds) = b.starting_by(latest) else {
+    let Some(bounds) = b.starting_by(latest) else {
         return Judged::Impossible;
     };
     Judged::Moved { task, bounds }
@@ -141,23 +119,22 @@ fn judge_upper(w: Window, task: u16, b: Bounds, excess: bool, t: Hour) -> Judged
 // L of a task, or U: which of the two bounds of its start moves.
 fn judge_bound(
     lower: bool,
-    capacities: &[u16],
-    tasks: usize,
-    heights: &[u16],
+    plan: &Plan,
     boxes: &[u16],
-    fits: [Fit; Bounds::MOST],
+    fits: &Fits,
     task: u16,
     t: Hour,
 ) -> Judged
-    requires { Ready (length capacities.now) tasks heights.now boxes.now × (task < tasks) × (t.0 < most_hours) }
-    ensures { (hours : ℕ) → result ≡ bound_by hours tasks capacities.now heights.now boxes.now fits lower task t.0 }
+    requires { let P = plan_in plan.now in Ready (room_count P) (task_count P) P.heights boxes.now × (task < task_count P) × (t.0 < most_hours) }
+    ensures { let P = plan_in plan.now in
+        (hours : ℕ) → result ≡ bound_by hours (task_count P) P.capacities P.heights boxes.now fits.now lower task t.0 }
 {
     let i = task as usize;
     let fit = fits[i];
-    let Fit::Within(w) = fit else {
+    let Some(w) = fit else {
         return Judged::NotAdmitted;
     };
-    let excess = has_excess(w, capacities, tasks, heights, fits, i, t);
+    let excess = has_excess(w, plan, fits, i, t);
     let b = plan::bounds_at(boxes, i);
     if lower {
         return judge_lower(w, task, b, excess, t);
@@ -169,20 +146,14 @@ fn judge_bound(
 fn is_hour(hours: Duration, number: u16) -> bool
     ensures { result ≡ is_hour hours.0 number }
 {
-    let MaybeHour::Within(_) = Hour::of_plan(number, hours) else {
-        return false;
-    };
-    true
+    Hour::of_plan(number, hours).is_some()
 }
 
 // Whether the number is a room of the plan.
 fn is_room(rooms: usize, number: u16) -> bool
     ensures { result ≡ is_room_number rooms number }
 {
-    let MaybeRoomNumber::Within(_) = RoomNumber::of_plan(number, rooms) else {
-        return false;
-    };
-    true
+    RoomNumber::of_plan(number, rooms).is_some()
 }
 
 // Whether the step's task and its hour exist.
@@ -221,18 +192,15 @@ fn is_step(rooms: usize, tasks: usize, hours: Duration, x: Step) -> bool
 
 // What a step comes to at its turn.
 pub fn judge_step(
-    hours: Duration,
-    capacities: &[u16],
-    tasks: usize,
-    heights: &[u16],
+    plan: &Plan,
     boxes: &[u16],
-    fits: [Fit; Bounds::MOST],
+    fits: &Fits,
     x: Step,
 ) -> Judged
-    requires { Ready (length capacities.now) tasks heights.now boxes.now × (hours.0 ≤ most_hours) }
-    ensures { result ≡ judge_by hours.0 tasks capacities.now heights.now boxes.now fits x }
+    requires { let P = plan_in plan.now in Ready (room_count P) (task_count P) P.heights boxes.now × (P.shifts.hours ≤ most_hours) }
+    ensures { let P = plan_in plan.now in result ≡ judge_by P.shifts.hours (task_count P) P.capacities P.heights boxes.now fits.now x }
 {
-    if !is_step(capacities.len(), tasks, hours, x) {
+    if !is_step(plan.capacities.len(), plan.shifts.task_calendars.len(), plan.shifts.hours, x) {
         return Judged::Unknown;
     }
     let kind = x.kind;
@@ -241,15 +209,9 @@ pub fn judge_step(
     let t = Hour(x.hour);
     match kind {
         b'C' => judge_calendar(fits[i], task, plan::bounds_at(boxes, i)),
-        b'O' => {
-            let in_room = plan::room_part(heights, tasks, i);
-            judge_load(
-                plan::height_at(capacities, i),
-                load::load_at(fits, in_room, t),
-            )
-        }
-        b'L' => judge_bound(true, capacities, tasks, heights, boxes, fits, task, t),
-        b'U' => judge_bound(false, capacities, tasks, heights, boxes, fits, task, t),
+        b'O' => judge_load(plan.capacity_of(i), load::load_at(fits, plan.heights_of(i), t)),
+        b'L' => judge_bound(true, plan, boxes, fits, task, t),
+        b'U' => judge_bound(false, plan, boxes, fits, task, t),
         _ => Judged::Unknown,
     }
 }

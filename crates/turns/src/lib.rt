@@ -1,7 +1,13 @@
 // One turn: the loads of the hours, what a step comes to, and the search for the first admitted step.
 #![tactic(auto)]
 
+use calendar::Window;
+use units::Bounds;
+
 pub mod judge;
 mod load;
 mod search;
 pub mod turn;
+
+// The answers of the calendar rule that are kept, one for each task.
+pub type Fits = [Option<Window>; Bounds::MOST];

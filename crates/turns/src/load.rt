@@ -1,33 +1,31 @@
 // The load of each hour, from the answers of the calendar rule that are kept.
-ghost use Rattle.std.specs.Prelude.{◌≡◌, ℕ, ◌+◌, ◌*◌, ◌≤◌, ◌<◌, min, length, get_or};
+ghost use Rattle.std.specs.Prelude.{◌≡◌, ℕ, ◌+◌, ◌*◌, ◌≤◌, ◌<◌, min, length, get_or, Some};
 ghost use Rattle.units.specs.Limits.{most_hours};
 ghost use Rattle.steps.specs.Load.{must_run};
 ghost use Rattle.turns.specs.Inner.Kept.{load_of};
 ghost use Rattle.turns.specs.Inner.Finding.{part_at, Changed, Loaded};
 ghost use Rattle.turns.specs.Inner.Ready.{RoomReady, RoomsReady};
 
-use calendar::{Fit, Window};
-use units::{Bounds, Height, Hour};
+use crate::Fits;
+use calendar::Window;
+use units::{Height, Hour};
 
 // Whether the compulsory part of a task with the window holds the hour.
 pub fn must_run(w: Window, t: Hour) -> bool
-    ensures { result ≡ must_run (Fit.Within w) t.0 }
+    ensures { result ≡ must_run (Some w) t.0 }
 {
-    if t.is_before(w.bounds.latest) {
-        return false;
-    }
-    t.is_before(w.ect)
+    w.bounds.latest <= t && t < w.ect
 }
 
 // The heights in a room of the tasks whose compulsory part holds the hour, added. A task with no valid triple has none.
-pub fn load_at(fits: [Fit; Bounds::MOST], heights: &[u16], t: Hour) -> Height
+pub fn load_at(fits: &Fits, heights: &[u16], t: Hour) -> Height
     requires { RoomReady heights.now }
-    ensures { result.0 ≡ load_of fits heights.now t.0 }
+    ensures { result.0 ≡ load_of fits.now heights.now t.0 }
 {
     let mut sum = Height(0);
     for i in 0..heights.len() {
         let fit = fits[i];
-        let Fit::Within(w) = fit else {
+        let Some(w) = fit else {
             continue;
         };
         if must_run(w, t) {
@@ -42,10 +40,7 @@ pub fn clipped(end: Hour, hours: usize) -> Hour
     requires { hours ≤ most_hours }
     ensures { result.0 ≡ min end.0 hours }
 {
-    if (end.0 as usize) < hours {
-        return end;
-    }
-    Hour(hours as u16)
+    end.min(Hour(hours as u16))
 }
 
 // Adds the height in the hours of the compulsory part of a task with the window; the room's numbers begin at `from`, and no other changes.
@@ -54,7 +49,7 @@ fn add_part(loads: &mut [u16], from: usize, hours: usize, w: Window, height: Hei
         × (from + hours ≤ length loads.old)
         × ((t : ℕ) → t < hours → get_or loads.old (from + t) 0 + height.0 < 65536) }
     ensures { Changed from hours loads.old loads.new
-        × ((t : ℕ) → t < hours → get_or loads.new (from + t) 0 ≡ get_or loads.old (from + t) 0 + part_at (Fit.Within w) height.0 t) }
+        × ((t : ℕ) → t < hours → get_or loads.new (from + t) 0 ≡ get_or loads.old (from + t) 0 + part_at (Some w) height.0 t) }
 {
     let end = clipped(w.ect, hours);
     for t in w.bounds.latest.0 as usize..end.0 as usize {
@@ -69,7 +64,7 @@ fn fill_room(
     loads: &mut [u16],
     from: usize,
     hours: usize,
-    fits: [Fit; Bounds::MOST],
+    fits: &Fits,
     heights: &[u16],
 )
     requires { (hours ≤ most_hours)
@@ -77,11 +72,11 @@ fn fill_room(
         × ((t : ℕ) → t < hours → get_or loads.old (from + t) 0 ≡ 0)
         × RoomReady heights.now }
     ensures { Changed from hours loads.old loads.new
-        × ((t : ℕ) → t < hours → get_or loads.new (from + t) 0 ≡ load_of fits heights.now t) }
+        × ((t : ℕ) → t < hours → get_or loads.new (from + t) 0 ≡ load_of fits.now heights.now t) }
 {
     for j in 0..heights.len() {
         let fit = fits[j];
-        let Fit::Within(w) = fit else {
+        let Some(w) = fit else {
             continue;
         };
         add_part(loads, from, hours, w, plan::height_at(heights, j));
@@ -92,7 +87,7 @@ fn fill_room(
 pub fn fill_loads(
     loads: &mut [u16],
     hours: usize,
-    fits: [Fit; Bounds::MOST],
+    fits: &Fits,
     rooms: usize,
     tasks: usize,
     heights: &[u16],
@@ -101,7 +96,7 @@ pub fn fill_loads(
         × (length loads.old ≡ rooms * hours)
         × ((k : ℕ) → k < length loads.old → get_or loads.old k 0 ≡ 0)
         × RoomsReady rooms tasks heights.now }
-    ensures { (length loads.new ≡ length loads.old) × Loaded hours rooms tasks loads.new fits heights.now }
+    ensures { (length loads.new ≡ length loads.old) × Loaded hours rooms tasks loads.new fits.now heights.now }
 {
     for room in 0..rooms {
         let in_room = plan::room_part(heights, tasks, room);
