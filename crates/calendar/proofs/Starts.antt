@@ -17,8 +17,9 @@ use Rattle.units.proofs.Choices.{if-true, if-false, true≢false, untrue}
 use Rattle.plan.specs.HourKinds.{is_kind, regular, closed, overtime, hours_of}
 use Rattle.plan.proofs.HourKinds.{open-works}
 use Rattle.stretches.specs.declared.Stretch.{Stretch}
-use Rattle.stretches.specs.Inner.Stretches.{IsStretch, no_hours}
-use Rattle.stretches.specs.Inner.Stretches.{open_length, regular_length, stretch_of, may_end, may_last, stops_at}
+use Rattle.stretches.specs.Inner.Stretches.{IsStretch}
+use Rattle.stretches.specs.declared.TheConstants.Stretch.{NO_HOURS}
+use Rattle.stretches.specs.Inner.Stretches.{open_length, regular_length, stretch_of, may_end, may_last, shortest_at, longest_at}
 use Rattle.stretches.specs.Inner.Stretches.{lengthened}
 use Rattle.stretches.proofs.Counting.{hours-more, hours-none, hours-first, hours-mono, regulars}
 use Rattle.stretches.proofs.Lasts.{last-le, last-regulars, last-holds, regular-open, open-le, open-regular, open-last, open-past, open-itself}
@@ -364,12 +365,7 @@ module _ {cal : List ℕ} {p : ℕ} {b : Bounds} {s : ℕ} {shortest longest : S
 -- ---- from one start to the next
 
 module _ (cal : List ℕ) (p : ℕ) (b : Bounds) (s e : ℕ) where
-  at-stop-shortest : {x : Bool} → stops_at cal p b s true e ≡ x → may_end p b (stretch_of cal s e) ≡ x
-  unfolding stops_at
-  at-stop-shortest h = h
-
-  at-stop-longest : (x : Bool) → stops_at cal p b s false e ≡ x → may_last cal p b s (e + 1) ≡ not x
-  unfolding stops_at
+  at-stop-longest : (x : Bool) → longest_at cal p b s e ≡ x → may_last cal p b s (e + 1) ≡ not x
   at-stop-longest true h = not-true _ h
   at-stop-longest false h = not-false _ h
 
@@ -382,7 +378,7 @@ pub record Carried (cal : List ℕ) (p : ℕ) (b : Bounds) (s : ℕ) (shortest l
   pub none_before : (e : ℕ) → e < shortest.hours.0 → may_end p b (stretch_of cal s e) ≡ false
   pub lasts : (e : ℕ) → 1 ≤ e → e ≤ longest.hours.0 → may_last cal p b s e ≡ true
 
-pub carried_first : {cal : List ℕ} {p : ℕ} {b : Bounds} {s : ℕ} (shortest longest : Stretch) → shortest ≡ no_hours → longest ≡ no_hours
+pub carried_first : {cal : List ℕ} {p : ℕ} {b : Bounds} {s : ℕ} (shortest longest : Stretch) → shortest ≡ NO_HOURS → longest ≡ NO_HOURS
     → Carried cal p b s shortest longest
 carried_first {cal} {s = s} shortest longest short long =
     rw (short, long)
@@ -409,35 +405,35 @@ module _ {cal : List ℕ} {p : ℕ} {b : Bounds} {s : ℕ} {shortest longest : S
 
   -- lengthened, the one is the shortest end and the other the longest time
   module _ (short long : Stretch)
-      (is-short : short ≡ stretch_of cal s (lengthened cal s (stops_at cal p b s true) shortest.hours.0))
-      (is-long : long ≡ stretch_of cal s (lengthened cal s (stops_at cal p b s false) longest.hours.0)) where
-    short-hours : short.hours.0 ≡ lengthened cal s (stops_at cal p b s true) shortest.hours.0
+      (is-short : short ≡ stretch_of cal s (lengthened cal s (shortest_at cal p b s) shortest.hours.0))
+      (is-long : long ≡ stretch_of cal s (lengthened cal s (longest_at cal p b s) longest.hours.0)) where
+    short-hours : short.hours.0 ≡ lengthened cal s (shortest_at cal p b s) shortest.hours.0
     short-hours = own-hours cal s _ short is-short
 
-    long-hours : long.hours.0 ≡ lengthened cal s (stops_at cal p b s false) longest.hours.0
+    long-hours : long.hours.0 ≡ lengthened cal s (longest_at cal p b s) longest.hours.0
     long-hours = own-hours cal s _ long is-long
 
     before : (e : ℕ) → e < short.hours.0 → Dec (shortest.hours.0 ≤ e) → may_end p b (stretch_of cal s e) ≡ false
     before e l (yes h) =
-        at-stop-shortest cal p b s e (long-none cal s (stops_at cal p b s true) shortest.hours.0 e h (omega (arith, short-hours)))
+        long-none cal s (shortest_at cal p b s) shortest.hours.0 e h (omega (arith, short-hours))
     before e l (no h) = c.none_before e (omega arith)
 
     at_end : may_end p b short ≡ false → Dec (length cal ≤ s + short.hours.0) → length cal ≤ s + short.hours.0
     at_end n (yes h) = h
     at_end n (no h) =
-        let stop = long-holds cal s (stops_at cal p b s true) shortest.hours.0 (omega (arith, short-hours)) in
-        true≢false (ap (may_end p b) is-short ∙ at-stop-shortest cal p b s _ stop) n
+        let stop = long-holds cal s (shortest_at cal p b s) shortest.hours.0 (omega (arith, short-hours)) in
+        true≢false (ap (may_end p b) is-short ∙ stop) n
 
     up_to : (e : ℕ) → 1 ≤ e → e ≤ long.hours.0 → Dec (e ≤ longest.hours.0) → may_last cal p b s e ≡ true
     up_to e l u (yes h) = c.lasts e l h
     up_to e l u (no h) =
         let q : e - 1 + 1 ≡ e = omega arith in
-        let None = long-none cal s (stops_at cal p b s false) longest.hours.0 (e - 1) (omega arith) (omega (arith, long-hours)) in
+        let None = long-none cal s (longest_at cal p b s) longest.hours.0 (e - 1) (omega arith) (omega (arith, long-hours)) in
         rw q at (at-stop-longest cal p b s (e - 1) false None)
 
     past : (e : ℕ) → long.hours.0 < e → s + e ≤ length cal → may_last cal p b s e ≡ false
     past e l u =
-        let stop = long-holds cal s (stops_at cal p b s false) longest.hours.0 (omega (arith, long-hours)) in
+        let stop = long-holds cal s (longest_at cal p b s) longest.hours.0 (omega (arith, long-hours)) in
         let next : may_last cal p b s (long.hours.0 + 1) ≡ false = rw (← long-hours) at (at-stop-longest cal p b s _ true stop) in
         let shorter = last-shorter cal p b s e (long.hours.0 + 1) (omega arith) in
         untrue _ _ (λ h. lasts-may cal p b s (long.hours.0 + 1) (shorter (may-last cal p b s e h))) next
@@ -451,7 +447,7 @@ module _ {cal : List ℕ} {p : ℕ} {b : Bounds} {s : ℕ} {shortest longest : S
               record {
                 hours =
                     record {
-                      inside = omega (arith, short-hours, long-inside cal s (stops_at cal p b s true) shortest.hours.0 shortest-stretch.hours.inside);
+                      inside = omega (arith, short-hours, long-inside cal s (shortest_at cal p b s) shortest.hours.0 shortest-stretch.hours.inside);
                       short = ready.short;
                     };
                 is = own-stretch cal s _ short is-short;
@@ -460,7 +456,7 @@ module _ {cal : List ℕ} {p : ℕ} {b : Bounds} {s : ℕ} {shortest longest : S
               record {
                 hours =
                     record {
-                      inside = omega (arith, long-hours, long-inside cal s (stops_at cal p b s false) longest.hours.0 longest-stretch.hours.inside);
+                      inside = omega (arith, long-hours, long-inside cal s (longest_at cal p b s) longest.hours.0 longest-stretch.hours.inside);
                       short = ready.short;
                     };
                 is = own-stretch cal s _ long is-long;

@@ -145,13 +145,13 @@ pub fn rule(calendar: &[u8], work_time: Duration, b: Bounds) -> Option<Witnessed
     requires { RuleReady calendar.now b }
     ensures { result ≡ witnessed_rule calendar.now work_time.0 b }
 {
-    let mut shortest = reach::no_hours();
-    let mut longest = reach::no_hours();
+    let mut shortest = Stretch::NO_HOURS;
+    let mut longest = Stretch::NO_HOURS;
     let mut best = None;
     for s in b.earliest.0..b.latest.0 + 1 {
         let start = Hour(s);
-        shortest = reach::lengthen(calendar, work_time, b, start, shortest, true);
-        longest = reach::lengthen(calendar, work_time, b, start, longest, false);
+        shortest = reach::shortest_from(calendar, work_time, b, start, shortest);
+        longest = reach::longest_from(calendar, work_time, b, start, longest);
         best = with_start(calendar, work_time, b, start, shortest, longest, best);
         shortest = reach::without_first(calendar, start, shortest);
         longest = reach::without_first(calendar, start, longest);

@@ -55,5 +55,5 @@ module _ (cal : List ℕ) (s k : ℕ) (n : Counts) (are : n ≡ counts_of cal s 
   pub overtimes-le : n.overtime ≤ k
   overtimes-le = omega (arith, overtimes, hours-le overtime cal s k)
 
-  pub counts-more : with_hour n cal (s + k) ≡ counts_of cal s (k + 1)
-  counts-more = simp (are, hours-more)
+  pub counts-more : (t m : ℕ) → t ≡ s + k → m ≡ k + 1 → with_hour n cal t ≡ counts_of cal s m
+  counts-more t m at more = rw (at, more) (simp (are, hours-more))

@@ -1,5 +1,4 @@
 -- Laws of stretches of hours from one start on: one hour more, one hour less, and the tests of their ends. Assumes nothing.
-use Rattle.std.specs.Prelude.{if◌then◌else◌}
 use mathlib.Core.Path.{◌≡◌, refl, sym, ap, ◌∙◌}
 use mathlib.Core.Bool.{Bool, true, false, not}
 use mathlib.Core.List.{List}
@@ -7,20 +6,20 @@ use Prim.Native.Nat.{ℕ, suc, ◌+◌, ◌-◌, ◌≤◌, ◌<◌, min}
 use native.Mathlib.Decide.{dec_le}
 use native.Mathlib.Omega.{arith}
 use lib.ListN.{length}
-use lib.Dec.{leb}
-use borrow.Author.Tests.{le-leb, lt-leb, leb-true, eqb-true, eq-eqb}
+use borrow.Author.Tests.{le-leb, leb-true, eqb-true, eq-eqb}
 use Rattle.units.specs.Limits.{most_hours, duration}
 use Rattle.units.specs.Sums.{one_if, count_where, sum_to}
 use Rattle.units.specs.declared.Bounds.{Bounds}
 use Rattle.units.specs.declared.Duration.{Duration}
-use Rattle.units.proofs.Choices.{untrue, same-leb, and_both, and_left, and_right, not_left, not_right, if-false, if-case}
+use Rattle.units.proofs.Choices.{untrue, and_both, and_left, and_right, if-false}
 use Rattle.stretches.specs.declared.Counts.{Counts}
 use Rattle.stretches.specs.declared.Stretch.{Stretch}
+use Rattle.stretches.specs.declared.TheConstants.Stretch.{NO_HOURS}
 use Rattle.plan.specs.HourKinds.{is_kind, regular, closed, overtime, hours_of}
 use Rattle.units.specs.Inner.First.{first_from}
 use Rattle.units.proofs.FirstFrom.{from-hit, from-least, from-most, from-none, from-holds}
-use Rattle.stretches.specs.Inner.Stretches.{HasHour, IsStretch, HasRoom, no_hours, counts_of, with_hour}
-use Rattle.stretches.specs.Inner.Stretches.{without_hour, up_to_last, open_length, regular_length, stretch_of, may_end, may_last, stops_at}
+use Rattle.stretches.specs.Inner.Stretches.{Inside, HasHour, IsStretch, HasRoom, counts_of, with_hour}
+use Rattle.stretches.specs.Inner.Stretches.{without_hour, up_to_last, open_length, regular_length, stretch_of, may_end, may_last}
 use Rattle.stretches.specs.Inner.Stretches.{lengthened}
 use Rattle.stretches.proofs.Lasts.{last-rests, last_goes, last-first}
 use Rattle.stretches.proofs.Counting.{hours-more, hours-none, hours-le, hours-mono, hours-first}
@@ -28,7 +27,7 @@ use Rattle.stretches.proofs.Counting.{regulars, overtimes, regulars-le, overtime
 
 -- ---- one hour more, one hour less
 
-pub no-stretch : (cal : List ℕ) (s : ℕ) → no_hours ≡ stretch_of cal s 0
+pub no-stretch : (cal : List ℕ) (s : ℕ) → NO_HOURS ≡ stretch_of cal s 0
 unfolding up_to_last hours_of count_where sum_to
 no-stretch cal s = refl
 
@@ -40,6 +39,9 @@ module _ (cal : List ℕ) (s n : ℕ) (a : Stretch) (e : a ≡ stretch_of cal s 
   pub own-stretch : a ≡ stretch_of cal s a.hours.0
   own-stretch = e ∙ ap (stretch_of cal s) (sym own-hours)
 
+  pub is-stretch : Inside cal s n → IsStretch cal s a
+  is-stretch inside = record { hours = rw own-hours inside; is = own-stretch }
+
 module _ {cal : List ℕ} {s : ℕ} {a : Stretch} (st : IsStretch cal s a) where
   pub last-is : a.last.0 ≡ open_length cal s a.hours.0
   last-is = ap (λ (x : Stretch). x.last.0) st.is
@@ -49,9 +51,6 @@ module _ {cal : List ℕ} {s : ℕ} {a : Stretch} (st : IsStretch cal s a) where
 
   pub counts-are : a.counts ≡ counts_of cal s a.hours.0
   counts-are = ap (λ (x : Stretch). x.counts) st.is
-
-  pub counts-small : (a.counts.regular ≤ most_hours) × (a.counts.overtime ≤ most_hours)
-  counts-small = omega (arith, regulars-le _ _ _ _ counts-are, overtimes-le _ _ _ _ counts-are, st.hours.inside, st.hours.short)
 
   -- no hours are no hours from the next on
   pub no-rest : a.hours.0 < 1 → a ≡ stretch_of cal (s + 1) (a.hours.0 - 1)
@@ -107,26 +106,25 @@ module _ {cal : List ℕ} {s : ℕ} {a : Stretch} (h : HasRoom cal s a) where
   pub counts-below : (a.counts.regular < most_hours) × (a.counts.overtime < most_hours)
   counts-below = omega (arith, hours-small, regulars-le _ _ _ _ (counts-are h.stretch), overtimes-le _ _ _ _ (counts-are h.stretch))
 
-  next_last : {d last : Duration} (test : ℕ → Bool) → d.0 ≡ up_to_last test s a.hours.0
-      → last ≡ (if test (s + a.hours.0) then duration (a.hours.0 + 1) else d) → last ≡ duration (up_to_last test s (a.hours.0 + 1))
-  next_last {d} {last} test is-d q =
-      if-case (test (s + a.hours.0)) (duration (a.hours.0 + 1)) d last (sym q)
-      (λ c e. sym e ∙ ap duration (sym (last_goes test s a.hours.0 c)))
-      (λ c e. sym e ∙ ap duration (is-d ∙ sym (last-rests test s a.hours.0 c)))
+  -- the last hour at which a test holds, where it holds at the hour after, and where it does not
+  pub goes_further : (test : ℕ → Bool) {last : Duration} → test (s + a.hours.0) ≡ true → last ≡ duration (a.hours.0 + 1)
+      → last ≡ duration (up_to_last test s (a.hours.0 + 1))
+  goes_further test holds is = is ∙ ap duration (sym (last_goes test s a.hours.0 holds))
 
-  pub stretch-next : {rests works : Bool} {last regulars : Duration} {r : Counts}
-      → rests ≡ is_kind closed cal (s + a.hours.0) → works ≡ is_kind regular cal (s + a.hours.0)
-      → last ≡ (if not rests then duration (a.hours.0 + 1) else a.last)
-      → regulars ≡ (if works then duration (a.hours.0 + 1) else a.regular)
-      → r ≡ with_hour a.counts cal (s + a.hours.0)
+  pub goes_no_further : (test : ℕ → Bool) {last before : Duration} → before.0 ≡ up_to_last test s a.hours.0 → test (s + a.hours.0) ≡ false
+      → last ≡ before → last ≡ duration (up_to_last test s (a.hours.0 + 1))
+  goes_no_further test known fails is = is ∙ ap duration (known ∙ sym (last-rests test s a.hours.0 fails))
+
+  pub stretch-next : {last regulars : Duration} {r : Counts} → last ≡ duration (open_length cal s (a.hours.0 + 1))
+      → regulars ≡ duration (regular_length cal s (a.hours.0 + 1)) → r ≡ with_hour a.counts cal (s + a.hours.0)
       → ◌≡◌ {A = Stretch} (record { hours = duration (a.hours.0 + 1); last = last; regular = regulars; counts = r })
       (stretch_of cal s (a.hours.0 + 1))
-  stretch-next is-closed is-worked is_last is-regular is-r =
+  stretch-next is_last is-regular is-r =
       λ j. record {
         hours = duration (a.hours.0 + 1);
-        last = next_last (λ t. not (is_kind closed cal t)) (last-is h.stretch) (rw is-closed at is_last) j;
-        regular = next_last (λ t. is_kind regular cal t) (regular-is h.stretch) (rw is-worked at is-regular) j;
-        counts = (is-r ∙ counts-more _ _ _ _ (counts-are h.stretch)) j;
+        last = is_last j;
+        regular = is-regular j;
+        counts = (is-r ∙ counts-more _ _ _ _ (counts-are h.stretch) _ _ refl refl) j;
       }
 
 -- ---- the first length at which a test holds
@@ -158,6 +156,11 @@ module _ (cal : List ℕ) (s : ℕ) (test : ℕ → Bool) (e : ℕ) where
   unfolding lengthened
   long-holds l = from-holds test e _ (omega (arith, from-least test e (length cal - (s + e))))
 
+-- a stretch that is lengthened no more, and stops where another one does
+pub stops-with : (cal : List ℕ) (s : ℕ) (test : ℕ → Bool) {a : Stretch} {n : ℕ} → IsStretch cal s a
+    → lengthened cal s test a.hours.0 ≡ a.hours.0 → lengthened cal s test a.hours.0 ≡ n → a ≡ stretch_of cal s n
+stops-with cal s test st stops same = st.is ∙ ap (stretch_of cal s) (sym stops ∙ same)
+
 -- ---- the tests of an end
 
 pub record MayEnd (p : ℕ) (b : Bounds) (a : Stretch) : Type 0 where
@@ -183,14 +186,6 @@ module _ (p : ℕ) (b : Bounds) (a : Stretch) where
   unfolding may_end
   ends-may m = and_both _ _ (le-leb _ _ m.shortest) (and_both _ _ (le-leb _ _ m.works) (and_both _ _ (eq-eqb _ _ m.goes) (le-leb _ _ m.most)))
 
-  -- where the other tests hold, the last one decides
-  pub ends-by-most : b.shortest.0 ≤ a.hours.0 → p ≤ a.counts.regular + a.counts.overtime → a.last.0 ≡ a.hours.0 → a.counts.regular < p
-      → leb (p - a.counts.regular) b.most.0 ≡ may_end p b a
-  unfolding may_end
-  ends-by-most h₁ h₂ h₃ h₄ =
-      simp (le-leb _ _ h₁, le-leb _ _ h₂, eq-eqb _ _ h₃)
-      (same-leb (p - a.counts.regular) b.most.0 p (b.most.0 + a.counts.regular) (λ h. omega arith) (λ h. omega arith))
-
 pub record MayLast (cal : List ℕ) (p : ℕ) (b : Bounds) (s e : ℕ) : Type 0 where
   pub longest : e ≤ b.longest.0
   pub fewest : b.fewest.0 + hours_of regular cal s e ≤ p
@@ -211,11 +206,6 @@ module _ (cal : List ℕ) (p : ℕ) (b : Bounds) (s e : ℕ) where
   unfolding may_last
   lasts-may m = and_both _ _ (le-leb _ _ m.longest) (and_both _ _ (le-leb _ _ m.fewest) (le-leb _ _ m.worked))
 
-  pub lasts-by-work : (n : ℕ) → n ≡ hours_of regular cal (s + 1) (e - 2) + min e 2 → e ≤ b.longest.0 → b.fewest.0 + hours_of regular cal s e ≤ p
-      → leb n p ≡ may_last cal p b s e
-  unfolding may_last
-  lasts-by-work n q h₁ h₂ = simp (le-leb _ _ h₁, le-leb _ _ h₂) (ap (λ (k : ℕ). leb k p) q)
-
   pub last-shorter : (k : ℕ) → k ≤ e → MayLast cal p b s e → MayLast cal p b s k
   last-shorter k l m =
       record {
@@ -232,45 +222,16 @@ module _ {cal : List ℕ} {s : ℕ} {a : Stretch} (h : HasRoom cal s a) where
   pub work-le : {w : ℕ} → w ≡ one_if (is_kind regular cal (s + a.hours.0)) → a.counts.regular + w ≤ most_hours
   work-le q = omega (arith, work-next q, hours-le regular cal s (a.hours.0 + 1), hours-small h)
 
-  module _ (p : ℕ) (b : Bounds) where
-    pub too_long : b.longest.0 ≤ a.hours.0 → may_last cal p b s (a.hours.0 + 1) ≡ false
-    unfolding may_last
-    too_long l = not_left _ _ (lt-leb (a.hours.0 + 1) b.longest.0 (omega arith))
+  -- the regular hours between the first and the last, with those two
+  pub ends-between : 1 ≤ a.hours.0 → {w : ℕ} → w ≡ one_if (is_kind regular cal s)
+      → a.counts.regular - w + 2 ≡ hours_of regular cal (s + 1) (a.hours.0 + 1 - 2) + min (a.hours.0 + 1) 2
+  ends-between some {w} is-w =
+      let m : a.hours.0 + 1 - 2 ≡ a.hours.0 - 1 = omega arith in
+      rw m (omega (arith, is-w, first-regular h.stretch some))
 
-    pub too-worked : p < b.fewest.0 + hours_of regular cal s (a.hours.0 + 1) → may_last cal p b s (a.hours.0 + 1) ≡ false
-    unfolding may_last
-    too-worked l = not_right _ _ (not_left _ _ (lt-leb _ _ l))
-
-    module _ (long : a.hours.0 < b.longest.0) (few : b.fewest.0 + hours_of regular cal s (a.hours.0 + 1) ≤ p) where
-      pub first-works : a.hours.0 < 1 → leb 1 p ≡ may_last cal p b s (a.hours.0 + 1)
-      first-works l = lasts-by-work cal p b s (a.hours.0 + 1) 1 (one (omega arith)) (omega arith) few
-        where
-          one : a.hours.0 ≡ 0 → 1 ≡ hours_of regular cal (s + 1) (a.hours.0 + 1 - 2) + min (a.hours.0 + 1) 2
-          one q =
-              let m : a.hours.0 + 1 - 2 ≡ 0 = omega arith in
-              let None = ap (hours_of regular cal (s + 1)) m in
-              omega (arith, None, hours-none regular cal (s + 1))
-
-      pub ends-work : 1 ≤ a.hours.0 → {w : ℕ} → w ≡ one_if (is_kind regular cal s)
-          → leb (a.counts.regular - w + 2) p ≡ may_last cal p b s (a.hours.0 + 1)
-      ends-work Some {w} is-w = lasts-by-work cal p b s (a.hours.0 + 1) (a.counts.regular - w + 2) two (omega arith) few
-        where
-          two : a.counts.regular - w + 2 ≡ hours_of regular cal (s + 1) (a.hours.0 + 1 - 2) + min (a.hours.0 + 1) 2
-          two =
-              let m : a.hours.0 + 1 - 2 ≡ a.hours.0 - 1 = omega arith in
-              let between = ap (hours_of regular cal (s + 1)) m in
-              omega (arith, is-w, between, first-regular h.stretch Some)
-
--- ---- where a stretch stops
-
-module _ (cal : List ℕ) (p : ℕ) (b : Bounds) (s : ℕ) (shortest : Bool) where
-  pub stops-at-end : {a : Stretch} → IsStretch cal s a → shortest ≡ true → may_end p b a ≡ stops_at cal p b s shortest a.hours.0
-  unfolding stops_at
-  stops-at-end st short = rw short (ap (may_end p b) st.is)
-
-  pub stops-longer : (e : ℕ) → shortest ≡ false → not (may_last cal p b s (e + 1)) ≡ stops_at cal p b s shortest e
-  unfolding stops_at
-  stops-longer e long = rw long
+-- of one hour, which is both
+pub ends-alone : (cal : List ℕ) (s n : ℕ) → n < 1 → 1 ≡ hours_of regular cal (s + 1) (n + 1 - 2) + min (n + 1) 2
+ends-alone cal s n l = let m : n + 1 - 2 ≡ 0 = omega arith in rw m (omega (arith, hours-none regular cal (s + 1)))
 
 -- ---- the next start: a later start ends no earlier
 

@@ -13,14 +13,14 @@ use plan::{HourKind, is_kind};
 use units::{Duration, Hour};
 
 // The regular and the overtime hours of a stretch of a calendar.
-#[derive(Clone, Copy)]
+#[derive(Clone, Copy, PartialEq, Eq)]
 pub struct Counts {
     pub regular: u16,
     pub overtime: u16,
 }
 
 // So many hours from one start on, how many up to the last open one and up to the last regular one, and the counts.
-#[derive(Clone, Copy)]
+#[derive(Clone, Copy, PartialEq, Eq)]
 pub struct Stretch {
     pub hours: Duration,
     pub last: Duration,
@@ -28,12 +28,30 @@ pub struct Stretch {
     pub counts: Counts,
 }
 
+impl Counts {
+    // Of no hours.
+    pub const NO_HOURS: Counts = Counts {
+        regular: 0,
+        overtime: 0,
+    };
+}
+
+impl Stretch {
+    // Of no hours.
+    pub const NO_HOURS: Stretch = Stretch {
+        hours: Duration(0),
+        last: Duration(0),
+        regular: Duration(0),
+        counts: Counts::NO_HOURS,
+    };
+}
+
 // 1 for an hour of the kind.
 pub fn one_if(calendar: &[u8], t: usize, kind: HourKind) -> u16
     requires { t < length calendar.now }
     ensures { (result ≡ one_if (is_kind (symbol_of kind) calendar.now t)) × (result ≤ 1) }
 {
-    if is_kind(calendar, t, kind) { 1 } else { 0 }
+    u16::from(is_kind(calendar, t, kind))
 }
 
 // The counts with one hour more.
@@ -53,13 +71,10 @@ pub fn count_hours(calendar: &[u8], start: Hour, hours: Duration) -> Counts
     ensures { result ≡ counts_of calendar.now start.0 hours.0 }
 {
     let first = start.0 as usize;
-    let end = hours.0 as usize;
-    let mut n = Counts {
-        regular: 0,
-        overtime: 0,
-    };
-    for i in 0..end {
-        n = with_hour(n, calendar, first + i);
+    let end = first + hours.0 as usize;
+    let mut n = Counts::NO_HOURS;
+    for t in first..end {
+        n = with_hour(n, calendar, t);
     }
     n
 }

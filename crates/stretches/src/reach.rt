@@ -1,7 +1,10 @@
-// Stretches of hours from one start on, and how long a task that starts there may last.
-ghost use Rattle.std.specs.Prelude.{◌≡◌, ◌+◌, ◌-◌, ◌≤◌, ◌<◌, if◌then◌else◌};
-ghost use Rattle.units.specs.Limits.{most_hours, duration};
-ghost use Rattle.stretches.specs.Inner.Stretches.{HasHour, IsStretch, HasRoom, without_hour, no_hours, stretch_of, may_end, may_last, stops_at, lengthened};
+// Stretches of hours from one start on, and how long a task that starts there may last. The calendar and the start stand beside a stretch and not
+// in it: each step would have to promise that they stay.
+ghost use Rattle.std.specs.Prelude.{Bool, ℕ, ◌≡◌, ◌+◌, ◌-◌, min};
+ghost use Rattle.units.specs.Limits.{duration};
+ghost use Rattle.plan.specs.HourKinds.{regular, hours_of};
+ghost use Rattle.stretches.specs.Inner.Stretches.{HasHour, IsStretch, HasRoom, without_hour, stretch_of, may_end, may_last};
+ghost use Rattle.stretches.specs.Inner.Stretches.{AnswersAs, shortest_at, longest_at, lengthened};
 
 use crate::{Counts, Stretch, one_if, with_hour};
 use plan::{HourKind, is_kind};
@@ -11,7 +14,7 @@ use units::{Bounds, Duration, Hour};
 fn one_less(n: Duration) -> Duration
     ensures { result ≡ duration (n.0 - 1) }
 {
-    if n.0 < 1 { n } else { Duration(n.0 - 1) }
+    Duration(n.0.saturating_sub(1))
 }
 
 // The counts with one hour less, which is among those counted.
@@ -25,41 +28,19 @@ fn without_hour(n: Counts, calendar: &[u8], t: usize) -> Counts
     }
 }
 
-// No hours.
-pub fn no_hours() -> Stretch
-    ensures { result ≡ no_hours }
-{
-    Stretch {
-        hours: Duration(0),
-        last: Duration(0),
-        regular: Duration(0),
-        counts: Counts {
-            regular: 0,
-            overtime: 0,
-        },
-    }
-}
-
-// The hours up to the last one at which a test holds, with one hour more after so many.
-fn up_to_last(last: Duration, hours: Duration, holds: bool) -> Duration
-    requires { hours.0 < most_hours }
-    ensures { result ≡ (if holds then duration (hours.0 + 1) else last) }
-{
-    if holds { Duration(hours.0 + 1) } else { last }
-}
-
 // The stretch with one hour more at its end.
 fn longer(calendar: &[u8], s: Hour, a: Stretch) -> Stretch
     requires { HasRoom calendar.now s.0 a }
     ensures { result ≡ stretch_of calendar.now s.0 (a.hours.0 + 1) }
 {
     let next = (s.0 as usize) + (a.hours.0 as usize);
+    let hours = Duration(a.hours.0 + 1);
     let is_open = !is_kind(calendar, next, HourKind::Closed);
     let is_regular = is_kind(calendar, next, HourKind::Regular);
     Stretch {
-        hours: Duration(a.hours.0 + 1),
-        last: up_to_last(a.last, a.hours, is_open),
-        regular: up_to_last(a.regular, a.hours, is_regular),
+        hours,
+        last: if is_open { hours } else { a.last },
+        regular: if is_regular { hours } else { a.regular },
         counts: with_hour(a.counts, calendar, next),
     }
 }
@@ -82,24 +63,25 @@ pub fn without_first(calendar: &[u8], s: Hour, a: Stretch) -> Stretch
 
 // Whether a task may end with the stretch, by the tests that hold of a longer stretch too, and by its last hour.
 pub fn may_end(work_time: Duration, b: Bounds, a: Stretch) -> bool
-    requires { (a.counts.regular ≤ most_hours) × (a.counts.overtime ≤ most_hours) }
     ensures { result ≡ may_end work_time.0 b a }
 {
-    let p = work_time.0;
-    let worked = a.counts.regular;
-    if a.hours.0 < b.shortest.0 {
-        return false;
+    let p = u32::from(work_time.0);
+    let worked = u32::from(a.counts.regular);
+    b.shortest <= a.hours
+        && p <= worked + u32::from(a.counts.overtime)
+        && a.last == a.hours
+        && p <= worked + u32::from(b.most.0)
+}
+
+// The hours that are worked at least in the stretch with one hour more: its first and its last, which may be one, and the regular ones between.
+fn worked_ends(calendar: &[u8], s: Hour, a: Stretch) -> u16
+    requires { HasRoom calendar.now s.0 a }
+    ensures { result ≡ hours_of regular calendar.now (s.0 + 1) (a.hours.0 + 1 - 2) + min (a.hours.0 + 1) 2 }
+{
+    if a.hours.0 < 1 {
+        return 1;
     }
-    if worked + a.counts.overtime < p {
-        return false;
-    }
-    if a.last.0 != a.hours.0 {
-        return false;
-    }
-    if p <= worked {
-        return true;
-    }
-    p - worked <= b.most.0
+    a.counts.regular - one_if(calendar, s.0 as usize, HourKind::Regular) + 2
 }
 
 // Whether a task may last one hour more than the stretch, by the tests that hold of a shorter stretch too.
@@ -107,64 +89,53 @@ fn may_last(calendar: &[u8], work_time: Duration, b: Bounds, s: Hour, a: Stretch
     requires { HasRoom calendar.now s.0 a }
     ensures { result ≡ may_last calendar.now work_time.0 b s.0 (a.hours.0 + 1) }
 {
+    let next = (s.0 as usize) + (a.hours.0 as usize);
     let p = work_time.0;
-    let first = s.0 as usize;
-    if b.longest.0 <= a.hours.0 {
-        return false;
-    }
-    let worked = a.counts.regular
-        + one_if(calendar, first + (a.hours.0 as usize), HourKind::Regular);
-    if p < worked {
-        return false;
-    }
-    if p - worked < b.fewest.0 {
-        return false;
-    }
-    // The first and the last hour are worked, besides the regular hours between them.
-    if a.hours.0 < 1 {
-        return 1 <= p;
-    }
-    a.counts.regular - one_if(calendar, first, HourKind::Regular) + 2 <= p
+    let worked = a.counts.regular + one_if(calendar, next, HourKind::Regular);
+    a.hours < b.longest
+        && worked <= p
+        && b.fewest.0 <= p - worked
+        && worked_ends(calendar, s, a) <= p
 }
 
-// Whether to lengthen the stretch no more: for the shortest, since a task may end with it; for the longest, since no task may last longer.
-fn stops(
-    calendar: &[u8],
-    work_time: Duration,
-    b: Bounds,
-    s: Hour,
-    a: Stretch,
-    shortest: bool,
-) -> bool
-    requires { HasRoom calendar.now s.0 a }
-    ensures { result ≡ stops_at calendar.now work_time.0 b s.0 shortest a.hours.0 }
-{
-    if shortest {
-        return may_end(work_time, b, a);
-    }
-    !may_last(calendar, work_time, b, s, a)
-}
-
-// The stretch, lengthened to where it stops, or to the calendar's end.
-pub fn lengthen(
-    calendar: &[u8],
-    work_time: Duration,
-    b: Bounds,
-    s: Hour,
-    a: Stretch,
-    shortest: bool,
-) -> Stretch
-    requires { IsStretch calendar.now s.0 a }
-    ensures { result ≡ stretch_of calendar.now s.0
-        (lengthened calendar.now s.0 (stops_at calendar.now work_time.0 b s.0 shortest) a.hours.0) }
+// The stretch, lengthened to where a test stops it, or to the calendar's end.
+fn lengthen<F: Fn(Stretch) -> bool>(calendar: &[u8], s: Hour, a: Stretch, stops: F) -> Stretch
+    requires stretch { IsStretch calendar.now s.0 a }
+    requires asked { (at : Stretch) → HasRoom calendar.now s.0 at → F.pre stops at }
+    ensures { (test : ℕ → Bool) → AnswersAs test calendar.now s.0 (F.post stops)
+        → result ≡ stretch_of calendar.now s.0 (lengthened calendar.now s.0 test a.hours.0) }
 {
     let room = calendar.len() - (s.0 as usize);
     let mut at = a;
-    while (at.hours.0 as usize) < room {
-        if stops(calendar, work_time, b, s, at, shortest) {
-            break;
-        }
+    while (at.hours.0 as usize) < room && !stops(at) {
         at = longer(calendar, s, at);
     }
     at
+}
+
+// The shortest stretch with which a task may end, and that is no shorter than the one given; where there is none, the one to the calendar's end.
+pub fn shortest_from(
+    calendar: &[u8],
+    work_time: Duration,
+    b: Bounds,
+    s: Hour,
+    a: Stretch,
+) -> Stretch
+    requires { IsStretch calendar.now s.0 a }
+    ensures { result ≡ stretch_of calendar.now s.0 (lengthened calendar.now s.0 (shortest_at calendar.now work_time.0 b s.0) a.hours.0) }
+{
+    lengthen(calendar, s, a, |at| may_end(work_time, b, at))
+}
+
+// The longest stretch that a task may last, where it may last the one given.
+pub fn longest_from(calendar: &[u8], work_time: Duration, b: Bounds, s: Hour, a: Stretch) -> Stretch
+    requires { IsStretch calendar.now s.0 a }
+    ensures { result ≡ stretch_of calendar.now s.0 (lengthened calendar.now s.0 (longest_at calendar.now work_time.0 b s.0) a.hours.0) }
+{
+    lengthen(
+        calendar,
+        s,
+        a,
+        |at| !may_last(calendar, work_time, b, s, at),
+    )
 }

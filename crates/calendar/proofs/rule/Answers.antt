@@ -9,19 +9,19 @@ use Rattle.calendar.proofs.rule.Goals as goal
 
 pub loop-s-init : goal.loop-s-init
 unfolding with_triples witnessed_rule valid_triples
-loop-s-init c = (carried_first _ _ c.no_hours-shortest.ensures c.no_hours-longest.ensures, refl)
+loop-s-init c = (carried_first _ _ refl refl, refl)
 
-pub lengthen-shortest-requires : goal.lengthen-shortest-requires
-lengthen-shortest-requires c = shortest-stretch c.requires (omega (arith, c.loop-s-test.true)) c.loop-s.invariant.0
+pub shortest_from-shortest-requires : goal.shortest_from-shortest-requires
+shortest_from-shortest-requires c = shortest-stretch c.requires (omega (arith, c.loop-s-test.true)) c.loop-s.invariant.0
 
-pub lengthen-longest-requires : goal.lengthen-longest-requires
-lengthen-longest-requires c =
+pub longest_from-longest-requires : goal.longest_from-longest-requires
+longest_from-longest-requires c =
     longest-stretch c.requires (omega (arith, c.loop-s-test.true)) c.loop-s.invariant.0
 
 pub loop-s-preserved : goal.loop-s-preserved
 loop-s-preserved c = (
   carried-next (carried_on c.requires (omega (arith, c.loop-s-test.true)) c.loop-s.invariant.0 _ _
-      c.lengthen-shortest.ensures c.lengthen-longest.ensures) _ _ c.without_first-shortest.ensures c.without_first-longest.ensures,
+      c.shortest_from-shortest.ensures c.longest_from-longest.ensures) _ _ c.without_first-shortest.ensures c.without_first-longest.ensures,
   rw c.with_start-best.ensures (sym (with-step _ _ _ _ (omega (arith, c.loop-s-test.true))) ∙ c.loop-s.invariant.1),
 )
 
@@ -31,14 +31,14 @@ returns c = unmoved _ (over_none _ _ _ (omega arith)) ∙ c.loop-s.invariant.1
 pub with_start-best-requires : goal.with_start-best-requires
 with_start-best-requires c =
     (carried_on c.requires (omega (arith, c.loop-s-test.true)) c.loop-s.invariant.0 _ _
-    c.lengthen-shortest.ensures c.lengthen-longest.ensures)
+    c.shortest_from-shortest.ensures c.longest_from-longest.ensures)
 
 pub without_first-shortest-requires : goal.without_first-shortest-requires
 without_first-shortest-requires c =
     (carried_on c.requires (omega (arith, c.loop-s-test.true)) c.loop-s.invariant.0 _ _
-    c.lengthen-shortest.ensures c.lengthen-longest.ensures).is_shortest
+    c.shortest_from-shortest.ensures c.longest_from-longest.ensures).is_shortest
 
 pub without_first-longest-requires : goal.without_first-longest-requires
 without_first-longest-requires c =
     (carried_on c.requires (omega (arith, c.loop-s-test.true)) c.loop-s.invariant.0 _ _
-    c.lengthen-shortest.ensures c.lengthen-longest.ensures).is_longest
+    c.shortest_from-shortest.ensures c.longest_from-longest.ensures).is_longest

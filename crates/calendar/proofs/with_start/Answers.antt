@@ -1,5 +1,4 @@
 use mathlib.Core.Path.{sym, ◌∙◌}
-use Rattle.stretches.proofs.Stretches.{counts-small}
 use Rattle.calendar.proofs.Windows.{unmoved, with-window-of}
 use Rattle.calendar.proofs.Starts.{none-closed, none_between, none-ends, window-ready, window-is}
 use Rattle.calendar.proofs.with_start.Goals as goal
@@ -14,9 +13,6 @@ pub returns-then-not-may_end : goal.returns-then-not-may_end
 returns-then-not-may_end c =
     let known = c.requires in
     unmoved _ (none-ends known (sym c.may_end.ensures ∙ c.if-not-may_end.true))
-
-pub may_end-requires : goal.may_end-requires
-may_end-requires c = counts-small c.requires.is_shortest
 
 pub window_from-window-requires : goal.window_from-window-requires
 window_from-window-requires c =

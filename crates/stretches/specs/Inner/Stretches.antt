@@ -1,5 +1,5 @@
 -- Stretches of hours from one start on: their counts, their last open hour, and how long a task that starts there may last.
-use Rattle.std.specs.Prelude.{Bool, true, false, not, ◌≡◌, List, ℕ, zero, suc, ◌+◌, ◌-◌, ◌≤◌, ◌<◌, min, leb, eqb, length, if◌then◌else◌}
+use Rattle.std.specs.Prelude.{Bool, not, ◌≡◌, List, ℕ, zero, suc, ◌+◌, ◌-◌, ◌≤◌, ◌<◌, min, leb, eqb, length, if◌then◌else◌}
 use Rattle.units.specs.Choice.{◌and◌}
 use Rattle.units.specs.Limits.{most_hours, duration}
 use Rattle.units.specs.Sums.{one_if}
@@ -57,9 +57,6 @@ stretch_of cal s e =
       counts = counts_of cal s e;
     }
 
-abbrev pub no_hours : Stretch
-no_hours = record { hours = duration 0; last = duration 0; regular = duration 0; counts = record { regular = 0; overtime = 0 } }
-
 -- a stretch from s on
 pub record IsStretch (cal : List ℕ) (s : ℕ) (a : Stretch) : Type 0 where
   pub hours : Inside cal s a.hours.0
@@ -90,9 +87,15 @@ may_last cal p b s e =
     and leb (hours_of regular cal (s + 1) (e - 2) + min e 2) p
 
 -- Where a stretch from s on is lengthened no more: the shortest, since a task may end with it; the longest, since no task may last longer.
-unfoldable pub stops_at : List ℕ → ℕ → Bounds → ℕ → Bool → ℕ → Bool
-stops_at cal p b s true e = may_end p b (stretch_of cal s e)
-stops_at cal p b s false e = not (may_last cal p b s (e + 1))
+abbrev pub shortest_at : List ℕ → ℕ → Bounds → ℕ → ℕ → Bool
+shortest_at cal p b s e = may_end p b (stretch_of cal s e)
+
+abbrev pub longest_at : List ℕ → ℕ → Bounds → ℕ → ℕ → Bool
+longest_at cal p b s e = not (may_last cal p b s (e + 1))
+
+-- whatever is asked about a stretch from s on with an hour after it, the answer is the test's of its hours
+abbrev pub AnswersAs : (ℕ → Bool) → List ℕ → ℕ → (Stretch → Bool → Type 0) → Type 0
+AnswersAs test cal s asked = (a : Stretch) (answer : Bool) → HasRoom cal s a → asked a answer → answer ≡ test a.hours.0
 
 -- the first length from e on at which the test holds, or up to the calendar's end
 unfoldable pub lengthened : List ℕ → ℕ → (ℕ → Bool) → ℕ → ℕ
