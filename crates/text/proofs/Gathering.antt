@@ -14,8 +14,6 @@ use Rattle.units.specs.Choice.{on_option}
 use Rattle.text.specs.Fields.{tab, parts, first_at}
 use Rattle.text.specs.Numbers.{number_of, numbers_of}
 use Rattle.text.specs.Reading.{Gathers, NumbersMade}
-use Rattle.text.specs.declared.MaybeNumbers.{MaybeNumbers}
-use Rattle.text.specs.declared.MaybeNumbers.TheVariants.{NotNumbers, Count}
 use Rattle.text.proofs.Parts.{rest_of, end-in, part_length, part-first, part-last, part-more, next-in}
 use Rattle.text.proofs.Numbers.{number-some}
 
@@ -122,11 +120,11 @@ module _ {fields cells : List ℕ} {count from e : ℕ} (at : Gathered fields co
         }
 
 -- what the loop's caller learns, once it is known which
-module _ (o : Option (List ℕ)) (cells : List ℕ) (x : MaybeNumbers) where
-  pub made_none : NumbersMade o x cells → x ≡ NotNumbers → o ≡ None
+module _ (o : Option (List ℕ)) (cells : List ℕ) (x : Option ℕ) where
+  pub made_none : NumbersMade o x cells → x ≡ None → o ≡ None
   unfolding NumbersMade
   made_none m e = rw e at m
 
-  pub made-count : {n : ℕ} → NumbersMade o x cells → x ≡ Count n → Gathers o n cells
+  pub made-count : {n : ℕ} → NumbersMade o x cells → x ≡ Some n → Gathers o n cells
   unfolding NumbersMade
   made-count m e = rw e at m

@@ -1,16 +1,19 @@
 -- Laws of parts: a text's first part and the parts after it, and what is left of a text from an index on. Assumes nothing.
 use Rattle.std.specs.Prelude.{if◌then◌else◌}
 use mathlib.Core.Path.{◌≡◌, refl, sym, ap, ◌∙◌}
-use mathlib.Core.Bool.{Bool, true, false}
+use mathlib.Core.Bool.{Bool, true, false, cond}
 use mathlib.Core.List.{List, [], ◌∷◌}
 use Prim.Native.Nat.{ℕ, suc, ◌+◌, ◌-◌, ◌≤◌, ◌<◌}
 use native.Mathlib.Numerals.{add-one}
 use native.Mathlib.Omega.{arith}
 use lib.Dec.{eqb, ltb}
-use lib.ListN.{length, get_or, take, drop, length-drop, drop_of_length-le}
-use lib.Seq.{drop-cons, drop-drop, take_all, length-take-le}
-use borrow.Author.Tests.{eq-eqb, ne_eqb, ltb-true, ltb-false}
-use Rattle.units.proofs.Choices.{if-true, if-false}
+use lib.ListN.{length, take, drop, length-drop}
+use lib.Seq.{drop-drop, take_all, length-take-le}
+use Rattle.std.specs.Prelude.{Option, None, Some}
+use Rattle.std.specs.Option.{unwrap_or}
+use Rattle.std.specs.List.{position, position_or_len}
+use Rattle.std.proofs.lemmas.List.Recursion.{is_position_or_len}
+use borrow.Author.Tests.{ltb-true, ltb-false}
 use Rattle.text.specs.Fields.{into_first, parts, first_at}
 
 module _ (separator : ℕ) where
@@ -50,19 +53,20 @@ module _ (separator : ℕ) where
       go last true k = absurd (omega arith)
       go last false k = rw (last (omega arith))
 
-  -- a loop that looks for it
-  pub first-here : (l : List ℕ) (i : ℕ) → i < length l → get_or l i 0 ≡ separator → first_at separator (drop i l) ≡ 0
+  -- the first place at which the code's test passes
+  pub first_is : (l : List ℕ) → first_at separator l ≡ position_or_len (λ b. eqb b separator) l
   unfolding first_at
-  first-here l i h e = rw (drop-cons l i 0) (if-true _ _ _ (eq-eqb _ _ e))
+  first_is = is_position_or_len (first_at separator) (λ b. eqb b separator) refl
+      (λ b bs. let q : suc (first_at separator bs) ≡ 1 + first_at separator bs = omega arith in rw q)
 
-  pub first-later : (l : List ℕ) (i : ℕ) → i < length l → (get_or l i 0 ≡ separator → ⊥)
-      → first_at separator (drop i l) ≡ suc (first_at separator (drop (i + 1) l))
-  unfolding first_at
-  first-later l i h e = rw (add-one, drop-cons l i 0) (if-false _ _ _ (ne_eqb _ _ e))
-
-  pub first-end : (l : List ℕ) (i : ℕ) → length l ≤ i → first_at separator (drop i l) ≡ 0
-  unfolding first_at
-  first-end l i h = rw (drop_of_length-le l h)
+  -- and what the code makes of it
+  pub first_or_length : {o : Option ℕ} (l : List ℕ) {n : ℕ} → o ≡ position (λ b. eqb b separator) l → n ≡ unwrap_or o (length l) → n ≡ first_at separator l
+  first_or_length l found q = q ∙ ap (λ o. unwrap_or o (length l)) found ∙ go (ltb (position_or_len (λ b. eqb b separator) l) (length l)) refl
+    where
+      go : (t : Bool) → ltb (position_or_len (λ b. eqb b separator) l) (length l) ≡ t
+          → unwrap_or (cond t (Some (position_or_len (λ b. eqb b separator) l)) None) (length l) ≡ first_at separator l
+      go true e = sym (first_is l)
+      go false e = omega (arith, first_is l, first-within l, ltb-false (position_or_len (λ b. eqb b separator) l) (length l) e)
 
   -- the first part, and some parts after it
   pub parts_first : (l : List ℕ) → (ps : List (List ℕ)) × (parts separator l ≡ take (first_at separator l) l ∷ ps)

@@ -19,8 +19,8 @@ pub fn line_length(word: &[u8], numbers: &[usize]) -> usize
     ensures { (result ≡ length (line_of word.now numbers.now)) × (result ≤ 350) }
 {
     let mut bytes = word.len() + 1;
-    for i in 0..numbers.len() {
-        bytes += 1 + decimal_length(numbers[i]);
+    for number in numbers {
+        bytes += 1 + decimal_length(*number);
     }
     bytes
 }
