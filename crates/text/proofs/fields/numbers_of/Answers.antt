@@ -6,7 +6,7 @@ use Prim.Native.Nat.{◌+◌, ◌≤◌}
 use lib.ListN.{length}
 use Rattle.text.proofs.Parts.{part_length, next-in}
 use Rattle.text.proofs.fields.numbers_of.Goals.{Else-end-rest}
-use Rattle.text.proofs.Gathering.{gathered_none, gathered-not, gathered-few, gathered-last, gathered-more}
+use Rattle.text.proofs.Gathering.{gathered_none, gathered-not, gathered-last, gathered-more}
 use Rattle.text.proofs.fields.numbers_of.Goals as goal
 
 pub loop-count-init : goal.loop-count-init
@@ -20,13 +20,6 @@ pub returns-in_err-number_of : goal.returns-in_err-number_of
 unfolding NumbersMade
 returns-in_err-number_of c =
     rw c.from_residual.ensures (gathered-not c.loop-count.invariant.1 c.end_of-end.ensures (sym c.in_err-number_of.ensures))
-
-pub overflow_add-count : goal.overflow_add-count
-overflow_add-count c =
-    omega (
-      arith,
-      gathered-few c.loop-count.invariant.1 c.end_of-end.ensures (sym c.in_ok-number_of.ensures),
-    )
 
 pub returns-then-end-rest : goal.returns-then-end-rest
 unfolding NumbersMade

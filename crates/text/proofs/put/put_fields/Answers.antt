@@ -1,7 +1,5 @@
-use mathlib.Core.Path.{◌≡◌, refl, ◌∙◌}
+use mathlib.Core.Path.{refl, ◌∙◌}
 use native.Mathlib.Omega.{arith}
-use lib.ListN.{length}
-use lib.Seq.{take-length}
 use Rattle.text.specs.Lines.{number_fields}
 use Rattle.text.proofs.Puts.{put-none}
 use Rattle.text.proofs.Lines.{fields-room, put-field-next}
@@ -35,14 +33,3 @@ loop-number-preserved c = (
       c.put_byte-digits.ensures
       c.put_decimal-end.ensures,
 )
-
-pub returns : goal.returns
-returns c =
-    let all : c.loop-number.number-index ≡ length c.args.numbers.now = omega arith in
-    rw (all, take-length) at c.loop-number.invariant.2
-
-pub offset_bounds-numbers-number-index : goal.offset_bounds-numbers-number-index
-offset_bounds-numbers-number-index c = omega arith
-
-pub bounds-numbers-number-index : goal.bounds-numbers-number-index
-bounds-numbers-number-index c = omega arith
