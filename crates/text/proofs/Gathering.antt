@@ -7,15 +7,12 @@ use Prim.Native.Nat.{ℕ, zero, suc, ◌+◌, ◌≤◌, ◌<◌}
 use native.Mathlib.Numerals.{add-one}
 use native.Mathlib.Omega.{arith}
 use lib.Dec.{ltb}
-use lib.ListN.{length, take, drop, set, length-append, length-set}
-use lib.Seq.{take_all, take-append-le, take-suc-set}
+use lib.ListN.{length, take, drop, set, get_or, length-append, length-set, drop_of_length-le}
+use lib.Seq.{drop-cons, take_all, take-append-le, take-suc-set}
 use borrow.Author.Tests.{ltb-true, ltb-false}
 use Rattle.units.specs.Choice.{on_option}
-use Rattle.text.specs.Fields.{tab, parts, first_at}
 use Rattle.text.specs.Numbers.{number_of, numbers_of}
 use Rattle.text.specs.Reading.{Gathers, NumbersMade}
-use Rattle.text.proofs.Parts.{rest_of, end-in, part_length, part-first, part-last, part-more, next-in}
-use Rattle.text.proofs.Numbers.{number-some}
 
 -- numbers read before others
 unfoldable pub before : List ℕ → Option (List ℕ) → Option (List ℕ)
@@ -65,58 +62,48 @@ keeps-more xs cells n count e k = rw (length-set cells count n) (go (ltb count (
         rw (set_past cells count n h, take-append-le (length cells) xs (n ∷ []) (omega arith), ← k)
         (take_all (count + 1) cells (omega arith) ∙ sym (take_all count cells h))
 
--- how far the fields have been read: the numbers up to an index, kept as far as there is room; the rest decides
-pub record Gathered (fields : List ℕ) (count from : ℕ) (cells : List ℕ) : Type 0 where
-  pub inside : from ≤ length fields
-  pub few : count ≤ from
+-- how far the fields have been read: the numbers of the first of them, kept as far as there is room; the rest decides
+pub record Gathered (fields : List (List ℕ)) (count : ℕ) (cells : List ℕ) : Type 0 where
   pub so_far : List ℕ
   pub counted : count ≡ length so_far
   pub kept : take count cells ≡ take (length cells) so_far
-  pub decides : numbers_of (parts tab fields) ≡ before so_far (numbers_of (parts tab (drop from fields)))
+  pub decides : numbers_of fields ≡ before so_far (numbers_of (drop count fields))
 
-pub gathered_none : (fields cells : List ℕ) → Gathered fields 0 0 cells
+pub gathered_none : (fields : List (List ℕ)) (cells : List ℕ) → Gathered fields 0 cells
 gathered_none fields cells =
     record {
-      inside = omega arith;
-      few = omega arith;
       so_far = [];
       counted = refl;
       kept = sym (take_all (length cells) [] (omega arith));
       decides = sym (before-none _);
     }
 
--- a turn of the loop: the end of the first field of what is left
-module _ {fields cells : List ℕ} {count from e : ℕ} (at : Gathered fields count from cells) (p : e ≡ first_at tab (rest_of fields from)) where
-  pub gathered-not : number_of (take e (rest_of fields from)) ≡ None → numbers_of (parts tab fields) ≡ None
-  gathered-not k =
-      let (ps, s) = part-first tab fields from e p in
-      at.decides ∙ rw s (field-not at.so_far _ ps k)
+module _ {fields : List (List ℕ)} {cells : List ℕ} {count : ℕ} (at : Gathered fields count cells) where
+  -- no field is left
+  pub gathered-all : length fields ≤ count → Gathers (numbers_of fields) count cells
+  gathered-all h =
+      record {
+        numbers = at.so_far;
+        are = at.decides ∙ rw (drop_of_length-le fields h) (fields-end at.so_far);
+        counted = at.counted;
+        kept = at.kept;
+      }
 
-  module _ {n : ℕ} (k : number_of (take e (rest_of fields from)) ≡ Some n) where
-    pub gathered-few : count < length fields
-    gathered-few = omega (arith, at.few, end-in tab fields from e p, part_length tab fields from e p, number-some _ n k)
+  -- a turn of the loop: the next field
+  module _ (f : List ℕ) (h : count < length fields) (e : f ≡ get_or fields count f) where
+    next : drop count fields ≡ f ∷ drop (count + 1) fields
+    next = drop-cons fields count f h ∙ rw (add-one, ← e)
 
-    pub gathered-last : e ≡ length (rest_of fields from) → {cells' : List ℕ} → cells' ≡ set cells count n
-        → Gathers (numbers_of (parts tab fields)) (count + 1) cells'
-    gathered-last h s =
-        let k' : number_of (rest_of fields from) ≡ Some n = rw (take_all e (rest_of fields from) (omega arith)) at k in
+    pub gathered-not : number_of f ≡ None → numbers_of fields ≡ None
+    gathered-not k = at.decides ∙ rw next (field-not at.so_far f _ k)
+
+    pub gathered-more : {n : ℕ} → number_of f ≡ Some n → {cells' : List ℕ} → cells' ≡ set cells count n → Gathered fields (count + 1) cells'
+    gathered-more {n} k s =
         record {
-          numbers = at.so_far ++ (n ∷ []);
-          are = at.decides ∙ rw (part-last tab fields from e p h) (field_is at.so_far _ [] n k' ∙ fields-end _);
-          counted = omega (arith, at.counted, length-append at.so_far (n ∷ []));
-          kept = rw s (keeps-more at.so_far cells n count at.counted at.kept);
-        }
-
-    pub gathered-more : (e ≡ length (rest_of fields from) → ⊥) → {cells' : List ℕ} → cells' ≡ set cells count n
-        → Gathered fields (count + 1) (from + (e + 1)) cells'
-    gathered-more h s =
-        record {
-          inside = next-in tab fields from e p h at.inside;
-          few = omega (arith, at.few);
           so_far = at.so_far ++ (n ∷ []);
           counted = omega (arith, at.counted, length-append at.so_far (n ∷ []));
           kept = rw s (keeps-more at.so_far cells n count at.counted at.kept);
-          decides = at.decides ∙ rw (part-more tab fields from e p h) (field_is at.so_far _ _ n k);
+          decides = at.decides ∙ rw next (field_is at.so_far f _ n k);
         }
 
 -- what the loop's caller learns, once it is known which

@@ -11,7 +11,7 @@ use lib.ListN.{length, take, drop, length-drop}
 use lib.Seq.{drop-drop, take_all, length-take-le}
 use Rattle.std.specs.Prelude.{Option, None, Some}
 use Rattle.std.specs.Option.{unwrap_or}
-use Rattle.std.specs.List.{position, position_or_len}
+use Rattle.std.specs.List.{position, position_or_len, slice_split, onto_first}
 use Rattle.std.proofs.lemmas.List.Recursion.{is_position_or_len}
 use borrow.Author.Tests.{ltb-true, ltb-false}
 use Rattle.text.specs.Fields.{into_first, parts, first_at}
@@ -52,6 +52,16 @@ module _ (separator : ℕ) where
           → (if t then [] ∷ parts separator bs else into_first b (parts separator bs)) ≡ (b ∷ bs) ∷ []
       go last true k = absurd (omega arith)
       go last false k = rw (last (omega arith))
+
+  -- the parts that the library's `split` gives
+  pub parts_are : (l : List ℕ) → parts separator l ≡ slice_split (λ b. eqb b separator) l
+  unfolding parts into_first
+  parts_are [] = refl
+  parts_are (b ∷ bs) = rw (parts_are bs) (go (slice_split (λ b. eqb b separator) bs))
+    where
+      go : (ps : List (List ℕ)) → (if eqb b separator then [] ∷ ps else into_first b ps) ≡ cond (eqb b separator) ([] ∷ ps) (onto_first b ps)
+      go [] = refl
+      go (p ∷ ps) = refl
 
   -- the first place at which the code's test passes
   pub first_is : (l : List ℕ) → first_at separator l ≡ position_or_len (λ b. eqb b separator) l
@@ -96,12 +106,6 @@ module _ (separator : ℕ) (l : List ℕ) (from e : ℕ) (p : e ≡ first_at sep
 
   pub part_length : e ≡ length (take e (rest_of l from))
   part_length = sym (length-take-le e (rest_of l from) (omega (arith, end-in, rest-length l from)))
-
-  -- the first part, and some parts after it
-  pub part-first : (ps : List (List ℕ)) × (parts separator (drop from l) ≡ take e (rest_of l from) ∷ ps)
-  part-first =
-      let (ps, s) = parts_first separator (rest_of l from) in
-      (ps, ap (parts separator) (sym (to_end l from)) ∙ s ∙ ap (λ (n : ℕ). take n (rest_of l from) ∷ ps) (sym p))
 
   pub part-last : e ≡ length (rest_of l from) → parts separator (drop from l) ≡ rest_of l from ∷ []
   part-last h = ap (parts separator) (sym (to_end l from)) ∙ parts_last separator (rest_of l from) (sym p ∙ h)

@@ -57,7 +57,7 @@ pub fn number_of(field: &[u8]) -> Option<u16>
     Some(number as u16)
 }
 
-// Stores a number, if there is room.
+// Stores a number, if there is room. By the index: the contract of `get_mut` leaves open what the cells are where there is none.
 #[tactic(auto, using(crate::proofs::Gathering::set_past))]
 fn keep_number(cells: &mut [u16], at: usize, number: u16)
     ensures { cells.new ≡ set cells.old at number }
@@ -72,15 +72,9 @@ pub fn numbers_of(fields: &[u8], cells: &mut [u16]) -> Option<usize>
     ensures { NumbersMade (numbers_of (parts tab fields.now)) result cells.new }
 {
     let mut count = 0;
-    let mut from = 0;
-    loop {
-        let rest = &fields[from..];
-        let end = end_of(rest, TAB);
-        keep_number(cells, count, number_of(&rest[..end])?);
+    for field in fields.split(|b| *b == TAB) {
+        keep_number(cells, count, number_of(field)?);
         count += 1;
-        if end == rest.len() {
-            return Some(count);
-        }
-        from += end + 1;
     }
+    Some(count)
 }

@@ -24,7 +24,7 @@ pub fn put_all<T: Copy>(out: &mut [T], at: usize, items: &[T]) -> usize
     end
 }
 
-// A number in decimal.
+// A number in decimal. The library puts one into a text or a buffer of its own, to be copied from there, which is no plainer.
 pub fn put_decimal(out: &mut [u8], at: usize, n: usize) -> usize
     requires { at + length (decimal_text n) ≤ length out.old }
     ensures { Put (decimal_text n) at out.old result out.new }
