@@ -3,16 +3,17 @@ use mathlib.Core.Path.{◌≡◌, refl, sym, ap, ◌∙◌}
 use mathlib.Core.Bool.{Bool, true, false}
 use Rattle.std.specs.Prelude.{Option, None, Some}
 use mathlib.Core.List.{List, [], ◌∷◌, ◌++◌, append_assoc, append-nil}
-use Prim.Native.Nat.{ℕ, zero, suc, ◌+◌, ◌≤◌, ◌<◌}
+use Prim.Native.Nat.{ℕ, ◌+◌, ◌≤◌, ◌<◌}
 use native.Mathlib.Numerals.{add-one}
 use native.Mathlib.Omega.{arith}
 use lib.Dec.{ltb}
 use lib.ListN.{length, take, drop, set, get_or, length-append, length-set, drop_of_length-le}
 use lib.Seq.{drop-cons, take_all, take-append-le, take-suc-set}
 use borrow.Author.Tests.{ltb-true, ltb-false}
+use Rattle.std.proofs.lemmas.List.{set_past}
 use Rattle.units.specs.Choice.{on_option}
 use Rattle.text.specs.Numbers.{number_of, numbers_of}
-use Rattle.text.specs.Reading.{Gathers, NumbersMade}
+use Rattle.text.specs.Reading.{Begin, NumbersMade}
 
 -- numbers read before others
 unfoldable pub before : List ℕ → Option (List ℕ) → Option (List ℕ)
@@ -41,53 +42,42 @@ fields-end : (xs : List ℕ) → before xs (numbers_of []) ≡ Some xs
 unfolding before numbers_of on_option
 fields-end xs = ap Some (append-nil xs)
 
--- a store past the end changes nothing
-pub set_past : (l : List ℕ) (i n : ℕ) → length l ≤ i → set l i n ≡ l
-set_past [] i n h = refl
-set_past (x ∷ l) zero n h = absurd (omega arith)
-set_past (x ∷ l) (suc i) n h = ap (λ k. x ∷ k) (set_past l i n (omega arith))
-
 -- a number more is kept, if there is room
-keeps-more : (xs cells : List ℕ) (n count : ℕ) → count ≡ length xs → take count cells ≡ take (length cells) xs
-    → take (count + 1) (set cells count n) ≡ take (length (set cells count n)) (xs ++ (n ∷ []))
-keeps-more xs cells n count e k = rw (length-set cells count n) (go (ltb count (length cells)) refl)
+begin-more : {xs cells : List ℕ} {count : ℕ} (n : ℕ) → Begin xs count cells → Begin (xs ++ (n ∷ [])) (count + 1) (set cells count n)
+begin-more {xs} {cells} {count} n b =
+    record {
+      counted = omega (arith, b.counted, length-append xs (n ∷ []));
+      kept = rw (length-set cells count n) (go (ltb count (length cells)) refl);
+    }
   where
     go : (t : Bool) → ltb count (length cells) ≡ t → take (count + 1) (set cells count n) ≡ take (length cells) (xs ++ (n ∷ []))
     go true q =
         let h : count < length cells = ltb-true _ _ q in
-        rw (add-one, take-suc-set cells count n h, k, take_all (length cells) xs (omega arith))
-        (sym (take_all (length cells) (xs ++ (n ∷ [])) (omega (arith, length-append xs (n ∷ [])))))
+        rw (add-one, take-suc-set cells count n h, b.kept, take_all (length cells) xs (omega (arith, b.counted)))
+        (sym (take_all (length cells) (xs ++ (n ∷ [])) (omega (arith, b.counted, length-append xs (n ∷ [])))))
     go false q =
         let h : length cells ≤ count = ltb-false _ _ q in
-        rw (set_past cells count n h, take-append-le (length cells) xs (n ∷ []) (omega arith), ← k)
+        rw (set_past cells count n h, take-append-le (length cells) xs (n ∷ []) (omega (arith, b.counted)), ← b.kept)
         (take_all (count + 1) cells (omega arith) ∙ sym (take_all count cells h))
 
 -- how far the fields have been read: the numbers of the first of them, kept as far as there is room; the rest decides
 pub record Gathered (fields : List (List ℕ)) (count : ℕ) (cells : List ℕ) : Type 0 where
   pub so_far : List ℕ
-  pub counted : count ≡ length so_far
-  pub kept : take count cells ≡ take (length cells) so_far
+  pub begins : Begin so_far count cells
   pub decides : numbers_of fields ≡ before so_far (numbers_of (drop count fields))
 
 pub gathered_none : (fields : List (List ℕ)) (cells : List ℕ) → Gathered fields 0 cells
 gathered_none fields cells =
     record {
       so_far = [];
-      counted = refl;
-      kept = sym (take_all (length cells) [] (omega arith));
+      begins = record { counted = refl; kept = sym (take_all (length cells) [] (omega arith)) };
       decides = sym (before-none _);
     }
 
 module _ {fields : List (List ℕ)} {cells : List ℕ} {count : ℕ} (at : Gathered fields count cells) where
   -- no field is left
-  pub gathered-all : length fields ≤ count → Gathers (numbers_of fields) count cells
-  gathered-all h =
-      record {
-        numbers = at.so_far;
-        are = at.decides ∙ rw (drop_of_length-le fields h) (fields-end at.so_far);
-        counted = at.counted;
-        kept = at.kept;
-      }
+  pub gathered-all : length fields ≤ count → (ns : List ℕ) × (numbers_of fields ≡ Some ns) × Begin ns count cells
+  gathered-all h = (at.so_far, at.decides ∙ rw (drop_of_length-le fields h) (fields-end at.so_far), at.begins)
 
   -- a turn of the loop: the next field
   module _ (f : List ℕ) (h : count < length fields) (e : f ≡ get_or fields count f) where
@@ -101,8 +91,7 @@ module _ {fields : List (List ℕ)} {cells : List ℕ} {count : ℕ} (at : Gathe
     gathered-more {n} k s =
         record {
           so_far = at.so_far ++ (n ∷ []);
-          counted = omega (arith, at.counted, length-append at.so_far (n ∷ []));
-          kept = rw s (keeps-more at.so_far cells n count at.counted at.kept);
+          begins = rw s (begin-more n at.begins);
           decides = at.decides ∙ rw next (field_is at.so_far f _ n k);
         }
 
@@ -112,6 +101,6 @@ module _ (o : Option (List ℕ)) (cells : List ℕ) (x : Option ℕ) where
   unfolding NumbersMade
   made_none m e = rw e at m
 
-  pub made-count : {n : ℕ} → NumbersMade o x cells → x ≡ Some n → Gathers o n cells
+  pub made-count : {n : ℕ} → NumbersMade o x cells → x ≡ Some n → (ns : List ℕ) × (o ≡ Some ns) × Begin ns n cells
   unfolding NumbersMade
   made-count m e = rw e at m

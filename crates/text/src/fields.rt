@@ -58,7 +58,7 @@ pub fn number_of(field: &[u8]) -> Option<u16>
 }
 
 // Stores a number, if there is room. By the index: the contract of `get_mut` leaves open what the cells are where there is none.
-#[tactic(auto, using(crate::proofs::Gathering::set_past))]
+#[tactic(auto, using(std::proofs::lemmas::List::set_past))]
 fn keep_number(cells: &mut [u16], at: usize, number: u16)
     ensures { cells.new ≡ set cells.old at number }
 {
