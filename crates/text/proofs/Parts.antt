@@ -1,7 +1,7 @@
 -- Laws of parts: a text's first part and the parts after it, and what is left of a text from an index on. Assumes nothing.
 use Rattle.std.specs.Prelude.{if◌then◌else◌}
 use mathlib.Core.Path.{◌≡◌, refl, sym, ap, ◌∙◌}
-use mathlib.Core.Bool.{Bool, true, false, cond}
+use mathlib.Core.Bool.{Bool, true, false, cond, ◌||◌}
 use mathlib.Core.List.{List, [], ◌∷◌}
 use Prim.Native.Nat.{ℕ, suc, ◌+◌, ◌-◌, ◌≤◌, ◌<◌}
 use native.Mathlib.Numerals.{add-one}
@@ -10,8 +10,8 @@ use lib.Dec.{eqb, ltb}
 use lib.ListN.{length, take, drop, length-drop}
 use lib.Seq.{drop-drop, take_all, length-take-le}
 use Rattle.std.specs.Prelude.{Option, None, Some}
-use Rattle.std.specs.Option.{unwrap_or}
-use Rattle.std.specs.List.{position, position_or_len, slice_split, onto_first}
+use Rattle.std.specs.Option.{MatchOption, unwrap_or}
+use Rattle.std.specs.List.{list_any, position, position_or_len, slice_split, onto_first}
 use Rattle.std.proofs.lemmas.List.Recursion.{is_position_or_len}
 use borrow.Author.Tests.{ltb-true, ltb-false}
 use Rattle.text.specs.Fields.{into_first, parts, first_at}
@@ -63,20 +63,58 @@ module _ (separator : ℕ) where
       go [] = refl
       go (p ∷ ps) = refl
 
-  -- the first place at which the code's test passes
-  pub first_is : (l : List ℕ) → first_at separator l ≡ position_or_len (λ b. eqb b separator) l
+  -- ---- as the code finds it, by the library's searches
+
+  -- a byte that passes
+  abbrev here : ℕ → Bool
+  here b = eqb b separator
+
+  first_is : (l : List ℕ) → first_at separator l ≡ position_or_len here l
   unfolding first_at
-  first_is = is_position_or_len (first_at separator) (λ b. eqb b separator) refl
+  first_is = is_position_or_len (first_at separator) here refl
       (λ b bs. let q : suc (first_at separator bs) ≡ 1 + first_at separator bs = omega arith in rw q)
 
-  -- and what the code makes of it
-  pub first_or_length : {o : Option ℕ} (l : List ℕ) {n : ℕ} → o ≡ position (λ b. eqb b separator) l → n ≡ unwrap_or o (length l) → n ≡ first_at separator l
-  first_or_length l found q = q ∙ ap (λ o. unwrap_or o (length l)) found ∙ go (ltb (position_or_len (λ b. eqb b separator) l) (length l)) refl
+  -- the first that passes is the first separator; where none does, that is the length
+  module _ (l : List ℕ) where
+    first_found : MatchOption (position here l) (first_at separator l ≡ length l) (λ n. (n ≡ first_at separator l) × (n < length l))
+    first_found = go (ltb (position_or_len here l) (length l)) refl
+      where
+        go : (t : Bool) → ltb (position_or_len here l) (length l) ≡ t
+            → MatchOption (cond t (Some (position_or_len here l)) None) (first_at separator l ≡ length l) (λ n. (n ≡ first_at separator l) × (n < length l))
+        go true e = (sym (first_is l), ltb-true (position_or_len here l) (length l) e)
+        go false e = omega (arith, first_is l, first-within l, ltb-false (position_or_len here l) (length l) e)
+
+    module _ {o : Option ℕ} (found : o ≡ position here l) where
+      pub found-none : o ≡ None → first_at separator l ≡ length l
+      found-none e = rw (sym found ∙ e) at first_found
+
+      pub found-some : {n : ℕ} → o ≡ Some n → (n ≡ first_at separator l) × (n < length l)
+      found-some e = rw (sym found ∙ e) at first_found
+
+    pub first_or_length : {o : Option ℕ} → o ≡ position here l → unwrap_or o (length l) ≡ first_at separator l
+    first_or_length {o = None} found = sym (found-none found refl)
+    first_or_length {o = Some n} found = (found-some found refl).0
+
+  -- none passes, or one does
+  pub any-none : (l : List ℕ) → list_any here l ≡ false → first_at separator l ≡ length l
+  unfolding first_at
+  any-none [] e = refl
+  any-none (b ∷ bs) e = go (λ q. any-none bs q) (here b) e
     where
-      go : (t : Bool) → ltb (position_or_len (λ b. eqb b separator) l) (length l) ≡ t
-          → unwrap_or (cond t (Some (position_or_len (λ b. eqb b separator) l)) None) (length l) ≡ first_at separator l
-      go true e = sym (first_is l)
-      go false e = omega (arith, first_is l, first-within l, ltb-false (position_or_len (λ b. eqb b separator) l) (length l) e)
+      go : (list_any here bs ≡ false → first_at separator bs ≡ length bs) → (t : Bool) → (t || list_any here bs) ≡ false
+          → (if t then 0 else suc (first_at separator bs)) ≡ suc (length bs)
+      go rest true q = cc
+      go rest false q = ap suc (rest q)
+
+  pub any-some : (l : List ℕ) → list_any here l ≡ true → first_at separator l < length l
+  unfolding first_at
+  any-some [] e = cc
+  any-some (b ∷ bs) e = go (λ q. any-some bs q) (here b) e
+    where
+      go : (list_any here bs ≡ true → first_at separator bs < length bs) → (t : Bool) → (t || list_any here bs) ≡ true
+          → (if t then 0 else suc (first_at separator bs)) < suc (length bs)
+      go rest true q = omega arith
+      go rest false q = omega (arith, rest q)
 
   -- the first part, and some parts after it
   pub parts_first : (l : List ℕ) → (ps : List (List ℕ)) × (parts separator l ≡ take (first_at separator l) l ∷ ps)

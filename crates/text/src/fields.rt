@@ -1,6 +1,6 @@
 // Fields and the numbers that they are.
 ghost use Rattle.std.specs.Prelude.{◌≡◌, ◌≤◌, length, set};
-ghost use Rattle.text.specs.Fields.{tab, parts, first_at, same};
+ghost use Rattle.text.specs.Fields.{tab, parts, first_at};
 ghost use Rattle.text.specs.Numbers.{is_plain, number_of, numbers_of};
 ghost use Rattle.text.specs.Reading.{NumbersMade};
 
@@ -10,7 +10,6 @@ use crate::TAB;
 const MOST_NUMBER: usize = 65535;
 
 // Where the first separator stands, or the length.
-#[tactic(auto, using(crate::proofs::Parts::first_is))]
 pub fn end_of(bytes: &[u8], separator: u8) -> usize
     ensures { result ≡ first_at separator bytes.now }
 {
@@ -18,14 +17,6 @@ pub fn end_of(bytes: &[u8], separator: u8) -> usize
         .iter()
         .position(|b| *b == separator)
         .unwrap_or(bytes.len())
-}
-
-// Whether a field is the word.
-#[tactic(auto, using(crate::proofs::Words::same_is))]
-pub fn is_word(field: &[u8], word: &[u8]) -> bool
-    ensures { result ≡ same field.now word.now }
-{
-    field == word
 }
 
 // Whether a field is without leading zero.

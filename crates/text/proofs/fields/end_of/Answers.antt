@@ -1,4 +1,4 @@
-use Rattle.std.proofs.Common.{rules, ◌≡◌, tests}
+use Rattle.std.proofs.Common.{rules, ◌≡◌, ◌∙◌, tests}
 use Rattle.std.specs.List.{position}
 use lib.Dec.{eqb}
 use Rattle.std.proofs.lemmas.Iterator.{YieldsList-from_slice}
@@ -9,5 +9,7 @@ use Rattle.text.proofs.fields.end_of.Goals as goal
 pub returns : goal.returns
 returns c =
     let found : c.position.result ≡ position (λ b. eqb b c.args.separator) c.args.bytes.now =
-    position_from_yields_List (λ b. eqb b c.args.separator) _ _ c.position.result c.position.ensures.ran (YieldsList-from_slice _ c.iter.ensures.rest) (λ x b q k. search (rules, tests)) in
-    first_or_length c.args.separator c.args.bytes.now found c.unwrap_or.ensures
+    position_from_yields_List (λ b. eqb b c.args.separator) _ _ c.position.result c.position.ensures.ran (YieldsList-from_slice _ c.iter.ensures.rest)
+    (λ x b q k. search (rules, tests))
+    in
+    c.unwrap_or.ensures ∙ first_or_length c.args.separator c.args.bytes.now found
