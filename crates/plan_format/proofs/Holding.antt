@@ -8,7 +8,7 @@ use native.Mathlib.Nat.{mul-le-mul}
 use native.Mathlib.Omega.{arith}
 use lib.ListN.{length, get_or, length-map}
 use Rattle.units.specs.Choice.{on_option}
-use Rattle.units.specs.Limits.{most_hours, most_calendars, most_rooms, most_tasks, is_plan_length, is_calendar_count}
+use Rattle.units.specs.Limits.{most_hours, most_calendars, most_rooms, most_tasks}
 use Rattle.units.proofs.Choices.{and_left, neither}
 use Rattle.units.proofs.Ranges.{to-most}
 use Rattle.plan.specs.Plan.{task_count, first_symbol}

@@ -10,7 +10,7 @@ use native.Mathlib.Omega.{arith}
 use lib.Dec.{eqb}
 use lib.ListN.{length, get_or, take, drop, length-append, length-drop, get_or-append}
 use lib.Seq.{get_or-drop, drop_at}
-use Rattle.units.specs.Limits.{most_hours, most_calendars, most_capacity, box_numbers, is_plan_length, is_calendar_count}
+use Rattle.units.specs.Limits.{most_hours, most_calendars, most_capacity, box_numbers}
 use Rattle.units.specs.Lists.{list_to}
 use Rattle.units.proofs.Choices.{and_both}
 use Rattle.units.proofs.Lists.{list_length, list_at, list-map, list-eq, list-take, list-cells}

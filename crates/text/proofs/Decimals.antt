@@ -1,10 +1,11 @@
 -- Laws of numbers as they are printed: digit by digit, read back as the same number, and how long they are. Assumes nothing.
 use Rattle.std.specs.Prelude.{if◌then◌else◌}
-use mathlib.Core.Path.{◌≡◌, refl, ap, ◌∙◌}
+use mathlib.Core.Path.{◌≡◌, refl, sym, ap, ◌∙◌}
 use mathlib.Core.Bool.{Bool, true, false, not}
 use Rattle.std.specs.Prelude.{Some}
 use mathlib.Core.List.{List, [], ◌∷◌, ◌++◌}
-use Prim.Native.Nat.{ℕ, zero, suc, ◌+◌, ◌-◌, ◌*◌, ◌/◌, ◌%◌, ◌≤◌, ◌<◌}
+use Prim.Native.Nat.{ℕ, zero, suc, ◌+◌, ◌-◌, ◌*◌, ◌/◌, ◌%◌, ◌^◌, max, ◌≤◌, ◌<◌}
+use native.Mathlib.Nat.{pow-succ'}
 use native.Mathlib.Omega.{arith}
 use lib.Dec.{ltb, eqb}
 use lib.ListN.{length, get_or, length-append, get_or-append}
@@ -126,3 +127,17 @@ decimal-width k n l = decimal-all (λ n ds. (k : ℕ) → n < reach (suc k) → 
         → length (ds ++ (digit (n % 10) ∷ [])) ≤ suc k
     more n ds h f zero l = absurd (omega arith)
     more n ds h f (suc k) l = omega (arith, length-append ds (digit (n % 10) ∷ []), f k (omega arith))
+
+-- a digit more than the power of ten below it
+reach_is : (k : ℕ) → (reach k ≡ 10 ^ k) × (1 ≤ reach k)
+reach_is zero = (refl, omega arith)
+reach_is (suc k) = (omega (arith, pow-succ' 10 k, (reach_is k).0), omega (arith, (reach_is k).1))
+
+digits-in : (k n : ℕ) → reach k ≤ max n 1 → n < reach (suc k) → length (decimal_text n) ≡ k + 1
+digits-in zero n p l = ap length (decimal-one n l)
+digits-in (suc k) n p l =
+    let h : 10 ≤ n = omega (arith, (reach_is k).1) in
+    omega (arith, decimal-longer n h, digits-in k (n / 10) (omega arith) (omega arith))
+
+pub decimal_digits : (n k : ℕ) → 10 ^ k ≤ max n 1 → max n 1 < 10 * 10 ^ k → k + 1 ≡ length (decimal_text n)
+decimal_digits n k p l = sym (digits-in k n (omega (arith, (reach_is k).0)) (omega (arith, (reach_is k).0)))

@@ -3,21 +3,17 @@ use mathlib.Core.Path.{◌≡◌, refl, sym, ap, ◌∙◌}
 use mathlib.Core.Bool.{Bool, true, false}
 use Rattle.std.specs.Prelude.{Option, None, Some}
 use mathlib.Core.List.{List, [], ◌∷◌, ◌++◌, append_assoc, append-nil}
-use Prim.Native.Nat.{ℕ, zero, suc, ◌+◌, ◌≤◌, ◌<◌}
+use Prim.Native.Nat.{ℕ, ◌+◌, ◌≤◌, ◌<◌}
 use native.Mathlib.Numerals.{add-one}
 use native.Mathlib.Omega.{arith}
 use lib.Dec.{ltb}
-use lib.ListN.{length, take, drop, set, length-append, length-set}
-use lib.Seq.{take_all, take-append-le, take-suc-set}
+use lib.ListN.{length, take, drop, set, get_or, length-append, length-set, drop_of_length-le}
+use lib.Seq.{drop-cons, take_all, take-append-le, take-suc-set}
 use borrow.Author.Tests.{ltb-true, ltb-false}
+use Rattle.std.proofs.lemmas.List.{set_past}
 use Rattle.units.specs.Choice.{on_option}
-use Rattle.text.specs.Fields.{tab, parts, first_at}
 use Rattle.text.specs.Numbers.{number_of, numbers_of}
-use Rattle.text.specs.Reading.{Gathers, NumbersMade}
-use Rattle.text.specs.declared.MaybeNumbers.{MaybeNumbers}
-use Rattle.text.specs.declared.MaybeNumbers.TheVariants.{NotNumbers, Count}
-use Rattle.text.proofs.Parts.{rest_of, end-in, part_length, part-first, part-last, part-more, next-in}
-use Rattle.text.proofs.Numbers.{number-some}
+use Rattle.text.specs.Reading.{Begin, NumbersMade}
 
 -- numbers read before others
 unfoldable pub before : List ℕ → Option (List ℕ) → Option (List ℕ)
@@ -46,87 +42,65 @@ fields-end : (xs : List ℕ) → before xs (numbers_of []) ≡ Some xs
 unfolding before numbers_of on_option
 fields-end xs = ap Some (append-nil xs)
 
--- a store past the end changes nothing
-pub set_past : (l : List ℕ) (i n : ℕ) → length l ≤ i → set l i n ≡ l
-set_past [] i n h = refl
-set_past (x ∷ l) zero n h = absurd (omega arith)
-set_past (x ∷ l) (suc i) n h = ap (λ k. x ∷ k) (set_past l i n (omega arith))
-
 -- a number more is kept, if there is room
-keeps-more : (xs cells : List ℕ) (n count : ℕ) → count ≡ length xs → take count cells ≡ take (length cells) xs
-    → take (count + 1) (set cells count n) ≡ take (length (set cells count n)) (xs ++ (n ∷ []))
-keeps-more xs cells n count e k = rw (length-set cells count n) (go (ltb count (length cells)) refl)
+begin-more : {xs cells : List ℕ} {count : ℕ} (n : ℕ) → Begin xs count cells → Begin (xs ++ (n ∷ [])) (count + 1) (set cells count n)
+begin-more {xs} {cells} {count} n b =
+    record {
+      counted = omega (arith, b.counted, length-append xs (n ∷ []));
+      kept = rw (length-set cells count n) (go (ltb count (length cells)) refl);
+    }
   where
     go : (t : Bool) → ltb count (length cells) ≡ t → take (count + 1) (set cells count n) ≡ take (length cells) (xs ++ (n ∷ []))
     go true q =
         let h : count < length cells = ltb-true _ _ q in
-        rw (add-one, take-suc-set cells count n h, k, take_all (length cells) xs (omega arith))
-        (sym (take_all (length cells) (xs ++ (n ∷ [])) (omega (arith, length-append xs (n ∷ [])))))
+        rw (add-one, take-suc-set cells count n h, b.kept, take_all (length cells) xs (omega (arith, b.counted)))
+        (sym (take_all (length cells) (xs ++ (n ∷ [])) (omega (arith, b.counted, length-append xs (n ∷ [])))))
     go false q =
         let h : length cells ≤ count = ltb-false _ _ q in
-        rw (set_past cells count n h, take-append-le (length cells) xs (n ∷ []) (omega arith), ← k)
+        rw (set_past cells count n h, take-append-le (length cells) xs (n ∷ []) (omega (arith, b.counted)), ← b.kept)
         (take_all (count + 1) cells (omega arith) ∙ sym (take_all count cells h))
 
--- how far the fields have been read: the numbers up to an index, kept as far as there is room; the rest decides
-pub record Gathered (fields : List ℕ) (count from : ℕ) (cells : List ℕ) : Type 0 where
-  pub inside : from ≤ length fields
-  pub few : count ≤ from
+-- how far the fields have been read: the numbers of the first of them, kept as far as there is room; the rest decides
+pub record Gathered (fields : List (List ℕ)) (count : ℕ) (cells : List ℕ) : Type 0 where
   pub so_far : List ℕ
-  pub counted : count ≡ length so_far
-  pub kept : take count cells ≡ take (length cells) so_far
-  pub decides : numbers_of (parts tab fields) ≡ before so_far (numbers_of (parts tab (drop from fields)))
+  pub begins : Begin so_far count cells
+  pub decides : numbers_of fields ≡ before so_far (numbers_of (drop count fields))
 
-pub gathered_none : (fields cells : List ℕ) → Gathered fields 0 0 cells
+pub gathered_none : (fields : List (List ℕ)) (cells : List ℕ) → Gathered fields 0 cells
 gathered_none fields cells =
     record {
-      inside = omega arith;
-      few = omega arith;
       so_far = [];
-      counted = refl;
-      kept = sym (take_all (length cells) [] (omega arith));
+      begins = record { counted = refl; kept = sym (take_all (length cells) [] (omega arith)) };
       decides = sym (before-none _);
     }
 
--- a turn of the loop: the end of the first field of what is left
-module _ {fields cells : List ℕ} {count from e : ℕ} (at : Gathered fields count from cells) (p : e ≡ first_at tab (rest_of fields from)) where
-  pub gathered-not : number_of (take e (rest_of fields from)) ≡ None → numbers_of (parts tab fields) ≡ None
-  gathered-not k =
-      let (ps, s) = part-first tab fields from e p in
-      at.decides ∙ rw s (field-not at.so_far _ ps k)
+module _ {fields : List (List ℕ)} {cells : List ℕ} {count : ℕ} (at : Gathered fields count cells) where
+  -- no field is left
+  pub gathered-all : length fields ≤ count → (ns : List ℕ) × (numbers_of fields ≡ Some ns) × Begin ns count cells
+  gathered-all h = (at.so_far, at.decides ∙ rw (drop_of_length-le fields h) (fields-end at.so_far), at.begins)
 
-  module _ {n : ℕ} (k : number_of (take e (rest_of fields from)) ≡ Some n) where
-    pub gathered-few : count < length fields
-    gathered-few = omega (arith, at.few, end-in tab fields from e p, part_length tab fields from e p, number-some _ n k)
+  -- a turn of the loop: the next field
+  module _ (f : List ℕ) (h : count < length fields) (e : f ≡ get_or fields count f) where
+    next : drop count fields ≡ f ∷ drop (count + 1) fields
+    next = drop-cons fields count f h ∙ rw (add-one, ← e)
 
-    pub gathered-last : e ≡ length (rest_of fields from) → {cells' : List ℕ} → cells' ≡ set cells count n
-        → Gathers (numbers_of (parts tab fields)) (count + 1) cells'
-    gathered-last h s =
-        let k' : number_of (rest_of fields from) ≡ Some n = rw (take_all e (rest_of fields from) (omega arith)) at k in
+    pub gathered-not : number_of f ≡ None → numbers_of fields ≡ None
+    gathered-not k = at.decides ∙ rw next (field-not at.so_far f _ k)
+
+    pub gathered-more : {n : ℕ} → number_of f ≡ Some n → {cells' : List ℕ} → cells' ≡ set cells count n → Gathered fields (count + 1) cells'
+    gathered-more {n} k s =
         record {
-          numbers = at.so_far ++ (n ∷ []);
-          are = at.decides ∙ rw (part-last tab fields from e p h) (field_is at.so_far _ [] n k' ∙ fields-end _);
-          counted = omega (arith, at.counted, length-append at.so_far (n ∷ []));
-          kept = rw s (keeps-more at.so_far cells n count at.counted at.kept);
-        }
-
-    pub gathered-more : (e ≡ length (rest_of fields from) → ⊥) → {cells' : List ℕ} → cells' ≡ set cells count n
-        → Gathered fields (count + 1) (from + (e + 1)) cells'
-    gathered-more h s =
-        record {
-          inside = next-in tab fields from e p h at.inside;
-          few = omega (arith, at.few);
           so_far = at.so_far ++ (n ∷ []);
-          counted = omega (arith, at.counted, length-append at.so_far (n ∷ []));
-          kept = rw s (keeps-more at.so_far cells n count at.counted at.kept);
-          decides = at.decides ∙ rw (part-more tab fields from e p h) (field_is at.so_far _ _ n k);
+          begins = rw s (begin-more n at.begins);
+          decides = at.decides ∙ rw next (field_is at.so_far f _ n k);
         }
 
 -- what the loop's caller learns, once it is known which
-module _ (o : Option (List ℕ)) (cells : List ℕ) (x : MaybeNumbers) where
-  pub made_none : NumbersMade o x cells → x ≡ NotNumbers → o ≡ None
+module _ (o : Option (List ℕ)) (cells : List ℕ) (x : Option ℕ) where
+  pub made_none : NumbersMade o x cells → x ≡ None → o ≡ None
   unfolding NumbersMade
   made_none m e = rw e at m
 
-  pub made-count : {n : ℕ} → NumbersMade o x cells → x ≡ Count n → Gathers o n cells
+  pub made-count : {n : ℕ} → NumbersMade o x cells → x ≡ Some n → (ns : List ℕ) × (o ≡ Some ns) × Begin ns n cells
   unfolding NumbersMade
   made-count m e = rw e at m

@@ -8,7 +8,10 @@ use native.Mathlib.Numerals.{add-one}
 use native.Mathlib.Omega.{arith}
 use lib.ListN.{length, get_or, drop, drop_of_length-le}
 use lib.Seq.{drop-cons}
-use borrow.Author.Tests.{lt-leb, le-leb, leb-true}
+use lib.Dec.{leb, eqb}
+use borrow.Author.Tests.{lt-leb, le-leb, leb-true, eqb-true, eqb-false}
+use Rattle.std.specs.Char.{is_ascii_digit}
+use Rattle.text.proofs.Words.{and_is}
 use Rattle.units.specs.Choice.{◌and◌}
 use Rattle.units.specs.Limits.{within}
 use Rattle.units.proofs.Choices.{not_left, not_right, none-if, some-if, if_some, and_both, and_left}
@@ -34,6 +37,17 @@ module _ (l : List ℕ) (i : ℕ) where
   pub decimal-end : (n : ℕ) → length l ≤ i → decimal n (drop i l) ≡ n
   unfolding decimal
   decimal-end n h = rw (drop_of_length-le l h)
+
+-- a digit, as the library tests it
+pub digit_is : (b : ℕ) → within 48 57 b ≡ is_ascii_digit b
+unfolding within
+digit_is b = and_is (leb 48 b) (leb b 57)
+
+pub empty-is : (l : List ℕ) → eqb (length l) 0 ≡ true → length l < 1
+empty-is l e = omega (arith, eqb-true (length l) 0 e)
+
+pub not-empty : (l : List ℕ) → eqb (length l) 0 ≡ false → 1 ≤ length l
+not-empty l e = omega (arith, eqb-false (length l) 0 e)
 
 -- more digits make no smaller number
 pub decimal-least : (n : ℕ) (bs : List ℕ) → n ≤ decimal n bs

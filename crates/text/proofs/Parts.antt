@@ -1,16 +1,19 @@
 -- Laws of parts: a text's first part and the parts after it, and what is left of a text from an index on. Assumes nothing.
 use Rattle.std.specs.Prelude.{if◌then◌else◌}
 use mathlib.Core.Path.{◌≡◌, refl, sym, ap, ◌∙◌}
-use mathlib.Core.Bool.{Bool, true, false}
+use mathlib.Core.Bool.{Bool, true, false, cond, ◌||◌}
 use mathlib.Core.List.{List, [], ◌∷◌}
 use Prim.Native.Nat.{ℕ, suc, ◌+◌, ◌-◌, ◌≤◌, ◌<◌}
 use native.Mathlib.Numerals.{add-one}
 use native.Mathlib.Omega.{arith}
 use lib.Dec.{eqb, ltb}
-use lib.ListN.{length, get_or, take, drop, length-drop, drop_of_length-le}
-use lib.Seq.{drop-cons, drop-drop, take_all, length-take-le}
-use borrow.Author.Tests.{eq-eqb, ne_eqb, ltb-true, ltb-false}
-use Rattle.units.proofs.Choices.{if-true, if-false}
+use lib.ListN.{length, take, drop, length-drop}
+use lib.Seq.{drop-drop, take_all, length-take-le}
+use Rattle.std.specs.Prelude.{Option, None, Some}
+use Rattle.std.specs.Option.{MatchOption, unwrap_or}
+use Rattle.std.specs.List.{list_any, position, position_or_len, slice_split, onto_first}
+use Rattle.std.proofs.lemmas.List.Recursion.{is_position_or_len}
+use borrow.Author.Tests.{ltb-true, ltb-false}
 use Rattle.text.specs.Fields.{into_first, parts, first_at}
 
 module _ (separator : ℕ) where
@@ -50,19 +53,68 @@ module _ (separator : ℕ) where
       go last true k = absurd (omega arith)
       go last false k = rw (last (omega arith))
 
-  -- a loop that looks for it
-  pub first-here : (l : List ℕ) (i : ℕ) → i < length l → get_or l i 0 ≡ separator → first_at separator (drop i l) ≡ 0
-  unfolding first_at
-  first-here l i h e = rw (drop-cons l i 0) (if-true _ _ _ (eq-eqb _ _ e))
+  -- the parts that the library's `split` gives
+  pub parts_are : (l : List ℕ) → parts separator l ≡ slice_split (λ b. eqb b separator) l
+  unfolding parts into_first
+  parts_are [] = refl
+  parts_are (b ∷ bs) = rw (parts_are bs) (go (slice_split (λ b. eqb b separator) bs))
+    where
+      go : (ps : List (List ℕ)) → (if eqb b separator then [] ∷ ps else into_first b ps) ≡ cond (eqb b separator) ([] ∷ ps) (onto_first b ps)
+      go [] = refl
+      go (p ∷ ps) = refl
 
-  pub first-later : (l : List ℕ) (i : ℕ) → i < length l → (get_or l i 0 ≡ separator → ⊥)
-      → first_at separator (drop i l) ≡ suc (first_at separator (drop (i + 1) l))
-  unfolding first_at
-  first-later l i h e = rw (add-one, drop-cons l i 0) (if-false _ _ _ (ne_eqb _ _ e))
+  -- ---- as the code finds it, by the library's searches
 
-  pub first-end : (l : List ℕ) (i : ℕ) → length l ≤ i → first_at separator (drop i l) ≡ 0
+  -- a byte that passes
+  abbrev here : ℕ → Bool
+  here b = eqb b separator
+
+  first_is : (l : List ℕ) → first_at separator l ≡ position_or_len here l
   unfolding first_at
-  first-end l i h = rw (drop_of_length-le l h)
+  first_is = is_position_or_len (first_at separator) here refl
+      (λ b bs. let q : suc (first_at separator bs) ≡ 1 + first_at separator bs = omega arith in rw q)
+
+  -- the first that passes is the first separator; where none does, that is the length
+  module _ (l : List ℕ) where
+    first_found : MatchOption (position here l) (first_at separator l ≡ length l) (λ n. (n ≡ first_at separator l) × (n < length l))
+    first_found = go (ltb (position_or_len here l) (length l)) refl
+      where
+        go : (t : Bool) → ltb (position_or_len here l) (length l) ≡ t
+            → MatchOption (cond t (Some (position_or_len here l)) None) (first_at separator l ≡ length l) (λ n. (n ≡ first_at separator l) × (n < length l))
+        go true e = (sym (first_is l), ltb-true (position_or_len here l) (length l) e)
+        go false e = omega (arith, first_is l, first-within l, ltb-false (position_or_len here l) (length l) e)
+
+    module _ {o : Option ℕ} (found : o ≡ position here l) where
+      pub found-none : o ≡ None → first_at separator l ≡ length l
+      found-none e = rw (sym found ∙ e) at first_found
+
+      pub found-some : {n : ℕ} → o ≡ Some n → (n ≡ first_at separator l) × (n < length l)
+      found-some e = rw (sym found ∙ e) at first_found
+
+    pub first_or_length : {o : Option ℕ} → o ≡ position here l → unwrap_or o (length l) ≡ first_at separator l
+    first_or_length {o = None} found = sym (found-none found refl)
+    first_or_length {o = Some n} found = (found-some found refl).0
+
+  -- none passes, or one does
+  pub any-none : (l : List ℕ) → list_any here l ≡ false → first_at separator l ≡ length l
+  unfolding first_at
+  any-none [] e = refl
+  any-none (b ∷ bs) e = go (λ q. any-none bs q) (here b) e
+    where
+      go : (list_any here bs ≡ false → first_at separator bs ≡ length bs) → (t : Bool) → (t || list_any here bs) ≡ false
+          → (if t then 0 else suc (first_at separator bs)) ≡ suc (length bs)
+      go rest true q = cc
+      go rest false q = ap suc (rest q)
+
+  pub any-some : (l : List ℕ) → list_any here l ≡ true → first_at separator l < length l
+  unfolding first_at
+  any-some [] e = cc
+  any-some (b ∷ bs) e = go (λ q. any-some bs q) (here b) e
+    where
+      go : (list_any here bs ≡ true → first_at separator bs < length bs) → (t : Bool) → (t || list_any here bs) ≡ true
+          → (if t then 0 else suc (first_at separator bs)) < suc (length bs)
+      go rest true q = omega arith
+      go rest false q = omega (arith, rest q)
 
   -- the first part, and some parts after it
   pub parts_first : (l : List ℕ) → (ps : List (List ℕ)) × (parts separator l ≡ take (first_at separator l) l ∷ ps)
@@ -92,12 +144,6 @@ module _ (separator : ℕ) (l : List ℕ) (from e : ℕ) (p : e ≡ first_at sep
 
   pub part_length : e ≡ length (take e (rest_of l from))
   part_length = sym (length-take-le e (rest_of l from) (omega (arith, end-in, rest-length l from)))
-
-  -- the first part, and some parts after it
-  pub part-first : (ps : List (List ℕ)) × (parts separator (drop from l) ≡ take e (rest_of l from) ∷ ps)
-  part-first =
-      let (ps, s) = parts_first separator (rest_of l from) in
-      (ps, ap (parts separator) (sym (to_end l from)) ∙ s ∙ ap (λ (n : ℕ). take n (rest_of l from) ∷ ps) (sym p))
 
   pub part-last : e ≡ length (rest_of l from) → parts separator (drop from l) ≡ rest_of l from ∷ []
   part-last h = ap (parts separator) (sym (to_end l from)) ∙ parts_last separator (rest_of l from) (sym p ∙ h)

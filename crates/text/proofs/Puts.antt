@@ -3,28 +3,19 @@ use mathlib.Core.Path.{◌≡◌, refl, ap, ◌∙◌}
 use mathlib.Core.List.{List, [], ◌∷◌, ◌++◌}
 use Prim.Native.Nat.{ℕ, ◌+◌, ◌≤◌, ◌<◌}
 use native.Mathlib.Omega.{arith}
-use lib.ListN.{length, set, get_or, length-append}
-use lib.Seq.{paste, paste-zero}
+use lib.ListN.{length, set, length-append}
+use lib.Seq.{paste-zero}
 use Rattle.units.specs.Cells.{written}
-use Rattle.units.proofs.Cells.{paste-next, paste-end, written_one, written_both, written_start, written-length}
+use Rattle.units.proofs.Cells.{paste-end, written_one, written_both, written_start, written-length}
 use Rattle.text.specs.Putting.{Put}
 
-pub put-none : (at : ℕ) (cells : List ℕ) → Put [] at cells at cells
+pub put-none : {A : Type 0} (at : ℕ) (cells : List A) → Put [] at cells at cells
 put-none at cells = record { place = omega arith; cells_left = paste-zero cells at [] ∙ paste-end cells at [] }
 
-pub put_one : (x at : ℕ) (cells : List ℕ) → at < length cells → Put (x ∷ []) at cells (at + 1) (set cells at x)
+pub put_one : {A : Type 0} (x : A) (at : ℕ) (cells : List A) → at < length cells → Put (x ∷ []) at cells (at + 1) (set cells at x)
 put_one x at cells l = record { place = refl; cells_left = written_one at x cells l }
 
--- cell by cell: one more, and up to the last
-pub paste_more : (cells : List ℕ) (at : ℕ) (xs : List ℕ) (i : ℕ) {left : List ℕ} → left ≡ paste cells at xs i → at + i < length cells → i < length xs
-    → set left (at + i) (get_or xs i 0) ≡ paste cells at xs (i + 1)
-paste_more cells at xs i e h k = ap (λ (l : List ℕ). set l (at + i) (get_or xs i 0)) e ∙ paste-next cells at xs i 0 h k
-
-pub put-pasted : {xs : List ℕ} {at i : ℕ} {cells left : List ℕ} → left ≡ paste cells at xs i → i ≡ length xs → Put xs at cells (at + length xs) left
-put-pasted {xs} {at} {i} {cells} e h =
-    record { place = refl; cells_left = e ∙ ap (λ (n : ℕ). paste cells at xs n) h ∙ paste-end cells at xs }
-
-module _ {xs ys : List ℕ} {at m n : ℕ} {cells middle left : List ℕ} where
+module _ {A : Type 0} {xs ys : List A} {at m n : ℕ} {cells middle left : List A} where
   -- a chain of two
   pub put_both : at ≤ length cells → Put xs at cells m middle → Put ys m middle n left → Put (xs ++ ys) at cells n left
   put_both l p q =
@@ -33,7 +24,7 @@ module _ {xs ys : List ℕ} {at m n : ℕ} {cells middle left : List ℕ} where
         cells_left = q.cells_left ∙ rw (p.place, p.cells_left) (written_both at xs ys cells l);
       }
 
-module _ {xs : List ℕ} {n : ℕ} {cells left : List ℕ} where
+module _ {A : Type 0} {xs : List A} {n : ℕ} {cells left : List A} where
   -- a chain that starts at the first cell
   pub put_all : Put xs 0 cells n left → (n ≡ length xs) × (left ≡ written xs cells)
   put_all p = (omega (arith, p.place), p.cells_left ∙ written_start xs cells)

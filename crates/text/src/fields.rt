@@ -1,10 +1,10 @@
 // Fields and the numbers that they are.
 ghost use Rattle.std.specs.Prelude.{◌≡◌, ◌≤◌, length, set};
-ghost use Rattle.text.specs.Fields.{tab, parts, first_at, same};
+ghost use Rattle.text.specs.Fields.{tab, parts, first_at};
 ghost use Rattle.text.specs.Numbers.{is_plain, number_of, numbers_of};
-ghost use Rattle.text.specs.Reading.{number_made, NumbersMade};
+ghost use Rattle.text.specs.Reading.{NumbersMade};
 
-use crate::{MaybeNumber, MaybeNumbers, TAB};
+use crate::TAB;
 
 // The greatest number of plan text.
 const MOST_NUMBER: usize = 65535;
@@ -13,68 +13,43 @@ const MOST_NUMBER: usize = 65535;
 pub fn end_of(bytes: &[u8], separator: u8) -> usize
     ensures { result ≡ first_at separator bytes.now }
 {
-    for i in 0..bytes.len() {
-        if bytes[i] == separator {
-            return i;
-        }
-    }
-    bytes.len()
-}
-
-// Whether a field is the word.
-pub fn is_word(field: &[u8], word: &[u8]) -> bool
-    ensures { result ≡ same field.now word.now }
-{
-    if field.len() != word.len() {
-        return false;
-    }
-    for i in 0..field.len() {
-        if field[i] != word[i] {
-            return false;
-        }
-    }
-    true
+    bytes
+        .iter()
+        .position(|b| *b == separator)
+        .unwrap_or(bytes.len())
 }
 
 // Whether a field is without leading zero.
+#[tactic(auto, unfolding(crate::specs::Numbers::is_plain))]
 fn is_plain(field: &[u8]) -> bool
     requires { 1 ≤ length field.now }
     ensures { result ≡ is_plain field.now }
 {
-    if field.len() == 1 {
-        return true;
-    }
-    field[0] != b'0'
+    field.len() == 1 || field[0] != b'0'
 }
 
 // The number that a field is.
-pub fn number_of(field: &[u8]) -> MaybeNumber
-    ensures { number_made result ≡ number_of field.now }
+pub fn number_of(field: &[u8]) -> Option<u16>
+    ensures { result ≡ number_of field.now }
 {
-    if field.len() < 1 {
-        return MaybeNumber::NotANumber;
-    }
-    if !is_plain(field) {
-        return MaybeNumber::NotANumber;
+    if field.is_empty() || !is_plain(field) {
+        return None;
     }
     let mut number: usize = 0;
-    for i in 0..field.len() {
-        let digit = field[i];
-        if digit < b'0' {
-            return MaybeNumber::NotANumber;
+    for digit in field {
+        if !digit.is_ascii_digit() {
+            return None;
         }
-        if b'9' < digit {
-            return MaybeNumber::NotANumber;
-        }
-        number = number * 10 + (digit - b'0') as usize;
+        number = number * 10 + (*digit - b'0') as usize;
         if MOST_NUMBER < number {
-            return MaybeNumber::NotANumber;
+            return None;
         }
     }
-    MaybeNumber::Number(number as u16)
+    Some(number as u16)
 }
 
-// Stores a number, if there is room.
+// Stores a number, if there is room. By the index: the contract of `get_mut` leaves open what the cells are where there is none.
+#[tactic(auto, using(std::proofs::lemmas::List::set_past))]
 fn keep_number(cells: &mut [u16], at: usize, number: u16)
     ensures { cells.new ≡ set cells.old at number }
 {
@@ -83,23 +58,14 @@ fn keep_number(cells: &mut [u16], at: usize, number: u16)
     }
 }
 
-// How many numbers the fields are. The cells hold the first of them, as many as there is room for.
-pub fn numbers_of(fields: &[u8], cells: &mut [u16]) -> MaybeNumbers
+// How many numbers the fields are, if each is one. The cells hold the first of them, as many as there is room for.
+pub fn numbers_of(fields: &[u8], cells: &mut [u16]) -> Option<usize>
     ensures { NumbersMade (numbers_of (parts tab fields.now)) result cells.new }
 {
     let mut count = 0;
-    let mut from = 0;
-    loop {
-        let rest = &fields[from..];
-        let end = end_of(rest, TAB);
-        let MaybeNumber::Number(number) = number_of(&rest[..end]) else {
-            return MaybeNumbers::NotNumbers;
-        };
-        keep_number(cells, count, number);
+    for field in fields.split(|b| *b == TAB) {
+        keep_number(cells, count, number_of(field)?);
         count += 1;
-        if end == rest.len() {
-            return MaybeNumbers::Count(count);
-        }
-        from += end + 1;
     }
+    Some(count)
 }

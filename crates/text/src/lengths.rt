@@ -3,14 +3,12 @@ ghost use Rattle.std.specs.Prelude.{◌≡◌, ◌≤◌, length};
 ghost use Rattle.text.specs.Numbers.{decimal_text};
 ghost use Rattle.text.specs.Lines.{line_of};
 
-// A number in decimal, 20 bytes at most.
+// A number in decimal, 20 bytes at most; 0 has a digit too.
+#[tactic(auto, using(crate::proofs::Decimals::decimal_digits))]
 fn decimal_length(n: usize) -> usize
     ensures { (result ≡ length (decimal_text n)) × (result ≤ 20) }
 {
-    if n < 10 {
-        return 1;
-    }
-    decimal_length(n / 10) + 1
+    n.max(1).ilog10() as usize + 1
 }
 
 // A line: a word and numbers. No line of a plan text or a listing has a longer word or more numbers.
@@ -19,8 +17,8 @@ pub fn line_length(word: &[u8], numbers: &[usize]) -> usize
     ensures { (result ≡ length (line_of word.now numbers.now)) × (result ≤ 350) }
 {
     let mut bytes = word.len() + 1;
-    for i in 0..numbers.len() {
-        bytes += 1 + decimal_length(numbers[i]);
+    for number in numbers {
+        bytes += 1 + decimal_length(*number);
     }
     bytes
 }

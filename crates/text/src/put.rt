@@ -14,28 +14,17 @@ pub fn put_byte(out: &mut [u8], at: usize, byte: u8) -> usize
     at + 1
 }
 
-pub fn put_bytes(out: &mut [u8], at: usize, bytes: &[u8]) -> usize
-    requires { at + length bytes.now ≤ length out.old }
-    ensures { Put bytes.now at out.old result out.new }
+// Bytes or numbers as they are, one a cell.
+pub fn put_all<T: Copy>(out: &mut [T], at: usize, items: &[T]) -> usize
+    requires { at + length items.now ≤ length out.old }
+    ensures { Put items.now at out.old result out.new }
 {
-    for i in 0..bytes.len() {
-        out[at + i] = bytes[i];
-    }
-    at + bytes.len()
+    let end = at + items.len();
+    out[at..end].copy_from_slice(items);
+    end
 }
 
-// Numbers as they are, one a cell.
-pub fn put_cells(out: &mut [u16], at: usize, numbers: &[u16]) -> usize
-    requires { at + length numbers.now ≤ length out.old }
-    ensures { Put numbers.now at out.old result out.new }
-{
-    for i in 0..numbers.len() {
-        out[at + i] = numbers[i];
-    }
-    at + numbers.len()
-}
-
-// A number in decimal.
+// A number in decimal. The library puts one into a text or a buffer of its own, to be copied from there, which is no plainer.
 pub fn put_decimal(out: &mut [u8], at: usize, n: usize) -> usize
     requires { at + length (decimal_text n) ≤ length out.old }
     ensures { Put (decimal_text n) at out.old result out.new }
@@ -53,9 +42,9 @@ fn put_fields(out: &mut [u8], at: usize, numbers: &[usize]) -> usize
     ensures { Put (number_fields numbers.now) at out.old result out.new }
 {
     let mut end = at;
-    for i in 0..numbers.len() {
+    for number in numbers {
         let digits = put_byte(out, end, TAB);
-        end = put_decimal(out, digits, numbers[i]);
+        end = put_decimal(out, digits, *number);
     }
     end
 }
@@ -65,7 +54,7 @@ pub fn put_line(out: &mut [u8], at: usize, word: &[u8], numbers: &[usize]) -> us
     requires { at + length (line_of word.now numbers.now) ≤ length out.old }
     ensures { Put (line_of word.now numbers.now) at out.old result out.new }
 {
-    let first = put_bytes(out, at, word);
+    let first = put_all(out, at, word);
     let end = put_fields(out, first, numbers);
     put_byte(out, end, LF)
 }

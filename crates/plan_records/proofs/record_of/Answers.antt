@@ -1,61 +1,31 @@
-use mathlib.Core.Path.{◌≡◌, sym, ◌∙◌}
-use mathlib.Core.List.{List}
-use Prim.Native.Nat.{ℕ, ◌<◌}
-use native.Mathlib.Omega.{arith}
-use lib.ListN.{length}
-use lib.Seq.{length-take-le}
-use Rattle.text.specs.Fields.{tab, first_at}
-use Rattle.text.proofs.Parts.{first-within}
+use Rattle.std.proofs.Common.{◌≡◌, ◌+◌, rules, tests, arith}
+use Rattle.std.specs.List.{position}
+use lib.Dec.{eqb}
+use Rattle.std.proofs.lemmas.Iterator.{YieldsList-from_slice}
+use Rattle.std.proofs.lemmas.Iterator.Search.{position_from_yields_List}
+use Rattle.text.specs.Fields.{tab}
+use Rattle.text.proofs.Parts.{found-none, found-some, to_end, rest-length}
 use Rattle.plan_records.specs.Inner.Lines.{Finds}
-use Rattle.plan_records.proofs.Recording.{record-one, record-plan, record-cal, record-task, record-other}
+use Rattle.plan_records.proofs.Recording.{record-one, record-split, finds-more}
+use Rattle.plan_records.proofs.record_of.Goals.{After-position}
 use Rattle.plan_records.proofs.record_of.Goals as goal
 
--- the first field ends inside the line
-inside : (line : List ℕ) (end : ℕ) → end ≡ first_at tab line → (end ≡ length line → ⊥) → end < length line
-inside line end e h = omega (arith, e, first-within tab line, h)
+-- where the first tab stands
+first_tab : (c : After-position) → c.position.result ≡ position (λ b. eqb b tab) c.args.line.now
+first_tab c =
+    position_from_yields_List (λ b. eqb b tab) _ _ c.position.result c.position.ensures.ran (YieldsList-from_slice _ c.iter.ensures.rest)
+    (λ x b q k. search (rules, tests))
 
-pub returns-then-end-line : goal.returns-then-end-line
+pub returns-in_err-end : goal.returns-in_err-end
 unfolding Finds
-returns-then-end-line c = record-one _ (sym c.end_of-end.ensures ∙ c.if-end-line.true)
-
-pub slice_bounds-word-end : goal.slice_bounds-word-end
-slice_bounds-word-end c =
-    sym (length-take-le c.end_of-end.result c.args.line.now (omega (arith, inside _ _ c.end_of-end.ensures c.if-end-line.false)))
-
-pub returns-then-is_word : goal.returns-then-is_word
-returns-then-is_word c =
-    rw (record-plan c.args.line.now c.end_of-end.result c.end_of-end.ensures (inside _ _ c.end_of-end.ensures c.if-end-line.false)
-    (sym c.is_word.ensures ∙ c.if-is_word.true)) c.plan_of.ensures
-
-pub returns-then-is_word-2 : goal.returns-then-is_word-2
-returns-then-is_word-2 c =
-    rw (record-cal c.args.line.now c.end_of-end.result c.end_of-end.ensures (inside _ _ c.end_of-end.ensures c.if-end-line.false)
-    (sym c.is_word.ensures ∙ c.if-is_word.false)
-    (sym c.is_word-2.ensures ∙ c.if-is_word-2.true)) (c.cal_of.ensures _)
-
-pub returns-then-is_word-3 : goal.returns-then-is_word-3
-returns-then-is_word-3 c =
-    rw (record-task c.args.line.now c.end_of-end.result c.end_of-end.ensures (inside _ _ c.end_of-end.ensures c.if-end-line.false)
-    (sym c.is_word.ensures ∙ c.if-is_word.false)
-    (sym c.is_word-2.ensures ∙ c.if-is_word-2.false)
-    (sym c.is_word-3.ensures ∙ c.if-is_word-3.true)) c.task_of.ensures
+returns-in_err-end c =
+    rw c.from_residual.ensures
+    (record-one _ (found-none tab _ (first_tab (goal.at.returns-in_err-end c).After-position) c.in_err-end.was))
 
 pub returns : goal.returns
-unfolding Finds
 returns c =
-    record-other c.args.line.now c.end_of-end.result c.end_of-end.ensures (inside _ _ c.end_of-end.ensures c.if-end-line.false)
-    (sym c.is_word.ensures ∙ c.if-is_word.false)
-    (sym c.is_word-2.ensures ∙ c.if-is_word-2.false)
-    (sym c.is_word-3.ensures ∙ c.if-is_word-3.false)
-
-pub plan_of-requires : goal.plan_of-requires
-plan_of-requires c = omega (arith, inside _ _ c.end_of-end.ensures c.if-end-line.false)
-
-pub overflow_add-from : goal.overflow_add-from
-overflow_add-from c = omega (arith, inside _ _ c.end_of-end.ensures c.if-end-line.false)
-
-pub cal_of-requires : goal.cal_of-requires
-cal_of-requires c = omega (arith, inside _ _ c.end_of-end.ensures c.if-end-line.false)
-
-pub task_of-requires : goal.task_of-requires
-task_of-requires c = omega (arith, inside _ _ c.end_of-end.ensures c.if-end-line.false)
+    let line = c.args.line.now in
+    let end = c.in_ok-end.end in
+    let found = found-some tab line (first_tab (goal.at.returns c).After-position) c.in_ok-end.was in
+    rw (record-split line end found)
+    (finds-more _ _ _ (omega (arith, rest-length line (end + 1))) (rw (to_end line (end + 1)) at c.by_word.ensures))

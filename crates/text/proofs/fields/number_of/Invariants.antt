@@ -4,9 +4,9 @@ use lib.ListN.{length, drop}
 use Rattle.text.specs.Numbers.{is_digits, decimal, most_number}
 use Rattle.text.proofs.fields.number_of.Given as goal
 
-abbrev pub invariant-loop-i : goal.invariant-loop-i
-invariant-loop-i l =
-    (l.i ≤ length l.field)
+abbrev pub invariant-loop-digit : goal.invariant-loop-digit
+invariant-loop-digit l =
+    (l.digit-index ≤ length l.field)
     × (l.number ≤ most_number)
-    × (is_digits (drop l.i l.field) ≡ is_digits l.field)
-    × (decimal l.number (drop l.i l.field) ≡ decimal 0 l.field)
+    × (is_digits (drop l.digit-index l.field) ≡ is_digits l.field)
+    × (decimal l.number (drop l.digit-index l.field) ≡ decimal 0 l.field)
