@@ -86,7 +86,7 @@ pub lines-read : (xs : List Record) → Each Readable xs → (k : ℕ) (r q : Re
     → read_lines true k r (parts lf (text_of xs)) ≡ answered q
 unfolding Each with_records text_of
 lines-read [] b k r q e h =
-    unfold parts read_lines ◌and◌ in let p : r ≡ q = cc in rw (p, le-leb plan_section q.reached h)
+    unfold parts read_lines in let p : r ≡ q = cc in rw (p, le-leb plan_section q.reached h)
 lines-read (x ∷ xs) b k r q e h =
     ap (λ t. read_lines true k r (parts lf t)) (append_assoc (record_line x) (lf ∷ []) (text_of xs))
     ∙ ap (read_lines true k r) (parts_next lf (record_line x) (text_of xs) (line-whole x b.0))

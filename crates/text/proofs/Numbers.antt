@@ -70,7 +70,10 @@ module _ (bs : List ℕ) where
 
   pub number-large : most_number < decimal 0 bs → number_of bs ≡ None
   unfolding number_of is_number
-  number-large h = none-if _ _ (not_right _ _ (not_right _ _ (not_right _ _ (lt-leb (decimal 0 bs) most_number h))))
+  number-large h =
+      none-if _ _
+      (not_right (leb 1 (length bs)) _
+      (not_right (is_digits bs) _ (not_right (is_plain bs) _ (lt-leb (decimal 0 bs) most_number h))))
 
   pub number_is : 1 ≤ length bs → is_digits bs ≡ true → is_plain bs ≡ true → decimal 0 bs ≤ most_number → number_of bs ≡ Some (decimal 0 bs)
   unfolding number_of is_number
