@@ -9,6 +9,8 @@ use Rattle.plan.specs.Boxes.{bounds_at, with_bounds}
 use Rattle.calendar.specs.declared.Window.{Window}
 use Rattle.calendar.specs.Rule.{lst, ect}
 use Rattle.steps.specs.declared.Step.{Step}
+use Rattle.steps.specs.declared.StepKind.{StepKind}
+use Rattle.steps.specs.declared.StepKind.TheVariants.{Calendar, Overload, Lower, Upper}
 use Rattle.steps.specs.Load.{fit_at, load, excess}
 
 abbrev pub step : ℕ → ℕ → ℕ → Step
@@ -37,6 +39,20 @@ kind_of letter =
     else (if eqb letter letter_l then kind_l
     else (if eqb letter letter_u then kind_u
     else unknown_kind)))
+
+-- of the code's kinds
+abbrev pub kind_in : Option StepKind → Kind
+kind_in (Some Calendar) = kind_c
+kind_in (Some Overload) = kind_o
+kind_in (Some Lower) = kind_l
+kind_in (Some Upper) = kind_u
+kind_in None = unknown_kind
+
+abbrev pub letter_of : StepKind → ℕ
+letter_of Calendar = letter_c
+letter_of Overload = letter_o
+letter_of Lower = letter_l
+letter_of Upper = letter_u
 
 -- 11 does not apply: a known kind, of a task and an hour that exist, and a field that its kind doesn't use is 0; the task field of O is a room
 -- that exists

@@ -2,6 +2,9 @@
 // proofs/; the code is in `turns` and `propagation`.
 #![tactic(auto)]
 
+ghost use Rattle.std.specs.Prelude.{◌≡◌};
+ghost use Rattle.steps.specs.Steps.{kind_of, kind_in, letter_of};
+
 use units::Bounds;
 
 // A step of a log: its kind, a letter as one byte, a task and an hour. A field that the kind does not use is 0.
@@ -10,6 +13,37 @@ pub struct Step {
     pub kind: u8,
     pub task: u16,
     pub hour: u16,
+}
+
+// The kinds of step, by their letters.
+#[derive(Clone, Copy, PartialEq, Eq)]
+pub enum StepKind {
+    Calendar = b'C' as isize,
+    Overload = b'O' as isize,
+    Lower = b'L' as isize,
+    Upper = b'U' as isize,
+}
+
+impl StepKind {
+    // The kind that a letter names, if it names one: a log from anyone may hold any byte.
+    #[tactic(auto, unfolding(crate::specs::Steps::kind_of))]
+    pub fn of_letter(letter: u8) -> Option<StepKind>
+        ensures { kind_in result ≡ kind_of letter }
+    {
+        match letter {
+            b'C' => Some(StepKind::Calendar),
+            b'O' => Some(StepKind::Overload),
+            b'L' => Some(StepKind::Lower),
+            b'U' => Some(StepKind::Upper),
+            _ => None,
+        }
+    }
+
+    pub fn letter(self) -> u8
+        ensures { result ≡ letter_of self }
+    {
+        self as u8
+    }
 }
 
 // What a step comes to at its turn; where it moves a bound, the task whose bound it moves, and the bounds that the task has then.

@@ -1,4 +1,5 @@
 -- What each test of a step decides, over the answers that are kept. Assumes nothing.
+use Rattle.std.specs.Prelude.{Option, None, Some}
 use Rattle.std.specs.Prelude.{if◌then◌else◌}
 use mathlib.Core.Path.{◌≡◌, sym, ap, ◌∙◌}
 use mathlib.Core.Logic.{◌≢◌}
@@ -22,8 +23,6 @@ use Rattle.units.proofs.Choices.{and_both, and_left, and_right, if-true, if-fals
 use Rattle.plan.specs.Plan.{room_part}
 use Rattle.plan.specs.Boxes.{bounds_at}
 use Rattle.calendar.specs.declared.Window.{Window}
-use Rattle.calendar.specs.declared.Fit.{Fit}
-use Rattle.calendar.specs.declared.Fit.TheVariants.{Never, Within}
 use Rattle.calendar.specs.Rule.{lst, ect}
 use Rattle.steps.specs.declared.Step.{Step}
 use Rattle.steps.specs.declared.Judged.{Judged}
@@ -36,16 +35,16 @@ use Rattle.turns.specs.Inner.Kept.{load_of, exceeds, excess_in, excess_by, calen
 -- ---- the excess
 
 module _ (w : Window) (height load capacity t : ℕ) where
-  pub exceeds-in : must_run (Within w) t ≡ true → exceeds w height load capacity t ≡ ltb capacity load
+  pub exceeds-in : must_run (Some w) t ≡ true → exceeds w height load capacity t ≡ ltb capacity load
   unfolding exceeds
   exceeds-in e = ap (ltb capacity) (if-true _ _ _ e)
 
-  pub exceeds-out : must_run (Within w) t ≡ false → exceeds w height load capacity t ≡ ltb capacity (height + load)
+  pub exceeds-out : must_run (Some w) t ≡ false → exceeds w height load capacity t ≡ ltb capacity (height + load)
   unfolding exceeds
   exceeds-out e = ap (ltb capacity) (if-false _ _ _ e)
 
 -- in a room, from what the code has found there
-module _ (tasks : ℕ) (capacities heights : List ℕ) (fits : List Fit) (w : Window) (i t room : ℕ) where
+module _ (tasks : ℕ) (capacities heights : List ℕ) (fits : List (Option Window)) (w : Window) (i t room : ℕ) where
   pub room-excess : (own : List ℕ) (load : ℕ) {of-task limit : Height} (r : Bool) → own ≡ room_part tasks heights room
       → of-task ≡ height (get_or own i 0) → load ≡ load_of fits own t → limit ≡ height (get_or capacities room 0)
       → r ≡ exceeds w of-task.0 load limit.0 t → r ≡ excess_in tasks capacities heights fits w i t room
@@ -54,27 +53,27 @@ module _ (tasks : ℕ) (capacities heights : List ℕ) (fits : List Fit) (w : Wi
 
 -- ---- a task with no valid triple, and one with a window
 
-module _ {A : Type 0} (fit : Fit) (a : A) (f : Window → A) where
-  pub on-never : fit ≡ Never → on_fit fit a f ≡ a
+module _ {A : Type 0} (fit : Option Window) (a : A) (f : Window → A) where
+  pub on-never : fit ≡ None → on_fit fit a f ≡ a
   unfolding on_fit
   on-never e = rw e
 
-  pub on-within : (w : Window) → fit ≡ Within w → on_fit fit a f ≡ f w
+  pub on-within : (w : Window) → fit ≡ Some w → on_fit fit a f ≡ f w
   unfolding on_fit
   on-within w e = rw e
 
 -- ---- C
 
-module _ (fit : Fit) (i : ℕ) (b : Bounds) where
-  pub calendar-stops : fit ≡ Never → calendar_by fit i b ≡ Impossible
+module _ (fit : Option Window) (i : ℕ) (b : Bounds) where
+  pub calendar-stops : fit ≡ None → calendar_by fit i b ≡ Impossible
   unfolding calendar_by
   calendar-stops e = on-never _ _ _ e
 
-  pub calendar-same : (w : Window) → fit ≡ Within w → same_bounds w.bounds b ≡ true → calendar_by fit i b ≡ NotAdmitted
+  pub calendar-same : (w : Window) → fit ≡ Some w → same_bounds w.bounds b ≡ true → calendar_by fit i b ≡ NotAdmitted
   unfolding calendar_by
   calendar-same w e q = on-within _ _ _ w e ∙ if-true _ _ _ q
 
-  pub calendar-moves : (w : Window) → fit ≡ Within w → same_bounds w.bounds b ≡ false → calendar_by fit i b ≡ Moved i w.bounds
+  pub calendar-moves : (w : Window) → fit ≡ Some w → same_bounds w.bounds b ≡ false → calendar_by fit i b ≡ Moved i w.bounds
   unfolding calendar_by
   calendar-moves w e q = on-within _ _ _ w e ∙ if-false _ _ _ q
 
@@ -165,12 +164,12 @@ module _ (w : Window) (i : ℕ) (b : Bounds) (excess : Bool) (t : ℕ) where
             moves (omega (arith, leb-true b.earliest.0 (t - b.shortest.0) above, shorter)) ∙ ap (Moved i) is-box
 
 -- L or U, from what the code has found of the task
-module _ (hours tasks : ℕ) (capacities heights boxes : List ℕ) (fits : List Fit) (i t : ℕ) (r : Judged) where
-  pub bound-never : (lower : Bool) → get_or fits i Never ≡ Never → r ≡ NotAdmitted → r ≡ bound_by hours tasks capacities heights boxes fits lower i t
+module _ (hours tasks : ℕ) (capacities heights boxes : List ℕ) (fits : List (Option Window)) (i t : ℕ) (r : Judged) where
+  pub bound-never : (lower : Bool) → get_or fits i None ≡ None → r ≡ NotAdmitted → r ≡ bound_by hours tasks capacities heights boxes fits lower i t
   unfolding bound_by
   bound-never lower e q = q ∙ sym (on-never _ _ _ e)
 
-  module _ (lower : Bool) (w : Window) (excess : Bool) (b : Bounds) (told : get_or fits i Never ≡ Within w)
+  module _ (lower : Bool) (w : Window) (excess : Bool) (b : Bounds) (told : get_or fits i None ≡ Some w)
       (over : excess ≡ excess_by tasks capacities heights fits w i t) (is-box : b ≡ bounds_at boxes i) where
     pub bound-lower : lower ≡ true → r ≡ lower_by w i b excess t → r ≡ bound_by hours tasks capacities heights boxes fits lower i t
     unfolding bound_by move_by
@@ -216,14 +215,14 @@ module _ (rooms tasks hours n i t : ℕ) where
     pub there-U : n ≡ letter_u → (i < tasks) × (t < hours)
     there-U e = let both = rw (step-U e) at is in (ltb-true _ _ (and_left _ _ both), ltb-true _ _ (and_right _ _ both))
 
-module _ (hours tasks : ℕ) (capacities heights boxes : List ℕ) (fits : List Fit) (x : Step) where
+module _ (hours tasks : ℕ) (capacities heights boxes : List ℕ) (fits : List (Option Window)) (x : Step) where
   pub by-none : is_step (length capacities) tasks hours (kind_of x.kind) x.task x.hour ≡ false
       → judge_by hours tasks capacities heights boxes fits x ≡ Unknown
   unfolding judge_by
   by-none e = if-false _ _ _ e
 
   module _ (is : is_step (length capacities) tasks hours (kind_of x.kind) x.task x.hour ≡ true) (r : Judged) where
-    pub by-C : (b : Bounds) → x.kind ≡ letter_c → b ≡ bounds_at boxes x.task → r ≡ calendar_by (get_or fits x.task Never) x.task b
+    pub by-C : (b : Bounds) → x.kind ≡ letter_c → b ≡ bounds_at boxes x.task → r ≡ calendar_by (get_or fits x.task None) x.task b
         → r ≡ judge_by hours tasks capacities heights boxes fits x
     unfolding judge_by judge_kind_by kind_of
     by-C b k e q = rw e at q ∙ sym (if-true _ _ _ is ∙ rw k)

@@ -1,5 +1,6 @@
 -- What is worked out from the answers kept is what the definitions say, for the boxes that the answers are kept for. Assumes
 -- nothing.
+use Rattle.std.specs.Prelude.{Option}
 use Rattle.std.specs.Prelude.{if◌then◌else◌}
 use mathlib.Core.Path.{◌≡◌, refl, sym, ap, ◌∙◌}
 use mathlib.Core.Bool.{Bool, true, false, false≢true}
@@ -19,8 +20,6 @@ use Rattle.plan.specs.Plan.{Plan, room_part, room_count, task_count, capacity_of
 use Rattle.plan.specs.Boxes.{bounds_at, with_bounds}
 use Rattle.plan.proofs.Passed.{room-heights}
 use Rattle.calendar.specs.declared.Window.{Window}
-use Rattle.calendar.specs.declared.Fit.{Fit}
-use Rattle.calendar.specs.declared.Fit.TheVariants.{Never, Within}
 use Rattle.calendar.specs.Rule.{lst, ect}
 use Rattle.steps.specs.declared.Step.{Step}
 use Rattle.steps.specs.declared.Judged.{Judged}
@@ -43,26 +42,26 @@ module _ (P : Plan) (room : ℕ) (boxes : List ℕ) (i t : ℕ) where
   unfolding others_load load heights_where
   own-share l = where-split _ _ (task_count P) i l
 
-  exceeds-excess : (w : Window) → i < task_count P → fit_at P.shifts boxes i ≡ Within w
+  exceeds-excess : (w : Window) → i < task_count P → fit_at P.shifts boxes i ≡ Some w
       → exceeds w (height_of P room i) (load P room boxes t) (capacity_of P room) t ≡ room_excess P room boxes i t
   unfolding exceeds room_excess
   exceeds-excess w l e =
       let own = height_of P room i in
       let all = load P room boxes t in
       ap (ltb (capacity_of P room))
-      (if-all (λ (n : ℕ). n ≡ own + others_load P room boxes i t) (must_run (Within w) t) all (own + all)
+      (if-all (λ (n : ℕ). n ≡ own + others_load P room boxes i t) (must_run (Some w) t) all (own + all)
       (λ q. omega (arith, own-share l, if-true (must_run (fit_at P.shifts boxes i) t) own 0 (rw e q)))
       (λ q. omega (arith, own-share l, if-false (must_run (fit_at P.shifts boxes i) t) own 0 (rw e q))))
 
 -- ---- what C, L and U come to
 
 module _ (boxes : List ℕ) (i : ℕ) where
-  calendar-judged : (fit : Fit) (b : Bounds)
+  calendar-judged : (fit : Option Window) (b : Bounds)
       → judgement_of boxes (calendar_by fit i b)
       ≡ on_fit fit impossible (λ w. if same_bounds w.bounds b then not_admitted else moved (with_bounds boxes i w.bounds))
   unfolding calendar_by on_fit judgement_of on_judged
-  calendar-judged Never b = refl
-  calendar-judged (Within w) b = if-ap (judgement_of boxes) _ _ _
+  calendar-judged None b = refl
+  calendar-judged (Some w) b = if-ap (judgement_of boxes) _ _ _
 
   -- L and U: tests that must hold, and then one that says impossible
   test-judged : (p q : Bool) (b : Bounds)
@@ -91,22 +90,22 @@ module _ (boxes : List ℕ) (i : ℕ) where
 
   -- of a task with a window, where f finds e of it
   bound-judged : (by : Window → Bool → Judged) (says : Window → Judgement) (f : Window → Bool) (e : Bool)
-      → ((w : Window) → judgement_of boxes (by w e) ≡ says w) → (fit : Fit) → ((w : Window) → fit ≡ Within w → f w ≡ e)
+      → ((w : Window) → judgement_of boxes (by w e) ≡ says w) → (fit : Option Window) → ((w : Window) → fit ≡ Some w → f w ≡ e)
       → judgement_of boxes (on_fit fit NotAdmitted (λ w. by w (f w))) ≡ on_fit fit not_admitted says
   unfolding on_fit judgement_of on_judged
-  bound-judged by says f e same Never h = refl
-  bound-judged by says f e same (Within w) h = rw (h w refl) (same w)
+  bound-judged by says f e same None h = refl
+  bound-judged by says f e same (Some w) h = rw (h w refl) (same w)
 
-module _ (P : Plan) (boxes : List ℕ) (fits : List Fit) (k : Keeping P boxes fits) where
+module _ (P : Plan) (boxes : List ℕ) (fits : List (Option Window)) (k : Keeping P boxes fits) where
   abbrev By : Step → Judged
   By = judge_by P.shifts.hours (task_count P) P.capacities P.heights boxes fits
 
   pub load_kept : (room t : ℕ) → room < room_count P → load_of fits (heights_of P room) t ≡ load P room boxes t
   unfolding load_of load heights_where height_of
   load_kept room t l =
-      rw (room-heights P boxes k.passed room l) (where-eq _ _ _ (task_count P) (λ j m. ap (λ (f : Fit). must_run f t) (k.kept j m)))
+      rw (room-heights P boxes k.passed room l) (where-eq _ _ _ (task_count P) (λ j m. ap (λ (f : Option Window). must_run f t) (k.kept j m)))
 
-  excess-kept : (i t : ℕ) → i < task_count P → (w : Window) → fit_at P.shifts boxes i ≡ Within w
+  excess-kept : (i t : ℕ) → i < task_count P → (w : Window) → fit_at P.shifts boxes i ≡ Some w
       → excess_by (task_count P) P.capacities P.heights fits w i t ≡ excess P boxes i t
   unfolding excess_by excess
   excess-kept i t l w e = some-eq _ _ (room_count P) (λ room m. room-kept room m)
@@ -211,7 +210,7 @@ module _ (i : ℕ) (b : Bounds) (n : ℕ) where
   names-test p q c =
       if-all Names p _ _ (λ e. if-all Names q _ _ (λ f. impossible-names) (λ f. moved-names c)) (λ e. not-names)
 
-  names-calendar : (fit : Fit) (c : Bounds) → Names (calendar_by fit n c)
+  names-calendar : (fit : Option Window) (c : Bounds) → Names (calendar_by fit n c)
   unfolding calendar_by
   names-calendar fit c =
       fit_all Names fit _ _ (λ q. impossible-names) (λ w q. if-all Names _ _ _ (λ s. not-names) (λ d. moved-names w.bounds))
@@ -221,19 +220,19 @@ module _ (i : ℕ) (b : Bounds) (n : ℕ) where
   names-move true w c excess t = names-test _ _ _
   names-move false w c excess t = names-test _ _ _
 
-  names-bound : (hours tasks : ℕ) (capacities heights boxes : List ℕ) (fits : List Fit) (lower : Bool) (t : ℕ)
+  names-bound : (hours tasks : ℕ) (capacities heights boxes : List ℕ) (fits : List (Option Window)) (lower : Bool) (t : ℕ)
       → Names (bound_by hours tasks capacities heights boxes fits lower n t)
   unfolding bound_by
   names-bound hours tasks capacities heights boxes fits lower t =
-      fit_all Names (get_or fits n Never) _ _ (λ q. not-names)
+      fit_all Names (get_or fits n None) _ _ (λ q. not-names)
       (λ w q. names-move lower w (bounds_at boxes n) _ t)
 
-  names-kind : (hours tasks : ℕ) (capacities heights boxes : List ℕ) (fits : List Fit) (kind : Kind) (t : ℕ)
+  names-kind : (hours tasks : ℕ) (capacities heights boxes : List ℕ) (fits : List (Option Window)) (kind : Kind) (t : ℕ)
       → is_step (length capacities) tasks hours kind n t ≡ true → judge_kind_by hours tasks capacities heights boxes fits kind n t ≡ Moved i b
       → (i ≡ n) × (n < tasks)
   unfolding judge_kind_by is_step Names
   names-kind hours tasks capacities heights boxes fits kind_c t is e =
-      (names-calendar (get_or fits n Never) (bounds_at boxes n) e, ltb-true _ _ (and_left _ _ is))
+      (names-calendar (get_or fits n None) (bounds_at boxes n) e, ltb-true _ _ (and_left _ _ is))
   names-kind hours tasks capacities heights boxes fits kind_o t is e =
       absurd (if-case (ltb (get_or capacities n 0) (load_of fits (room_part tasks heights n) t)) Impossible NotAdmitted (Moved i b) e
       (λ p q. let z : ◌≡◌ {A = ℕ} 0 1 = cc in omega arith) (λ p q. let z : ◌≡◌ {A = ℕ} 0 1 = cc in omega arith))
@@ -243,7 +242,7 @@ module _ (i : ℕ) (b : Bounds) (n : ℕ) where
       (names-bound hours tasks capacities heights boxes fits false t e, ltb-true _ _ (and_left _ _ is))
   names-kind hours tasks capacities heights boxes fits unknown_kind t is e = absurd (false≢true is)
 
-pub moved-there : (hours tasks : ℕ) (capacities heights boxes : List ℕ) (fits : List Fit) (x : Step) (r : Judged) (i : ℕ) (b : Bounds)
+pub moved-there : (hours tasks : ℕ) (capacities heights boxes : List ℕ) (fits : List (Option Window)) (x : Step) (r : Judged) (i : ℕ) (b : Bounds)
     → r ≡ judge_by hours tasks capacities heights boxes fits x → r ≡ Moved i b → i < tasks
 unfolding judge_by
 moved-there hours tasks capacities heights boxes fits x r i b is e =

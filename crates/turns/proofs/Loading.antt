@@ -1,5 +1,6 @@
 -- Laws of the load, from the answers that are kept: in one hour, as a sum over the tasks passed; in all hours, as the numbers are filled, a stretch
 -- of them raised by a height for each task. Assumes nothing.
+use Rattle.std.specs.Prelude.{Option, None, Some}
 use mathlib.Core.Path.{◌≡◌, refl, sym, ap, ◌∙◌}
 use mathlib.Core.Logic.{◌≢◌}
 use mathlib.Core.Bool.{Bool, true, false}
@@ -22,8 +23,6 @@ use Rattle.units.proofs.Summing.{where-more, where-skip, where-most}
 use Rattle.units.proofs.Choices.{and-rest}
 use Rattle.plan.specs.Plan.{room_part}
 use Rattle.calendar.specs.declared.Window.{Window}
-use Rattle.calendar.specs.declared.Fit.{Fit}
-use Rattle.calendar.specs.declared.Fit.TheVariants.{Never, Within}
 use Rattle.calendar.specs.Rule.{lst, ect}
 use Rattle.steps.specs.Load.{must_run}
 use Rattle.turns.specs.Inner.Kept.{load_of}
@@ -33,26 +32,26 @@ use Rattle.turns.specs.Inner.Ready.{RoomReady}
 -- ---- the compulsory part of a task with a window
 
 module _ (w : Window) (t : ℕ) where
-  pub before-lst : t < lst w → must_run (Within w) t ≡ false
+  pub before-lst : t < lst w → must_run (Some w) t ≡ false
   unfolding must_run
   before-lst h = not_left _ _ (lt-leb (lst w) t h)
 
-  pub from-lst : lst w ≤ t → must_run (Within w) t ≡ ltb t (ect w)
+  pub from-lst : lst w ≤ t → must_run (Some w) t ≡ ltb t (ect w)
   unfolding must_run
   from-lst h = and-rest _ _ (le-leb (lst w) t h)
 
 -- ---- the sum over the tasks passed
 
-module _ (fits : List Fit) (heights : List ℕ) (t : ℕ) where
+module _ (fits : List (Option Window)) (heights : List ℕ) (t : ℕ) where
   -- the load of the first n tasks
   unfoldable pub load_to : ℕ → ℕ
-  load_to n = sum_where (λ j. must_run (get_or fits j Never) t) (λ j. get_or heights j 0) n
+  load_to n = sum_where (λ j. must_run (get_or fits j None) t) (λ j. get_or heights j 0) n
 
   pub load-none : load_to 0 ≡ 0
   unfolding load_to sum_where sum_to
   load-none = refl
 
-  pub load-next : (n : ℕ) (fit : Fit) → get_or fits n Never ≡ fit → load_to (n + 1) ≡ load_to n + part_at fit (get_or heights n 0) t
+  pub load-next : (n : ℕ) (fit : Option Window) → get_or fits n None ≡ fit → load_to (n + 1) ≡ load_to n + part_at fit (get_or heights n 0) t
   unfolding load_to sum_where sum_to part_at
   load-next n fit e = rw (add-one, e)
 
@@ -61,15 +60,15 @@ module _ (fits : List Fit) (heights : List ℕ) (t : ℕ) where
   load-all = refl
 
   module _ (sum i : ℕ) (so_far : sum ≡ load_to i) where
-    pub load-never : get_or fits i Never ≡ Never → sum ≡ load_to (i + 1)
+    pub load-never : get_or fits i None ≡ None → sum ≡ load_to (i + 1)
     unfolding load_to must_run
     load-never e = where-skip _ _ sum i so_far (rw e)
 
-    pub load-rests : (w : Window) → get_or fits i Never ≡ Within w → must_run (Within w) t ≡ false → sum ≡ load_to (i + 1)
+    pub load-rests : (w : Window) → get_or fits i None ≡ Some w → must_run (Some w) t ≡ false → sum ≡ load_to (i + 1)
     unfolding load_to
     load-rests w e q = where-skip _ _ sum i so_far (rw e q)
 
-    pub load-runs : (w : Window) → get_or fits i Never ≡ Within w → must_run (Within w) t ≡ true → sum + get_or heights i 0 ≡ load_to (i + 1)
+    pub load-runs : (w : Window) → get_or fits i None ≡ Some w → must_run (Some w) t ≡ true → sum + get_or heights i 0 ≡ load_to (i + 1)
     unfolding load_to
     load-runs w e q = where-more _ _ sum i so_far (rw e q)
 
@@ -95,19 +94,19 @@ module _ (fits : List Fit) (heights : List ℕ) (t : ℕ) where
 -- ---- the hours of a compulsory part
 
 module _ (w : Window) (height t : ℕ) where
-  pub part-before : t < lst w → part_at (Within w) height t ≡ 0
+  pub part-before : t < lst w → part_at (Some w) height t ≡ 0
   unfolding part_at must_run
   part-before l = if-false _ _ _ (not_left _ _ (lt-leb (lst w) t l))
 
-  pub part_in : lst w ≤ t → t < ect w → part_at (Within w) height t ≡ height
+  pub part_in : lst w ≤ t → t < ect w → part_at (Some w) height t ≡ height
   unfolding part_at must_run
   part_in l u = if-true _ _ _ (and_both _ _ (le-leb (lst w) t l) (lt-ltb t (ect w) u))
 
-  pub part-after : ect w ≤ t → part_at (Within w) height t ≡ 0
+  pub part-after : ect w ≤ t → part_at (Some w) height t ≡ 0
   unfolding part_at must_run
   part-after u = if-false _ _ _ (not_right _ _ (le-ltb t (ect w) u))
 
-pub part-never : (height t : ℕ) → part_at Never height t ≡ 0
+pub part-never : (height t : ℕ) → part_at None height t ≡ 0
 unfolding part_at must_run
 part-never height t = refl
 
@@ -147,11 +146,11 @@ raised-next {first} {end} {height} {old} {new} {t} n is k l r =
 -- once all are passed: the room's numbers, which begin at `from`, are raised by the task's part, and the others are as they were
 module _ (w : Window) (from hours end height : ℕ) (old new : List ℕ) (t : ℕ) (is-end : end ≡ min (ect w) hours) (all : from + end ≤ t)
     (r : Raised (from + lst w) (from + end) height old new t) where
-  pub raised_all : (u : ℕ) → u < hours → get_or new (from + u) 0 ≡ get_or old (from + u) 0 + part_at (Within w) height u
+  pub raised_all : (u : ℕ) → u < hours → get_or new (from + u) 0 ≡ get_or old (from + u) 0 + part_at (Some w) height u
   raised_all u m = go (ltb u (lst w)) refl (ltb (from + u) t) refl
     where
       go : (a : Bool) → ltb u (lst w) ≡ a → (b : Bool) → ltb (from + u) t ≡ b
-          → get_or new (from + u) 0 ≡ get_or old (from + u) 0 + part_at (Within w) height u
+          → get_or new (from + u) 0 ≡ get_or old (from + u) 0 + part_at (Some w) height u
       go true p b q =
           let h : u < lst w = ltb-true u (lst w) p in
           omega (arith, r.before (from + u) (omega arith), part-before w height u h)
@@ -179,12 +178,12 @@ module _ (w : Window) (from hours end height : ℕ) (old new : List ℕ) (t : �
 -- ---- the sums over the tasks passed, in all hours
 
 -- the room's numbers hold the sums over the first n tasks, and the others are as they were
-pub record Filled (fits : List Fit) (heights : List ℕ) (from hours : ℕ) (old new : List ℕ) (n : ℕ) : Type 0 where
+pub record Filled (fits : List (Option Window)) (heights : List ℕ) (from hours : ℕ) (old new : List ℕ) (n : ℕ) : Type 0 where
   pub changed : Changed from hours old new
   pub sums : (t : ℕ) → t < hours → get_or new (from + t) 0 ≡ load_to fits heights t n
 
 -- numbers that are 0
-pub filled_none : {fits : List Fit} {heights : List ℕ} {from hours : ℕ} {old : List ℕ} → ((t : ℕ) → t < hours → get_or old (from + t) 0 ≡ 0)
+pub filled_none : {fits : List (Option Window)} {heights : List ℕ} {from hours : ℕ} {old : List ℕ} → ((t : ℕ) → t < hours → get_or old (from + t) 0 ≡ 0)
     → Filled fits heights from hours old old 0
 filled_none {fits} {heights} h =
     record {
@@ -192,17 +191,17 @@ filled_none {fits} {heights} h =
       sums = λ t l. h t l ∙ sym (load-none fits heights t);
     }
 
-module _ {fits : List Fit} {heights : List ℕ} {from hours : ℕ} {old new : List ℕ} {n : ℕ} (r : Filled fits heights from hours old new n) where
-  pub filled-never : get_or fits n Never ≡ Never → Filled fits heights from hours old new (n + 1)
+module _ {fits : List (Option Window)} {heights : List ℕ} {from hours : ℕ} {old new : List ℕ} {n : ℕ} (r : Filled fits heights from hours old new n) where
+  pub filled-never : get_or fits n None ≡ None → Filled fits heights from hours old new (n + 1)
   filled-never e =
       record {
         changed = r.changed;
-        sums = λ t l. omega (arith, r.sums t l, load-next fits heights t n Never e, part-never (get_or heights n 0) t);
+        sums = λ t l. omega (arith, r.sums t l, load-next fits heights t n None e, part-never (get_or heights n 0) t);
       }
 
-  pub filled_next : (w : Window) {own : Height} (next : List ℕ) → get_or fits n Never ≡ Within w → own ≡ height (get_or heights n 0)
+  pub filled_next : (w : Window) {own : Height} (next : List ℕ) → get_or fits n None ≡ Some w → own ≡ height (get_or heights n 0)
       → Changed from hours new next
-      → ((t : ℕ) → t < hours → get_or next (from + t) 0 ≡ get_or new (from + t) 0 + part_at (Within w) own.0 t)
+      → ((t : ℕ) → t < hours → get_or next (from + t) 0 ≡ get_or new (from + t) 0 + part_at (Some w) own.0 t)
       → Filled fits heights from hours old next (n + 1)
   filled_next w next e is c h =
       record {
@@ -212,7 +211,7 @@ module _ {fits : List Fit} {heights : List ℕ} {from hours : ℕ} {old new : Li
               before = λ k l. c.before k l ∙ r.changed.before k l;
               after = λ k l. c.after k l ∙ r.changed.after k l;
             };
-        sums = λ t l. omega (arith, r.sums t l, load-next fits heights t n (Within w) e, rw is at h t l);
+        sums = λ t l. omega (arith, r.sums t l, load-next fits heights t n (Some w) e, rw is at h t l);
       }
 
   pub filled-room : RoomReady heights → n < length heights → (t : ℕ) → t < hours → get_or new (from + t) 0 + get_or heights n 0 < 65536
@@ -227,16 +226,16 @@ module _ {fits : List Fit} {heights : List ℕ} {from hours : ℕ} {old new : Li
 -- ---- room by room
 
 -- the numbers of the first n rooms hold their loads, and the rest are 0
-pub record RoomsFilled (hours tasks : ℕ) (fits : List Fit) (heights old new : List ℕ) (n : ℕ) : Type 0 where
+pub record RoomsFilled (hours tasks : ℕ) (fits : List (Option Window)) (heights old new : List ℕ) (n : ℕ) : Type 0 where
   pub same : length new ≡ length old
   pub load : (room : ℕ) → room < n → (t : ℕ) → t < hours → get_or new (room * hours + t) 0 ≡ load_of fits (room_part tasks heights room) t
   pub rest : (k : ℕ) → n * hours ≤ k → k < length old → get_or new k 0 ≡ 0
 
-pub rooms-none : {hours tasks : ℕ} {fits : List Fit} {heights old : List ℕ} → ((k : ℕ) → k < length old → get_or old k 0 ≡ 0)
+pub rooms-none : {hours tasks : ℕ} {fits : List (Option Window)} {heights old : List ℕ} → ((k : ℕ) → k < length old → get_or old k 0 ≡ 0)
     → RoomsFilled hours tasks fits heights old old 0
 rooms-none h = record { same = refl; load = λ room l. absurd (omega arith); rest = λ k m l. h k l }
 
-module _ {hours tasks rooms : ℕ} {fits : List Fit} {heights old new : List ℕ} {n : ℕ} (r : RoomsFilled hours tasks fits heights old new n)
+module _ {hours tasks rooms : ℕ} {fits : List (Option Window)} {heights old new : List ℕ} {n : ℕ} (r : RoomsFilled hours tasks fits heights old new n)
     (each : length old ≡ rooms * hours) (there : n < rooms) where
   -- the next room's numbers lie among them, and are 0
   pub room-there : n * hours + hours ≤ length new
@@ -262,7 +261,7 @@ module _ {hours tasks rooms : ℕ} {fits : List Fit} {heights old new : List ℕ
           let below : room < n = omega arith in
           c.before (room * hours + t) (omega (arith, part-within hours n room below)) ∙ r.load room below t m
 
-pub rooms-all : {hours tasks rooms : ℕ} {fits : List Fit} {heights old new : List ℕ} {n : ℕ} → RoomsFilled hours tasks fits heights old new n
+pub rooms-all : {hours tasks rooms : ℕ} {fits : List (Option Window)} {heights old new : List ℕ} {n : ℕ} → RoomsFilled hours tasks fits heights old new n
     → length old ≡ rooms * hours → n ≤ rooms → rooms ≤ n → Loaded hours rooms tasks new fits heights
 rooms-all r each k l =
     record { each = omega (arith, r.same); load = λ room m t h. r.load room (omega arith) t h }

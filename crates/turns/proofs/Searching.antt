@@ -22,8 +22,6 @@ use Rattle.plan.specs.Boxes.{bounds_at}
 use Rattle.plan.proofs.Passed.{room-length, room_at}
 use Rattle.units.proofs.Choices.{and-rest, first-eq, first_rest, outer-ends, outer-goes-on}
 use Rattle.calendar.specs.declared.Window.{Window}
-use Rattle.calendar.specs.declared.Fit.{Fit}
-use Rattle.calendar.specs.declared.Fit.TheVariants.{Never, Within}
 use Rattle.calendar.specs.Rule.{lst, ect}
 use Rattle.steps.specs.declared.Step.{Step}
 use Rattle.steps.specs.declared.Judged.{Judged}
@@ -50,11 +48,11 @@ judged-is Impossible x = refl
 judged-is (Moved i b) x = refl
 
 -- C, of a task with no valid triple, and of one with a window
-pub never-narrowed : (fit : Fit) (i : ℕ) (b : Bounds) → fit ≡ Never → admits (calendar_by fit i b) ≡ true
+pub never-narrowed : (fit : Option Window) (i : ℕ) (b : Bounds) → fit ≡ None → admits (calendar_by fit i b) ≡ true
 unfolding admits calendar_by on_judged on_fit
 never-narrowed fit i b e = rw e
 
-pub narrowed : (fit : Fit) (i : ℕ) (w : Window) (b : Bounds) → fit ≡ Within w → admits (calendar_by fit i b) ≡ not (same_bounds w.bounds b)
+pub narrowed : (fit : Option Window) (i : ℕ) (w : Window) (b : Bounds) → fit ≡ Some w → admits (calendar_by fit i b) ≡ not (same_bounds w.bounds b)
 unfolding calendar_by on_fit
 narrowed fit i w b e = rw e (go (same_bounds w.bounds b))
   where
@@ -91,7 +89,7 @@ is-U : kind_of (letter_of false) ≡ kind_u
 unfolding kind_of letter_of
 is-U = refl
 
-module _ (hours tasks : ℕ) (capacities heights boxes : List ℕ) (fits : List Fit) where
+module _ (hours tasks : ℕ) (capacities heights boxes : List ℕ) (fits : List (Option Window)) where
   admitted-is : (letter i t : ℕ) (k : Kind) → kind_of letter ≡ k → is_step (length capacities) tasks hours k i t ≡ true
       → admitted_by hours tasks capacities heights boxes fits (step letter i t)
       ≡ some_if (admits (judge_kind_by hours tasks capacities heights boxes fits k i t)) (step letter i t)
@@ -112,7 +110,7 @@ module _ (hours tasks : ℕ) (capacities heights boxes : List ℕ) (fits : List 
 
   pub calendar-is : (i : ℕ) → i < tasks
       → admitted_by hours tasks capacities heights boxes fits (step letter_c i 0)
-      ≡ some_if (admits (calendar_by (get_or fits i Never) i (bounds_at boxes i))) (step letter_c i 0)
+      ≡ some_if (admits (calendar_by (get_or fits i None) i (bounds_at boxes i))) (step letter_c i 0)
   unfolding judge_kind_by is_step
   calendar-is i l = admitted-is letter_c i 0 kind_c is-C (and_both _ _ (lt-ltb i tasks l) refl)
 
@@ -130,12 +128,12 @@ module _ (hours tasks : ℕ) (capacities heights boxes : List ℕ) (fits : List 
 
   module _ (i t : ℕ) where
     -- a task with no valid triple
-    pub none_never : (lower : Bool) → get_or fits i Never ≡ Never → admitted_by hours tasks capacities heights boxes fits (step (letter_of lower) i t) ≡ None
+    pub none_never : (lower : Bool) → get_or fits i None ≡ None → admitted_by hours tasks capacities heights boxes fits (step (letter_of lower) i t) ≡ None
     unfolding judge_kind_by bound_by on_fit admits on_judged
     none_never true e = not-admitted (letter_of true) i t kind_l is-L (rw e)
     none_never false e = not-admitted (letter_of false) i t kind_u is-U (rw e)
 
-    module _ (w : Window) (b : Bounds) (e : get_or fits i Never ≡ Within w) (f : b ≡ bounds_at boxes i) where
+    module _ (w : Window) (b : Bounds) (e : get_or fits i None ≡ Some w) (f : b ≡ bounds_at boxes i) where
       excess : Bool
       excess = excess_by tasks capacities heights fits w i t
 
@@ -184,14 +182,14 @@ module _ (hours tasks : ℕ) (capacities heights boxes : List ℕ) (fits : List 
     of_task i = first_of (at_hour i) hours
 
     -- a task with no valid triple is passed over
-    pub skip-never : (i : ℕ) → get_or fits i Never ≡ Never → first_of of_task i ≡ None → first_of of_task (i + 1) ≡ None
+    pub skip-never : (i : ℕ) → get_or fits i None ≡ None → first_of of_task i ≡ None → first_of of_task (i + 1) ≡ None
     skip-never i e n = first_next of_task i n ∙ first-all-none (at_hour i) hours (λ t l. none_never i t lower e)
 
     -- the hour after one in which the step is not admitted
     pub next-hour : (i t : ℕ) {next : Hour} → next ≡ hour (t + 1) → first_of (at_hour i) t ≡ None → at_hour i t ≡ None → first_of (at_hour i) next.0 ≡ None
     next-hour i t is n h = rw is (first_next (at_hour i) t n ∙ h)
 
-    module _ (i : ℕ) (w : Window) (b : Bounds) (e : get_or fits i Never ≡ Within w) (f : b ≡ bounds_at boxes i) where
+    module _ (i : ℕ) (w : Window) (b : Bounds) (e : get_or fits i None ≡ Some w) (f : b ≡ bounds_at boxes i) where
       -- the hours before the first, and those from the end on
       pub skip-before : (t : ℕ) → t ≡ first_hour lower w b → first_of (at_hour i) t ≡ None
       skip-before t q = first-all-none (at_hour i) t (λ u l. none_before i u w b e f lower (omega arith))
@@ -215,14 +213,14 @@ module _ (hours tasks : ℕ) (capacities heights boxes : List ℕ) (fits : List 
 
 -- ---- what the loop over the tasks finds of C
 
-pub calendar-at : (boxes : List ℕ) (fits : List Fit) (i : ℕ) (b : Bounds) (r : Bool) → b ≡ bounds_at boxes i
-    → r ≡ admits (calendar_by (get_or fits i Never) i b)
-    → some_if (admits (calendar_by (get_or fits i Never) i (bounds_at boxes i))) (step letter_c i 0) ≡ some_if r (step letter_c i 0)
+pub calendar-at : (boxes : List ℕ) (fits : List (Option Window)) (i : ℕ) (b : Bounds) (r : Bool) → b ≡ bounds_at boxes i
+    → r ≡ admits (calendar_by (get_or fits i None) i b)
+    → some_if (admits (calendar_by (get_or fits i None) i (bounds_at boxes i))) (step letter_c i 0) ≡ some_if r (step letter_c i 0)
 calendar-at boxes fits i b r f q = rw (q, f)
 
 -- ---- the first of all, from the searches for each kind
 
-module _ (hours tasks : ℕ) (capacities heights boxes : List ℕ) (fits : List Fit) where
+module _ (hours tasks : ℕ) (capacities heights boxes : List ℕ) (fits : List (Option Window)) where
   abbrev First : Kind → Option Step
   First = first_of_kind (length capacities) tasks hours (admitted_by hours tasks capacities heights boxes fits)
 

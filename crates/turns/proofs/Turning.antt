@@ -1,4 +1,5 @@
 -- Laws of a turn: the step that the code finds and judges is the step that stands next, with what it comes to. Assumes nothing.
+use Rattle.calendar.specs.declared.Window.{Window}
 use mathlib.Core.Path.{◌≡◌, sym, ap, ap₂, ◌∙◌}
 use Rattle.std.specs.Prelude.{Option, None, Some}
 use mathlib.Core.List.{List}
@@ -9,7 +10,6 @@ use Rattle.units.proofs.Choices.{option-case, None≢Some}
 use Rattle.units.specs.declared.Bounds.{Bounds}
 use Rattle.plan.specs.Plan.{Plan, room_count, task_count}
 use Rattle.plan.specs.Boxes.{with_bounds}
-use Rattle.calendar.specs.declared.Fit.{Fit}
 use Rattle.steps.specs.declared.Step.{Step}
 use Rattle.steps.specs.declared.Judged.{Judged}
 use Rattle.steps.specs.declared.Judged.TheVariants.{Unknown, NotAdmitted, Impossible, Moved}
@@ -36,7 +36,7 @@ moves-is boxes left x y NotAdmitted e s = absurd (let z : ◌≡◌ {A = ℕ} 0 
 moves-is boxes left x y Impossible e s = absurd (let z : ◌≡◌ {A = ℕ} 0 1 = cc in omega arith)
 moves-is boxes left x y (Moved i b) e s = let z : with_bounds boxes i b ≡ left = cc in ap₂ moves s z
 
-module _ (P : Plan) (boxes : List ℕ) (fits : List Fit) (k : Keeping P boxes fits) (r : Option Step)
+module _ (P : Plan) (boxes : List ℕ) (fits : List (Option Window)) (k : Keeping P boxes fits) (r : Option Step)
     (is :
     r
     ≡ first_by (room_count P) (task_count P) P.shifts.hours (admitted_by P.shifts.hours (task_count P) P.capacities P.heights boxes fits)

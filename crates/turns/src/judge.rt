@@ -27,13 +27,7 @@ pub fn exceeds(w: Window, height: Height, load: Height, capacity: Height, t: Hou
 }
 
 // Whether task i exceeds some room's capacity in the hour.
-fn has_excess(
-    w: Window,
-    plan: &Plan,
-    fits: &Fits,
-    i: usize,
-    t: Hour,
-) -> bool
+fn has_excess(w: Window, plan: &Plan, fits: &Fits, i: usize, t: Hour) -> bool
     requires { let P = plan_in plan.now in RoomsReady (room_count P) (task_count P) P.heights × (i < task_count P) }
     ensures { let P = plan_in plan.now in result ≡ excess_by (task_count P) P.capacities P.heights fits.now w i t.0 }
 {
@@ -117,14 +111,7 @@ fn judge_upper(w: Window, task: u16, b: Bounds, excess: bool, t: Hour) -> Judged
 }
 
 // L of a task, or U: which of the two bounds of its start moves.
-fn judge_bound(
-    lower: bool,
-    plan: &Plan,
-    boxes: &[u16],
-    fits: &Fits,
-    task: u16,
-    t: Hour,
-) -> Judged
+fn judge_bound(lower: bool, plan: &Plan, boxes: &[u16], fits: &Fits, task: u16, t: Hour) -> Judged
     requires { let P = plan_in plan.now in Ready (room_count P) (task_count P) P.heights boxes.now × (task < task_count P) × (t.0 < most_hours) }
     ensures { let P = plan_in plan.now in
         (hours : ℕ) → result ≡ bound_by hours (task_count P) P.capacities P.heights boxes.now fits.now lower task t.0 }
@@ -191,16 +178,16 @@ fn is_step(rooms: usize, tasks: usize, hours: Duration, x: Step) -> bool
 }
 
 // What a step comes to at its turn.
-pub fn judge_step(
-    plan: &Plan,
-    boxes: &[u16],
-    fits: &Fits,
-    x: Step,
-) -> Judged
+pub fn judge_step(plan: &Plan, boxes: &[u16], fits: &Fits, x: Step) -> Judged
     requires { let P = plan_in plan.now in Ready (room_count P) (task_count P) P.heights boxes.now × (P.shifts.hours ≤ most_hours) }
     ensures { let P = plan_in plan.now in result ≡ judge_by P.shifts.hours (task_count P) P.capacities P.heights boxes.now fits.now x }
 {
-    if !is_step(plan.capacities.len(), plan.shifts.task_calendars.len(), plan.shifts.hours, x) {
+    if !is_step(
+        plan.capacities.len(),
+        plan.shifts.task_calendars.len(),
+        plan.shifts.hours,
+        x,
+    ) {
         return Judged::Unknown;
     }
     let kind = x.kind;
@@ -209,7 +196,10 @@ pub fn judge_step(
     let t = Hour(x.hour);
     match kind {
         b'C' => judge_calendar(fits[i], task, plan::bounds_at(boxes, i)),
-        b'O' => judge_load(plan.capacity_of(i), load::load_at(fits, plan.heights_of(i), t)),
+        b'O' => judge_load(
+            plan.capacity_of(i),
+            load::load_at(fits, plan.heights_of(i), t),
+        ),
         b'L' => judge_bound(true, plan, boxes, fits, task, t),
         b'U' => judge_bound(false, plan, boxes, fits, task, t),
         _ => Judged::Unknown,

@@ -7,6 +7,7 @@ use units::Bounds;
 pub mod judge;
 mod load;
 mod search;
+mod side;
 pub mod turn;
 
 // The answers of the calendar rule that are kept, one for each task.

@@ -1,6 +1,8 @@
 // The load of each hour, from the answers of the calendar rule that are kept.
 ghost use Rattle.std.specs.Prelude.{◌≡◌, ℕ, ◌+◌, ◌*◌, ◌≤◌, ◌<◌, min, length, get_or, Some};
 ghost use Rattle.units.specs.Limits.{most_hours};
+ghost use Rattle.plan.specs.Plan.{room_count, task_count};
+ghost use Rattle.plan.specs.Lent.{plan_in};
 ghost use Rattle.steps.specs.Load.{must_run};
 ghost use Rattle.turns.specs.Inner.Kept.{load_of};
 ghost use Rattle.turns.specs.Inner.Finding.{part_at, Changed, Loaded};
@@ -8,6 +10,7 @@ ghost use Rattle.turns.specs.Inner.Ready.{RoomReady, RoomsReady};
 
 use crate::Fits;
 use calendar::Window;
+use plan::Plan;
 use units::{Height, Hour};
 
 // Whether the compulsory part of a task with the window holds the hour.
@@ -60,13 +63,7 @@ fn add_part(loads: &mut [u16], from: usize, hours: usize, w: Window, height: Hei
 }
 
 // Each of a room's numbers, which are 0, becomes the load of its hour. A task with no valid triple has no part in it.
-fn fill_room(
-    loads: &mut [u16],
-    from: usize,
-    hours: usize,
-    fits: &Fits,
-    heights: &[u16],
-)
+fn fill_room(loads: &mut [u16], from: usize, hours: usize, fits: &Fits, heights: &[u16])
     requires { (hours ≤ most_hours)
         × (from + hours ≤ length loads.old)
         × ((t : ℕ) → t < hours → get_or loads.old (from + t) 0 ≡ 0)
@@ -84,22 +81,18 @@ fn fill_room(
 }
 
 // The numbers, which are 0, become the loads of the hours, room by room.
-pub fn fill_loads(
-    loads: &mut [u16],
-    hours: usize,
-    fits: &Fits,
-    rooms: usize,
-    tasks: usize,
-    heights: &[u16],
-)
-    requires { (hours ≤ most_hours)
-        × (length loads.old ≡ rooms * hours)
+pub fn fill_loads(loads: &mut [u16], plan: &Plan, fits: &Fits)
+    requires { let P = plan_in plan.now in
+        (P.shifts.hours ≤ most_hours)
+        × (length loads.old ≡ room_count P * P.shifts.hours)
         × ((k : ℕ) → k < length loads.old → get_or loads.old k 0 ≡ 0)
-        × RoomsReady rooms tasks heights.now }
-    ensures { (length loads.new ≡ length loads.old) × Loaded hours rooms tasks loads.new fits.now heights.now }
+        × RoomsReady (room_count P) (task_count P) P.heights }
+    ensures { let P = plan_in plan.now in
+        (length loads.new ≡ length loads.old) × Loaded P.shifts.hours (room_count P) (task_count P) loads.new fits.now P.heights }
 {
-    for room in 0..rooms {
-        let in_room = plan::room_part(heights, tasks, room);
+    let hours = plan.shifts.hours.0 as usize;
+    for room in 0..plan.capacities.len() {
+        let in_room = plan.heights_of(room);
         fill_room(loads, room * hours, hours, fits, in_room);
     }
 }

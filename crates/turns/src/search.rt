@@ -1,166 +1,128 @@
 // The search for the first admitted step, in the filter's order, from the boxes and the answers of the calendar rule that are kept.
-ghost use Rattle.std.specs.Prelude.{true, false, List, ◌≡◌, ℕ, ◌+◌, ◌*◌, ◌≤◌, ◌<◌, length, get_or};
+ghost use Rattle.std.specs.Prelude.{true, false, List, ◌≡◌, ℕ, ◌+◌, ◌*◌, ◌≤◌, ◌<◌, length, get_or, Option};
 ghost use Rattle.units.specs.Limits.{most_hours, most_rooms, most_tasks, box_numbers};
+ghost use Rattle.plan.specs.Plan.{room_count, task_count};
+ghost use Rattle.plan.specs.Lent.{plan_in};
+ghost use Rattle.calendar.specs.declared.Window.{Window};
 ghost use Rattle.steps.specs.Filter.{first_by, filter_order};
-ghost use Rattle.turns.specs.Inner.Kept.{excess_by, calendar_by, admitted_by, found_step};
+ghost use Rattle.turns.specs.Inner.Kept.{excess_by, calendar_by, admitted_by, is_lower};
 ghost use Rattle.turns.specs.Inner.Ready.{RoomsReady, Ready};
-ghost use Rattle.turns.specs.Inner.Finding.{admits, letter_of, first_hour, end_hour, Loaded, load_order, first_calendar, room_overload, first_overload, first_excess};
+ghost use Rattle.turns.specs.Inner.Finding.{admits, Loaded, load_order, first_calendar, room_overload, first_overload, first_excess};
 
-use crate::{judge, load};
-use calendar::{Fit, Window};
-use plan;
-use steps::{Found, Step};
-use units::{Bounds, Duration, Height, Hour, RoomNumber};
+use crate::side::Side;
+use crate::{Fits, judge, load};
+use calendar::Window;
+use plan::Plan;
+use steps::{Step, StepKind};
+use units::{Bounds, Duration, Height, Hour, MOST_ROOMS};
 
 // Whether C is admitted: the task has no valid triple, or a bound changes.
-fn is_narrowed(fit: Fit, task: u16, b: Bounds) -> bool
+fn is_narrowed(fit: Option<Window>, task: u16, b: Bounds) -> bool
     ensures { result ≡ admits (calendar_by fit task b) }
 {
-    let Fit::Within(w) = fit else {
+    let Some(w) = fit else {
         return true;
     };
-    !judge::same_bounds(w.bounds, b)
+    w.bounds != b
 }
 
 // The first C, by task.
-fn first_calendar(tasks: usize, boxes: &[u16], fits: [Fit; Bounds::MOST]) -> Found
+fn first_calendar(tasks: usize, boxes: &[u16], fits: &Fits) -> Option<Step>
     requires { (tasks ≤ most_tasks) × (length boxes.now ≡ box_numbers * tasks) }
-    ensures { found_step result ≡ first_calendar boxes.now fits tasks }
+    ensures { result ≡ first_calendar boxes.now fits.now tasks }
 {
     for i in 0..tasks {
         let task = i as u16;
         if is_narrowed(fits[i], task, plan::bounds_at(boxes, i)) {
-            return Found::At(Step {
-                kind: b'C',
+            return Some(Step {
+                kind: StepKind::Calendar.letter(),
                 task,
                 hour: 0,
             });
         }
     }
-    Found::Nothing
+    None
 }
 
 // The first O of a room, by hour: the first hour whose load exceeds the capacity.
-fn room_overload(room: u16, loads: &[u16], capacity: Height) -> Found
+fn room_overload(room: u16, loads: &[u16], capacity: Height) -> Option<Step>
     requires { length loads.now ≤ most_hours }
-    ensures { found_step result ≡ room_overload room loads.now capacity.0 }
+    ensures { result ≡ room_overload room loads.now capacity.0 }
 {
     for at in 0..loads.len() {
-        if plan::height_at(loads, at).exceeds(capacity) {
-            return Found::At(Step {
-                kind: b'O',
+        if plan::height_at(loads, at) > capacity {
+            return Some(Step {
+                kind: StepKind::Overload.letter(),
                 task: room,
                 hour: at as u16,
             });
         }
     }
-    Found::Nothing
+    None
 }
 
 // The first O, by room, then hour.
-fn first_overload(hours: usize, loads: &[u16], capacities: &[u16]) -> Found
+fn first_overload(hours: usize, loads: &[u16], capacities: &[u16]) -> Option<Step>
     requires { (hours ≤ most_hours) × (length capacities.now ≤ most_rooms) × (length loads.now ≡ length capacities.now * hours) }
-    ensures { found_step result ≡ first_overload hours loads.now capacities.now }
+    ensures { result ≡ first_overload hours loads.now capacities.now }
 {
     for room in 0..capacities.len() {
         let in_room = plan::room_part(loads, hours, room);
         let found = room_overload(room as u16, in_room, plan::height_at(capacities, room));
-        let Found::Nothing = found else {
+        if found.is_some() {
             return found;
-        };
+        }
     }
-    Found::Nothing
+    None
 }
 
 // Whether task i exceeds some room's capacity in the hour, by the loads.
-fn is_crowded(
-    w: Window,
-    hours: usize,
-    capacities: &[u16],
-    tasks: usize,
-    heights: &[u16],
-    loads: &[u16],
-    i: usize,
-    t: Hour,
-) -> bool
-    requires { RoomsReady (length capacities.now) tasks heights.now
-        × ((fits : List Fit) × Loaded hours (length capacities.now) tasks loads.now fits heights.now)
-        × (hours ≤ most_hours)
-        × (i < tasks)
-        × (t.0 < hours) }
-    ensures { (fits : List Fit) → Loaded hours (length capacities.now) tasks loads.now fits heights.now
-        → result ≡ excess_by tasks capacities.now heights.now fits w i t.0 }
+fn is_crowded(w: Window, plan: &Plan, loads: &[u16], i: usize, t: Hour) -> bool
+    requires { let P = plan_in plan.now in
+        RoomsReady (room_count P) (task_count P) P.heights
+        × ((fits : List (Option Window)) × Loaded P.shifts.hours (room_count P) (task_count P) loads.now fits P.heights)
+        × (P.shifts.hours ≤ most_hours)
+        × (i < task_count P)
+        × (t.0 < P.shifts.hours) }
+    ensures { let P = plan_in plan.now in
+        (fits : List (Option Window)) → Loaded P.shifts.hours (room_count P) (task_count P) loads.now fits P.heights
+        → result ≡ excess_by (task_count P) P.capacities P.heights fits w i t.0 }
 {
-    for room in 0..capacities.len() {
-        let height = plan::height_at(heights, room * tasks + i);
+    let hours = plan.shifts.hours.0 as usize;
+    for room in 0..plan.capacities.len() {
+        let height = plan::height_at(plan.heights, room * plan.shifts.task_calendars.len() + i);
         let load = plan::height_at(loads, room * hours + t.0 as usize);
-        if judge::exceeds(w, height, load, plan::height_at(capacities, room), t) {
+        if judge::exceeds(w, height, load, plan.capacity_of(room), t) {
             return true;
         }
     }
     false
 }
 
-fn letter(lower: bool) -> u8
-    ensures { result ≡ letter_of lower }
-{
-    if lower {
-        return b'L';
-    }
-    b'U'
-}
-
-// The first hour in which a step of a task with the window and the box can be admitted.
-fn first_hour(lower: bool, w: Window, b: Bounds) -> Hour
-    ensures { result.0 ≡ first_hour lower w b }
-{
-    if lower {
-        return b.earliest;
-    }
-    w.bounds.latest
-}
-
-// The hour before which these end.
-fn end_hour(lower: bool, w: Window, b: Bounds) -> Hour
-    requires { b.latest.0 + b.shortest.0 < 65536 }
-    ensures { result.0 ≡ end_hour lower w b }
-{
-    if lower {
-        return w.ect;
-    }
-    b.latest.plus(b.shortest)
-}
-
 // The first L, or the first U, by task, then hour. A task with no valid triple is skipped, and so are the hours in which no step of its can be
 // admitted.
-fn first_excess(
-    lower: bool,
-    hours: usize,
-    capacities: &[u16],
-    tasks: usize,
-    heights: &[u16],
-    boxes: &[u16],
-    fits: [Fit; Bounds::MOST],
-    loads: &[u16],
-) -> Found
-    requires { Ready (length capacities.now) tasks heights.now boxes.now
-        × Loaded hours (length capacities.now) tasks loads.now fits heights.now
-        × (hours ≤ most_hours) }
-    ensures { found_step result ≡ first_excess hours tasks capacities.now heights.now boxes.now fits lower }
+fn first_excess(lower: bool, plan: &Plan, boxes: &[u16], fits: &Fits, loads: &[u16]) -> Option<Step>
+    requires { let P = plan_in plan.now in
+        Ready (room_count P) (task_count P) P.heights boxes.now
+        × Loaded P.shifts.hours (room_count P) (task_count P) loads.now fits.now P.heights
+        × (P.shifts.hours ≤ most_hours) }
+    ensures { let P = plan_in plan.now in
+        result ≡ first_excess P.shifts.hours (task_count P) P.capacities P.heights boxes.now fits.now (is_lower side) }
 {
-    let mut found = Found::Nothing;
-    let kind = letter(lower);
-    'outer: for i in 0..tasks {
+    let mut found = None;
+    let kind = side.letter();
+    let hours = plan.shifts.hours.0 as usize;
+    'outer: for i in 0..plan.shifts.task_calendars.len() {
         let fit = fits[i];
-        let Fit::Within(w) = fit else {
+        let Some(w) = fit else {
             continue;
         };
         let b = plan::bounds_at(boxes, i);
-        let end = load::clipped(end_hour(lower, w, b), hours);
-        let mut t = first_hour(lower, w, b);
-        while t.is_before(end) {
-            if is_crowded(w, hours, capacities, tasks, heights, loads, i, t) {
-                found = Found::At(Step {
+        let end = load::clipped(side.end_hour(w, b), hours);
+        let mut t = side.first_hour(w, b);
+        while t < end {
+            if is_crowded(w, plan, loads, i, t) {
+                found = Some(Step {
                     kind,
                     task: i as u16,
                     hour: t.0,
@@ -174,77 +136,49 @@ fn first_excess(
 }
 
 // The first O, L or U, with memory for the loads of the hours, which is 0.
-fn first_by_load(
-    hours: usize,
-    capacities: &[u16],
-    tasks: usize,
-    heights: &[u16],
-    boxes: &[u16],
-    fits: [Fit; Bounds::MOST],
-    loads: &mut [u16],
-) -> Found
-    requires { Ready (length capacities.now) tasks heights.now boxes.now
-        × (hours ≤ most_hours)
-        × (length loads.old ≡ length capacities.now * hours)
+fn first_by_load(plan: &Plan, boxes: &[u16], fits: &Fits, loads: &mut [u16]) -> Option<Step>
+    requires { let P = plan_in plan.now in
+        Ready (room_count P) (task_count P) P.heights boxes.now
+        × (P.shifts.hours ≤ most_hours)
+        × (length loads.old ≡ room_count P * P.shifts.hours)
         × ((k : ℕ) → k < length loads.old → get_or loads.old k 0 ≡ 0) }
-    ensures { found_step result ≡ first_by (length capacities.now) tasks hours
-        (admitted_by hours tasks capacities.now heights.now boxes.now fits) load_order }
+    ensures { let P = plan_in plan.now in
+        result ≡ first_by (room_count P) (task_count P) P.shifts.hours
+        (admitted_by P.shifts.hours (task_count P) P.capacities P.heights boxes.now fits.now) load_order }
 {
-    load::fill_loads(loads, hours, fits, capacities.len(), tasks, heights);
-    let overload = first_overload(hours, loads, capacities);
-    let Found::Nothing = overload else {
+    load::fill_loads(loads, plan, fits);
+    let overload = first_overload(plan.shifts.hours.0 as usize, loads, plan.capacities);
+    if overload.is_some() {
         return overload;
-    };
-    let lower = first_excess(true, hours, capacities, tasks, heights, boxes, fits, loads);
-    let Found::Nothing = lower else {
+    }
+    let lower = first_excess(Side::Lower, plan, boxes, fits, loads);
+    if lower.is_some() {
         return lower;
-    };
-    first_excess(false, hours, capacities, tasks, heights, boxes, fits, loads)
+    }
+    first_excess(Side::Upper, plan, boxes, fits, loads)
 }
 
 // The most loads: one an hour in each room.
-const MOST_LOADS: usize = RoomNumber::MOST * Duration::MOST as usize;
+const MOST_LOADS: usize = MOST_ROOMS * Duration::MOST as usize;
 
 // The first admitted step: C by task; O by room, then hour; L by task, then hour; U by task, then hour. A short plan, or one of few rooms, needs
 // little memory for loads, which is set to 0 at each turn.
-pub fn next_step(
-    hours: Duration,
-    capacities: &[u16],
-    tasks: usize,
-    heights: &[u16],
-    boxes: &[u16],
-    fits: [Fit; Bounds::MOST],
-) -> Found
-    requires { Ready (length capacities.now) tasks heights.now boxes.now × (hours.0 ≤ most_hours) }
-    ensures { found_step result ≡ first_by (length capacities.now) tasks hours.0
-        (admitted_by hours.0 tasks capacities.now heights.now boxes.now fits) filter_order }
+pub fn next_step(plan: &Plan, boxes: &[u16], fits: &Fits) -> Option<Step>
+    requires { let P = plan_in plan.now in
+        Ready (room_count P) (task_count P) P.heights boxes.now × (P.shifts.hours ≤ most_hours) }
+    ensures { let P = plan_in plan.now in
+        result ≡ first_by (room_count P) (task_count P) P.shifts.hours
+        (admitted_by P.shifts.hours (task_count P) P.capacities P.heights boxes.now fits.now) filter_order }
 {
-    let calendar = first_calendar(tasks, boxes, fits);
-    let Found::Nothing = calendar else {
+    let calendar = first_calendar(plan.shifts.task_calendars.len(), boxes, fits);
+    if calendar.is_some() {
         return calendar;
-    };
-    let hours = hours.0 as usize;
-    let count = capacities.len() * hours;
+    }
+    let count = plan.capacities.len() * plan.shifts.hours.0 as usize;
     if count <= Duration::MOST as usize {
         let mut loads = [0u16; Duration::MOST as usize];
-        return first_by_load(
-            hours,
-            capacities,
-            tasks,
-            heights,
-            boxes,
-            fits,
-            &mut loads[..count],
-        );
+        return first_by_load(plan, boxes, fits, &mut loads[..count]);
     }
     let mut loads = [0u16; MOST_LOADS];
-    first_by_load(
-        hours,
-        capacities,
-        tasks,
-        heights,
-        boxes,
-        fits,
-        &mut loads[..count],
-    )
+    first_by_load(plan, boxes, fits, &mut loads[..count])
 }

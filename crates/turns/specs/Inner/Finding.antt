@@ -1,13 +1,11 @@
 -- The words of the search for the first admitted step. Only contracts of private functions cite this; 01 has no such terms.
 use Rattle.std.specs.Prelude.{Bool, true, false, ◌≡◌, List, [], ◌∷◌, ℕ, ◌+◌, ◌*◌, ◌≤◌, ◌<◌, ltb, length, get_or, if◌then◌else◌}
-use Rattle.std.specs.Prelude.{Option}
+use Rattle.std.specs.Prelude.{Option, None}
 use Rattle.units.specs.Choice.{some_if, first_of}
 use Rattle.units.specs.declared.Bounds.{Bounds}
 use Rattle.plan.specs.Plan.{room_part}
 use Rattle.plan.specs.Boxes.{bounds_at}
 use Rattle.calendar.specs.declared.Window.{Window}
-use Rattle.calendar.specs.declared.Fit.{Fit}
-use Rattle.calendar.specs.declared.Fit.TheVariants.{Never}
 use Rattle.calendar.specs.Rule.{lst, ect}
 use Rattle.steps.specs.declared.Step.{Step}
 use Rattle.steps.specs.declared.Judged.{Judged}
@@ -31,7 +29,7 @@ unfoldable pub end_hour : Bool → Window → Bounds → ℕ
 end_hour lower w b = if lower then ect w else b.latest.0 + b.shortest.0
 
 -- what a task's compulsory part adds to the load of an hour
-unfoldable pub part_at : Fit → ℕ → ℕ → ℕ
+unfoldable pub part_at : Option Window → ℕ → ℕ → ℕ
 part_at fit height t = if must_run fit t then height else 0
 
 -- numbers of which only those from an index on, so many, may differ
@@ -41,7 +39,7 @@ pub record Changed (from count : ℕ) (old new : List ℕ) : Type 0 where
   pub after : (k : ℕ) → from + count ≤ k → get_or new k 0 ≡ get_or old k 0
 
 -- the numbers are the loads of the hours, room by room
-pub record Loaded (hours rooms tasks : ℕ) (loads : List ℕ) (fits : List Fit) (heights : List ℕ) : Type 0 where
+pub record Loaded (hours rooms tasks : ℕ) (loads : List ℕ) (fits : List (Option Window)) (heights : List ℕ) : Type 0 where
   pub each : length loads ≡ rooms * hours
   pub load : (room : ℕ) → room < rooms → (t : ℕ) → t < hours → get_or loads (room * hours + t) 0 ≡ load_of fits (room_part tasks heights room) t
 
@@ -50,9 +48,9 @@ abbrev pub load_order : List Kind
 load_order = kind_o ∷ kind_l ∷ kind_u ∷ []
 
 -- the first C; the first O of a room, from its loads, and of any; the first L or U
-unfoldable pub first_calendar : List ℕ → List Fit → ℕ → Option Step
+unfoldable pub first_calendar : List ℕ → List (Option Window) → ℕ → Option Step
 first_calendar boxes fits tasks =
-    first_of (λ i. some_if (admits (calendar_by (get_or fits i Never) i (bounds_at boxes i))) (step letter_c i 0)) tasks
+    first_of (λ i. some_if (admits (calendar_by (get_or fits i None) i (bounds_at boxes i))) (step letter_c i 0)) tasks
 
 unfoldable pub room_overload : ℕ → List ℕ → ℕ → Option Step
 room_overload room loads capacity = first_of (λ t. some_if (ltb capacity (get_or loads t 0)) (step letter_o room t)) (length loads)
@@ -61,6 +59,6 @@ unfoldable pub first_overload : ℕ → List ℕ → List ℕ → Option Step
 first_overload hours loads capacities =
     first_of (λ room. room_overload room (room_part hours loads room) (get_or capacities room 0)) (length capacities)
 
-unfoldable pub first_excess : ℕ → ℕ → List ℕ → List ℕ → List ℕ → List Fit → Bool → Option Step
+unfoldable pub first_excess : ℕ → ℕ → List ℕ → List ℕ → List ℕ → List (Option Window) → Bool → Option Step
 first_excess hours tasks capacities heights boxes fits lower =
     first_of (λ i. first_of (λ t. admitted_by hours tasks capacities heights boxes fits (step (letter_of lower) i t)) hours) tasks

@@ -10,34 +10,31 @@ use Rattle.plan.specs.Plan.{Plan, task_count, room_part}
 use Rattle.plan.specs.Boxes.{bounds_at, with_bounds}
 use Rattle.plan.specs.Passed.{Passed}
 use Rattle.calendar.specs.declared.Window.{Window}
-use Rattle.calendar.specs.declared.Fit.{Fit}
-use Rattle.calendar.specs.declared.Fit.TheVariants.{Never, Within}
 use Rattle.calendar.specs.Rule.{lst, ect}
 use Rattle.steps.specs.declared.Step.{Step}
 use Rattle.steps.specs.declared.Judged.{Judged}
 use Rattle.steps.specs.declared.Judged.TheVariants.{Unknown, NotAdmitted, Impossible, Moved}
-use Rattle.steps.specs.declared.Found.{Found}
-use Rattle.steps.specs.declared.Found.TheVariants.{Nothing, At}
 use Rattle.steps.specs.Load.{fit_at, must_run}
 use Rattle.steps.specs.Steps as steps
 use Rattle.steps.specs.Steps.{Kind, kind_c, kind_o, kind_l, kind_u, unknown_kind, kind_of, is_step, on_fit, same_bounds, Judgement}
 use Rattle.steps.specs.Filter.{Admitted, stops, moves}
+use Rattle.turns.specs.declared.side.Side.{Side}
+use Rattle.turns.specs.declared.side.Side.TheVariants.{Lower, Upper}
 use Rattle.turns.specs.declared.turn.Turn.{Turn}
-use Rattle.turns.specs.declared.turn.Turn.TheVariants as turn
 
 -- At each turn: a plan that passes its tests with the boxes as they are, and for each task the answer of the calendar rule for its box.
-pub record Keeping (P : Plan) (boxes : List ℕ) (fits : List Fit) : Type 0 where
+pub record Keeping (P : Plan) (boxes : List ℕ) (fits : List (Option Window)) : Type 0 where
   pub passed : Passed P boxes
-  pub kept : (i : ℕ) → i < task_count P → get_or fits i Never ≡ fit_at P.shifts boxes i
+  pub kept : (i : ℕ) → i < task_count P → get_or fits i None ≡ fit_at P.shifts boxes i
   pub full : length fits ≡ most_tasks
 
 -- load(t) of a room, from the answers kept and the room's heights
-unfoldable pub load_of : List Fit → List ℕ → ℕ → ℕ
-load_of fits heights t = sum_where (λ j. must_run (get_or fits j Never) t) (λ j. get_or heights j 0) (length heights)
+unfoldable pub load_of : List (Option Window) → List ℕ → ℕ → ℕ
+load_of fits heights t = sum_where (λ j. must_run (get_or fits j None) t) (λ j. get_or heights j 0) (length heights)
 
 -- the excess in a room, from its load(t): the task's own share of the load is not counted again
 unfoldable pub exceeds : Window → ℕ → ℕ → ℕ → ℕ → Bool
-exceeds w height load capacity t = ltb capacity (if must_run (Within w) t then load else height + load)
+exceeds w height load capacity t = ltb capacity (if must_run (Some w) t then load else height + load)
 
 unfoldable pub on_judged : {A : Type 0} → Judged → A → A → A → (ℕ → Bounds → A) → A
 on_judged Unknown u n i m = u
@@ -46,7 +43,7 @@ on_judged Impossible u n i m = i
 on_judged (Moved task b) u n i m = m task b
 
 -- C, L and U of task i with the bounds b; where a bound moves, the task and its new bounds
-unfoldable pub calendar_by : Fit → ℕ → Bounds → Judged
+unfoldable pub calendar_by : Option Window → ℕ → Bounds → Judged
 calendar_by fit i b = on_fit fit Impossible (λ w. if same_bounds w.bounds b then NotAdmitted else Moved i w.bounds)
 
 unfoldable pub lower_by : Window → ℕ → Bounds → Bool → ℕ → Judged
@@ -61,13 +58,18 @@ upper_by w i b excess t =
     then (if ltb t (b.earliest.0 + b.shortest.0) then Impossible else Moved i (with_latest b (t - b.shortest.0)))
     else NotAdmitted
 
+-- of the code's two bounds of S, whether it is the lower
+abbrev pub is_lower : Side → Bool
+is_lower Lower = true
+is_lower Upper = false
+
 -- L where the lower bound of S is to move, U where the upper is
 unfoldable pub move_by : Bool → Window → ℕ → Bounds → Bool → ℕ → Judged
 move_by true w i b excess t = lower_by w i b excess t
 move_by false w i b excess t = upper_by w i b excess t
 
 -- the excess of task i, in a room; in some room
-module _ (tasks : ℕ) (capacities heights : List ℕ) (fits : List Fit) (w : Window) (i t : ℕ) where
+module _ (tasks : ℕ) (capacities heights : List ℕ) (fits : List (Option Window)) (w : Window) (i t : ℕ) where
   unfoldable pub excess_in : ℕ → Bool
   excess_in room =
       exceeds w (get_or (room_part tasks heights room) i 0) (load_of fits (room_part tasks heights room) t) (get_or capacities room 0) t
@@ -76,14 +78,14 @@ module _ (tasks : ℕ) (capacities heights : List ℕ) (fits : List Fit) (w : Wi
   excess_by = some_of excess_in (length capacities)
 
 -- a step, from H, the number of tasks, the capacities, the heights, the boxes and the answers kept
-module _ (hours tasks : ℕ) (capacities heights boxes : List ℕ) (fits : List Fit) where
+module _ (hours tasks : ℕ) (capacities heights boxes : List ℕ) (fits : List (Option Window)) where
   unfoldable pub bound_by : Bool → ℕ → ℕ → Judged
   bound_by lower i t =
-      on_fit (get_or fits i Never) NotAdmitted
+      on_fit (get_or fits i None) NotAdmitted
       (λ w. move_by lower w i (bounds_at boxes i) (excess_by tasks capacities heights fits w i t) t)
 
   unfoldable pub judge_kind_by : Kind → ℕ → ℕ → Judged
-  judge_kind_by kind_c i t = calendar_by (get_or fits i Never) i (bounds_at boxes i)
+  judge_kind_by kind_c i t = calendar_by (get_or fits i None) i (bounds_at boxes i)
   judge_kind_by kind_o room t =
       if ltb (get_or capacities room 0) (load_of fits (room_part tasks heights room) t) then Impossible else NotAdmitted
   judge_kind_by kind_l i t = bound_by true i t
@@ -100,17 +102,16 @@ module _ (hours tasks : ℕ) (capacities heights boxes : List ℕ) (fits : List 
   unfoldable pub admitted_by : Step → Option Step
   admitted_by x = on_judged (judge_by x) None None (Some x) (λ i b. Some x)
 
--- what the code answers for a step, for the first admitted step, and for a turn: an admitted step that moves no bound says impossible
+-- what the code answers for a step and for a turn: an admitted step that moves no bound says impossible
 unfoldable pub judgement_of : List ℕ → Judged → Judgement
 judgement_of boxes r = on_judged r steps.unknown steps.not_admitted steps.impossible (λ i b. steps.moved (with_bounds boxes i b))
-
-abbrev pub found_step : Found → Option Step
-found_step Nothing = None
-found_step (At x) = Some x
 
 unfoldable pub admitted_of : List ℕ → Step → Judged → Admitted
 admitted_of boxes x r = on_judged r (stops x) (stops x) (stops x) (λ i b. moves x (with_bounds boxes i b))
 
-abbrev pub turn_of : List ℕ → Turn → Option Admitted
-turn_of boxes turn.Settled = None
-turn_of boxes (turn.At x r) = Some (admitted_of boxes x r)
+abbrev pub turn : Step → Judged → Turn
+turn x r = record { step = x; judged = r }
+
+abbrev pub turn_of : List ℕ → Option Turn → Option Admitted
+turn_of boxes None = None
+turn_of boxes (Some t) = Some (admitted_of boxes t.step t.judged)

@@ -10,14 +10,14 @@ use Rattle.turns.proofs.Judging.{room-excess}
 use Rattle.turns.proofs.judge.has_excess.Goals as goal
 
 pub room_part-in_room-requires : goal.room_part-in_room-requires
-room_part-in_room-requires c = room_in _ _ c.args.heights.now c.requires.0.each _ c.loop-room-test.true
+room_part-in_room-requires c = room_in _ _ c.args.plan.now.heights.now c.requires.0.each _ c.loop-room-test.true
 
 pub load_at-load-requires : goal.load_at-load-requires
 load_at-load-requires c = rw c.room_part-in_room.ensures (c.requires.0.room _ c.loop-room-test.true)
 
 pub height_at-height-requires : goal.height_at-height-requires
 height_at-height-requires c =
-    let all = ap length c.room_part-in_room.ensures ∙ room-length _ _ c.args.heights.now c.requires.0.each _ c.loop-room-test.true in
+    let all = ap length c.room_part-in_room.ensures ∙ room-length _ _ c.args.plan.now.heights.now c.requires.0.each _ c.loop-room-test.true in
     omega (arith, all, c.requires.1)
 
 pub exceeds-requires : goal.exceeds-requires

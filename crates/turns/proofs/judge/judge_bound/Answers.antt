@@ -20,7 +20,7 @@ judge_lower-requires c = c.requires.2
 
 pub returns-then-lower : goal.returns-then-lower
 returns-then-lower c hours =
-    bound-lower hours _ _ _ _ _ _ _ _ _ _ _ _ c.in-Within.is c.has_excess-excess.ensures c.bounds_at-b.ensures c.if-lower.true
+    bound-lower hours _ _ _ _ _ _ _ _ _ _ _ _ c.in-Some.is c.has_excess-excess.ensures c.bounds_at-b.ensures c.if-lower.true
     c.judge_lower.ensures
 
 pub judge_upper-requires : goal.judge_upper-requires
@@ -30,5 +30,5 @@ judge_upper-requires c =
 
 pub returns : goal.returns
 returns c hours =
-    bound-upper hours _ _ _ _ _ _ _ _ _ _ _ _ c.in-Within.is c.has_excess-excess.ensures c.bounds_at-b.ensures c.if-lower.false
+    bound-upper hours _ _ _ _ _ _ _ _ _ _ _ _ c.in-Some.is c.has_excess-excess.ensures c.bounds_at-b.ensures c.if-lower.false
     c.judge_upper.ensures

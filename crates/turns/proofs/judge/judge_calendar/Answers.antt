@@ -6,7 +6,7 @@ pub returns-in_default : goal.returns-in_default
 returns-in_default c = sym (calendar-stops _ _ _ c.in_default.is)
 
 pub returns-then-same_bounds : goal.returns-then-same_bounds
-returns-then-same_bounds c = sym (calendar-same _ _ _ _ c.in-Within.is (sym c.same_bounds.ensures ∙ c.if-same_bounds.true))
+returns-then-same_bounds c = sym (calendar-same _ _ _ _ c.in-Some.is (sym c.same_bounds.ensures ∙ c.if-same_bounds.true))
 
 pub returns : goal.returns
-returns c = sym (calendar-moves _ _ _ _ c.in-Within.is (sym c.same_bounds.ensures ∙ c.if-same_bounds.false))
+returns c = sym (calendar-moves _ _ _ _ c.in-Some.is (sym c.same_bounds.ensures ∙ c.if-same_bounds.false))

@@ -29,4 +29,4 @@ returns c =
       before _ _ c.is_before.ensures c.if-not-is_before.false,
       not-before _ _ c.is_before-2.ensures c.if-is_before.false,
       c.if-not-excess.false,
-    ) in known) _ _ c.plus.ensures c.starting_from.ensures _ c.in-Within.is)
+    ) in known) _ _ c.plus.ensures c.starting_from.ensures _ c.in-Some.is)

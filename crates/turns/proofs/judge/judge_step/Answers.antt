@@ -21,7 +21,7 @@ bounds_at-requires c =
 pub room_part-in_room-requires : goal.room_part-in_room-requires
 room_part-in_room-requires c =
     let there = there-O _ _ _ _ _ _ (sym c.is_step.ensures ∙ c.if-not-is_step.false) c.in-79.is in
-    room_in _ _ c.args.heights.now c.requires.0.rooms_ready.each _ there.0
+    room_in _ _ c.args.plan.now.heights.now c.requires.0.rooms_ready.each _ there.0
 
 pub height_at-requires : goal.height_at-requires
 height_at-requires c = (there-O _ _ _ _ _ _ (sym c.is_step.ensures ∙ c.if-not-is_step.false) c.in-79.is).0

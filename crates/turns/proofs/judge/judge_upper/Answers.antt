@@ -31,7 +31,7 @@ returns-in_default-starting_by c =
       not-before _ _ c.is_before.ensures c.if-is_before.false,
       before-end _ c.plus.ensures c.is_before-2.ensures c.if-not-is_before.false,
       c.if-not-excess.false,
-    ) in known) _ c.minus.ensures _ c.in-Within.is _
+    ) in known) _ c.minus.ensures _ c.in-Some.is _
     c.starting_by.ensures c.in_default-starting_by.is)
 
 pub returns : goal.returns
@@ -41,5 +41,5 @@ returns c =
       not-before _ _ c.is_before.ensures c.if-is_before.false,
       before-end _ c.plus.ensures c.is_before-2.ensures c.if-not-is_before.false,
       c.if-not-excess.false,
-    ) in known) _ c.minus.ensures _ c.in-Within.is _
-    c.starting_by.ensures _ c.in-Within-starting_by.is)
+    ) in known) _ c.minus.ensures _ c.in-Some.is _
+    c.starting_by.ensures _ c.in-Some-starting_by.is)

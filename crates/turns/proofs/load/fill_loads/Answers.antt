@@ -9,7 +9,7 @@ loop-room-init c = (omega arith, rooms-none c.requires.2)
 
 pub room_part-in_room-requires : goal.room_part-in_room-requires
 room_part-in_room-requires c =
-    room_in _ _ c.args.heights.now c.requires.3.each _ c.loop-room-test.true
+    room_in _ _ c.args.plan.now.heights.now c.requires.3.each _ c.loop-room-test.true
 
 pub overflow_mul-room : goal.overflow_mul-room
 overflow_mul-room c =

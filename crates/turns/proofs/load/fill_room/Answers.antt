@@ -24,7 +24,7 @@ add_part-requires c =
 pub loop-j-preserved : goal.loop-j-preserved
 loop-j-preserved c = (
   omega arith,
-  filled_next c.loop-j.invariant.1 _ _ c.in-Within.is c.height_at.ensures
+  filled_next c.loop-j.invariant.1 _ _ c.in-Some.is c.height_at.ensures
       c.add_part.ensures.0 c.add_part.ensures.1,
 )
 

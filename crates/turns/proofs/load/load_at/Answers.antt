@@ -23,7 +23,7 @@ plus-sum-requires c =
 pub loop-i-preserved : goal.loop-i-preserved
 loop-i-preserved c =
     let sum = c.loop-i.invariant.1 in
-    let told = c.in-Within.is in
+    let told = c.in-Some.is in
     let runs = sym c.must_run.ensures in (
       omega arith,
       elim c.if-must_run.branch [

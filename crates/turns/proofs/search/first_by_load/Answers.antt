@@ -1,6 +1,5 @@
 use mathlib.Core.Path.{ap}
 use Rattle.units.proofs.Choices.{outer-ends, outer-goes-on}
-use Rattle.turns.specs.Inner.Kept.{found_step}
 use Rattle.turns.proofs.Searching.{by-load}
 use Rattle.turns.proofs.search.first_by_load.Goals as goal
 
@@ -17,7 +16,7 @@ first_overload-overload-requires c =
 pub returns-in_default : goal.returns-in_default
 returns-in_default c =
     by-load _ _ _ _ _ _ _ c.fill_loads.ensures.1
-    (outer-ends _ _ c.first_overload-overload.ensures (ap found_step c.in_default.is))
+    (outer-ends _ _ c.first_overload-overload.ensures (ap c.in_default.is))
 
 pub first_excess-lower-requires : goal.first_excess-lower-requires
 first_excess-lower-requires c =
@@ -26,8 +25,8 @@ first_excess-lower-requires c =
 pub returns-in_default-lower : goal.returns-in_default-lower
 returns-in_default-lower c =
     by-load _ _ _ _ _ _ _ c.fill_loads.ensures.1
-    (outer-goes-on _ _ c.first_overload-overload.ensures (ap found_step c.in-Nothing.is)
-    (outer-ends _ _ c.first_excess-lower.ensures (ap found_step c.in_default-lower.is)))
+    (outer-goes-on _ _ c.first_overload-overload.ensures (ap c.in-None.is)
+    (outer-ends _ _ c.first_excess-lower.ensures (ap c.in_default-lower.is)))
 
 pub first_excess-requires : goal.first_excess-requires
 first_excess-requires c =
@@ -36,5 +35,5 @@ first_excess-requires c =
 pub returns : goal.returns
 returns c =
     by-load _ _ _ _ _ _ _ c.fill_loads.ensures.1
-    (outer-goes-on _ _ c.first_overload-overload.ensures (ap found_step c.in-Nothing.is)
-    (outer-goes-on _ _ c.first_excess-lower.ensures (ap found_step c.in-Nothing-lower.is) c.first_excess.ensures))
+    (outer-goes-on _ _ c.first_overload-overload.ensures (ap c.in-None.is)
+    (outer-goes-on _ _ c.first_excess-lower.ensures (ap c.in-None-lower.is) c.first_excess.ensures))

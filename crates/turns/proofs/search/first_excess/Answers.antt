@@ -4,7 +4,6 @@ use Rattle.units.specs.Choice.{first_of}
 use Rattle.units.specs.declared.Hour.{Hour}
 use Rattle.units.proofs.Choices.{some-if, none-if, first-end}
 use Rattle.units.proofs.Hours.{before, not-before}
-use Rattle.turns.specs.Inner.Kept.{found_step}
 use Rattle.turns.specs.Inner.Finding.{first_excess}
 use Rattle.turns.proofs.Judging.{sum_fits}
 use Rattle.turns.proofs.Searching.{skip-never, skip-before, skip-after, next-hour, test-hour, found_at}
@@ -36,7 +35,7 @@ pub loop-w-init : goal.loop-w-init
 loop-w-init c = (
   c.outer.invariant.1,
   omega arith,
-  skip-before _ _ _ _ _ _ _ _ _ _ c.in-Within.is c.bounds_at-b.ensures _ c.first_hour-t.ensures,
+  skip-before _ _ _ _ _ _ _ _ _ _ c.in-Some.is c.bounds_at-b.ensures _ c.first_hour-t.ensures,
 )
 
 pub is_crowded-requires : goal.is_crowded-requires
@@ -62,7 +61,7 @@ loop-w-preserved c =
     let inv = c.loop-w.invariant in
     let before-end = before _ _ c.is_before.ensures c.loop-w-test.true in
     let tested =
-    test-hour _ _ _ _ _ _ _ _ _ _ c.in-Within.is c.bounds_at-b.ensures _ _ _ _ _ c.first_hour-t.ensures c.end_hour.ensures
+    test-hour _ _ _ _ _ _ _ _ _ _ c.in-Some.is c.bounds_at-b.ensures _ _ _ _ _ c.first_hour-t.ensures c.end_hour.ensures
     c.clipped-end.ensures inv.1 before-end c.outer-test.true (c.is_crowded.ensures _ c.requires.1) in (
       inv.0,
       omega (arith, inv.1, ap (λ (h : Hour). h.0) c.plus-t.ensures),
@@ -74,21 +73,21 @@ outer-preserved c =
     let inv = c.loop-w.invariant in (
       omega (arith, c.outer-test.true),
       inv.0,
-      skip-after _ _ _ _ _ _ _ _ _ _ c.in-Within.is c.bounds_at-b.ensures _ _ _
+      skip-after _ _ _ _ _ _ _ _ _ _ c.in-Some.is c.bounds_at-b.ensures _ _ _
           c.end_hour.ensures c.clipped-end.ensures (not-before _ _ c.is_before.ensures c.loop-w-test.false)
           inv.2 c.outer.invariant.2,
     )
 
 pub returns-after-outer : goal.returns-after-outer
 unfolding first_excess
-returns-after-outer c = ap found_step c.outer.invariant.1 ∙ sym (first-end _ _ _ c.outer.invariant.0 c.outer-test.false c.outer.invariant.2)
+returns-after-outer c = ap c.outer.invariant.1 ∙ sym (first-end _ _ _ c.outer.invariant.0 c.outer-test.false c.outer.invariant.2)
 
 pub returns-then-is_crowded : goal.returns-then-is_crowded
 returns-then-is_crowded c =
     let inv = c.loop-w.invariant in
     let before-end = before _ _ c.is_before.ensures c.loop-w-test.true in
     let tested =
-    test-hour _ _ _ _ _ _ _ _ _ _ c.in-Within.is c.bounds_at-b.ensures _ _ _ _ _ c.first_hour-t.ensures c.end_hour.ensures
+    test-hour _ _ _ _ _ _ _ _ _ _ c.in-Some.is c.bounds_at-b.ensures _ _ _ _ _ c.first_hour-t.ensures c.end_hour.ensures
     c.clipped-end.ensures inv.1 before-end c.outer-test.true (c.is_crowded.ensures _ c.requires.1) in
     found_at _ _ _ _ _ _ _ _ _ _ c.letter-kind.ensures c.outer-test.true (omega (arith, c.clipped-end.ensures, before-end))
     c.outer.invariant.2 inv.2 (tested ∙ some-if _ _ c.if-is_crowded.true)

@@ -4,7 +4,6 @@ use lib.ListN.{length}
 use Rattle.units.proofs.Heights.{number_of}
 use Rattle.units.proofs.Searching.{unfound-first, unfound-next, unfound-hit, unfound-end}
 use Rattle.plan.proofs.Passed.{room_in, room-length}
-use Rattle.turns.specs.Inner.Kept.{found_step}
 use Rattle.turns.specs.Inner.Finding.{room_overload, first_overload}
 use Rattle.turns.proofs.search.first_overload.Goals as goal
 
@@ -23,13 +22,13 @@ pub returns-in_default : goal.returns-in_default
 unfolding first_overload
 returns-in_default c =
     let room = c.room_overload-found.ensures ∙ ap₂ (room_overload _) c.room_part-in_room.ensures (number_of c.height_at.ensures) in
-    let told = ap found_step c.in_default.is in
+    let told = ap c.in_default.is in
     told ∙ sym (unfound-hit c.loop-room.invariant c.loop-room-test.true (sym room ∙ told))
 
 pub loop-room-preserved : goal.loop-room-preserved
 loop-room-preserved c =
     let room = c.room_overload-found.ensures ∙ ap₂ (room_overload _) c.room_part-in_room.ensures (number_of c.height_at.ensures) in
-    unfound-next c.loop-room.invariant c.loop-room-test.true (sym room ∙ ap found_step c.in-Nothing.is)
+    unfound-next c.loop-room.invariant c.loop-room-test.true (sym room ∙ ap c.in-None.is)
 
 pub returns : goal.returns
 unfolding first_overload

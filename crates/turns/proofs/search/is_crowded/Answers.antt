@@ -12,13 +12,13 @@ use Rattle.turns.proofs.search.is_crowded.Goals as goal
 
 -- the room's heights lie among those of all rooms, and so do its loads
 pub overflow_mul-room : goal.overflow_mul-room
-overflow_mul-room c = omega (arith, room_in _ _ c.args.heights.now c.requires.0.each _ c.loop-room-test.true, c.well_formed)
+overflow_mul-room c = omega (arith, room_in _ _ c.args.plan.now.heights.now c.requires.0.each _ c.loop-room-test.true, c.well_formed)
 
 pub overflow_add-room : goal.overflow_add-room
-overflow_add-room c = omega (arith, room_in _ _ c.args.heights.now c.requires.0.each _ c.loop-room-test.true, c.well_formed, c.requires.3)
+overflow_add-room c = omega (arith, room_in _ _ c.args.plan.now.heights.now c.requires.0.each _ c.loop-room-test.true, c.well_formed, c.requires.3)
 
 pub height_at-height-requires : goal.height_at-height-requires
-height_at-height-requires c = omega (arith, room_in _ _ c.args.heights.now c.requires.0.each _ c.loop-room-test.true, c.requires.3)
+height_at-height-requires c = omega (arith, room_in _ _ c.args.plan.now.heights.now c.requires.0.each _ c.loop-room-test.true, c.requires.3)
 
 pub overflow_mul-room-in-loop-room : goal.overflow_mul-room-in-loop-room
 overflow_mul-room-in-loop-room c = omega (arith, room_in _ _ c.args.loads.now c.requires.1.1.each _ c.loop-room-test.true, c.well_formed)

@@ -7,4 +7,4 @@ pub returns-in_default : goal.returns-in_default
 returns-in_default c = sym (never-narrowed _ _ _ c.in_default.is)
 
 pub returns : goal.returns
-returns c = ap not c.same_bounds.ensures ∙ sym (narrowed _ _ _ _ c.in-Within.is)
+returns c = ap not c.same_bounds.ensures ∙ sym (narrowed _ _ _ _ c.in-Some.is)

@@ -1,0 +1,48 @@
+// The two bounds of a task's start that a step may move, with the hours in which it can be admitted.
+ghost use Rattle.std.specs.Prelude.{◌≡◌, ◌+◌, ◌<◌};
+ghost use Rattle.turns.specs.Inner.Kept.{is_lower};
+ghost use Rattle.turns.specs.Inner.Finding.{letter_of, first_hour, end_hour};
+
+use calendar::Window;
+use steps::StepKind;
+use units::{Bounds, Hour};
+
+// L moves the lower bound of S, U the upper.
+#[derive(Clone, Copy, PartialEq, Eq)]
+pub enum Side {
+    Lower,
+    Upper,
+}
+
+impl Side {
+    // The letter of the steps that move it.
+    pub fn letter(self) -> u8
+        ensures { result ≡ letter_of (is_lower self) }
+    {
+        match self {
+            Side::Lower => StepKind::Lower.letter(),
+            Side::Upper => StepKind::Upper.letter(),
+        }
+    }
+
+    // The first hour in which a step of a task with the window and the box can be admitted.
+    pub fn first_hour(self, w: Window, b: Bounds) -> Hour
+        ensures { result.0 ≡ first_hour (is_lower self) w b }
+    {
+        match self {
+            Side::Lower => b.earliest,
+            Side::Upper => w.bounds.latest,
+        }
+    }
+
+    // The hour before which these end.
+    pub fn end_hour(self, w: Window, b: Bounds) -> Hour
+        requires { b.latest.0 + b.shortest.0 < 65536 }
+        ensures { result.0 ≡ end_hour (is_lower self) w b }
+    {
+        match self {
+            Side::Lower => w.ect,
+            Side::Upper => b.latest.plus(b.shortest),
+        }
+    }
+}
