@@ -1,17 +1,18 @@
 // What a step comes to at its turn, from the boxes and the answers of the calendar rule that are kept.
-ghost use Rattle.std.specs.Prelude.{◌≡◌, ℕ, ◌+◌, ◌≤◌, ◌<◌, ltb, if◌then◌else◌};
+ghost use Rattle.std.specs.Prelude.{◌≡◌, ℕ, ◌+◌, ◌≤◌, ◌<◌, ltb, Some, if◌then◌else◌};
 ghost use Rattle.units.specs.Choice.{◌and◌};
 ghost use Rattle.units.specs.Limits.{most_hours, is_hour, is_room_number};
 ghost use Rattle.plan.specs.Plan.{room_count, task_count};
 ghost use Rattle.plan.specs.Lent.{plan_in};
-ghost use Rattle.steps.specs.Steps.{kind_of, is_step};
+ghost use Rattle.steps.specs.Steps.{kind_in, is_step};
 ghost use Rattle.turns.specs.Inner.Ready.{RoomsReady, Ready};
-ghost use Rattle.turns.specs.Inner.Kept.{exceeds, excess_by, calendar_by, lower_by, upper_by, bound_by, judge_by};
+ghost use Rattle.turns.specs.Inner.Kept.{exceeds, excess_by, calendar_by, lower_by, upper_by, bound_by, judge_by, is_lower};
 
+use crate::side::Side;
 use crate::{Fits, load};
 use calendar::Window;
 use plan::Plan;
-use steps::{Judged, Step};
+use steps::{Judged, Step, StepKind};
 use units::{Bounds, Duration, Height, Hour, RoomNumber};
 
 // Whether a task of the height exceeds a room's capacity in the hour, with the other tasks' load there. A task that must run in the hour is in its
@@ -111,10 +112,10 @@ fn judge_upper(w: Window, task: u16, b: Bounds, excess: bool, t: Hour) -> Judged
 }
 
 // L of a task, or U: which of the two bounds of its start moves.
-fn judge_bound(lower: bool, plan: &Plan, boxes: &[u16], fits: &Fits, task: u16, t: Hour) -> Judged
+fn judge_bound(side: Side, plan: &Plan, boxes: &[u16], fits: &Fits, task: u16, t: Hour) -> Judged
     requires { let P = plan_in plan.now in Ready (room_count P) (task_count P) P.heights boxes.now × (task < task_count P) × (t.0 < most_hours) }
     ensures { let P = plan_in plan.now in
-        (hours : ℕ) → result ≡ bound_by hours (task_count P) P.capacities P.heights boxes.now fits.now lower task t.0 }
+        (hours : ℕ) → result ≡ bound_by hours (task_count P) P.capacities P.heights boxes.now fits.now (is_lower side) task t.0 }
 {
     let i = task as usize;
     let fit = fits[i];
@@ -123,10 +124,10 @@ fn judge_bound(lower: bool, plan: &Plan, boxes: &[u16], fits: &Fits, task: u16, 
     };
     let excess = has_excess(w, plan, fits, i, t);
     let b = plan::bounds_at(boxes, i);
-    if lower {
-        return judge_lower(w, task, b, excess, t);
+    match side {
+        Side::Lower => judge_lower(w, task, b, excess, t),
+        Side::Upper => judge_upper(w, task, b, excess, t),
     }
-    judge_upper(w, task, b, excess, t)
 }
 
 // Whether the number is an hour of the plan.
@@ -143,37 +144,15 @@ fn is_room(rooms: usize, number: u16) -> bool
     RoomNumber::of_plan(number, rooms).is_some()
 }
 
-// Whether the step's task and its hour exist.
-fn is_task_hour(tasks: usize, hours: Duration, x: Step) -> bool
-    ensures { result ≡ (ltb x.task tasks and is_hour hours.0 x.hour) }
+// Whether 01's 11 does not apply to a step of the kind, in a plan of so many rooms, tasks and hours.
+#[tactic(auto, unfolding(steps::specs::Steps::is_step))]
+fn is_step(rooms: usize, tasks: usize, hours: Duration, kind: StepKind, x: Step) -> bool
+    ensures { result ≡ is_step rooms tasks hours.0 (kind_in (Some kind)) x.task x.hour }
 {
-    if tasks <= x.task as usize {
-        return false;
-    }
-    is_hour(hours, x.hour)
-}
-
-// Whether 01's 11 does not apply to the step, in a plan of so many rooms, tasks and hours.
-fn is_step(rooms: usize, tasks: usize, hours: Duration, x: Step) -> bool
-    ensures { result ≡ is_step rooms tasks hours.0 (kind_of x.kind) x.task x.hour }
-{
-    let kind = x.kind;
     match kind {
-        b'C' => {
-            if tasks <= x.task as usize {
-                return false;
-            }
-            x.hour == 0
-        }
-        b'O' => {
-            if !is_room(rooms, x.task) {
-                return false;
-            }
-            is_hour(hours, x.hour)
-        }
-        b'L' => is_task_hour(tasks, hours, x),
-        b'U' => is_task_hour(tasks, hours, x),
-        _ => false,
+        StepKind::Calendar => (x.task as usize) < tasks && x.hour == 0,
+        StepKind::Overload => is_room(rooms, x.task) && is_hour(hours, x.hour),
+        StepKind::Lower | StepKind::Upper => (x.task as usize) < tasks && is_hour(hours, x.hour),
     }
 }
 
@@ -182,26 +161,23 @@ pub fn judge_step(plan: &Plan, boxes: &[u16], fits: &Fits, x: Step) -> Judged
     requires { let P = plan_in plan.now in Ready (room_count P) (task_count P) P.heights boxes.now × (P.shifts.hours ≤ most_hours) }
     ensures { let P = plan_in plan.now in result ≡ judge_by P.shifts.hours (task_count P) P.capacities P.heights boxes.now fits.now x }
 {
-    if !is_step(
-        plan.capacities.len(),
-        plan.shifts.task_calendars.len(),
-        plan.shifts.hours,
-        x,
-    ) {
+    let Some(kind) = StepKind::of_letter(x.kind) else {
+        return Judged::Unknown;
+    };
+    let tasks = plan.shifts.task_calendars.len();
+    if !is_step(plan.capacities.len(), tasks, plan.shifts.hours, kind, x) {
         return Judged::Unknown;
     }
-    let kind = x.kind;
     let task = x.task;
     let i = task as usize;
     let t = Hour(x.hour);
     match kind {
-        b'C' => judge_calendar(fits[i], task, plan::bounds_at(boxes, i)),
-        b'O' => judge_load(
+        StepKind::Calendar => judge_calendar(fits[i], task, plan::bounds_at(boxes, i)),
+        StepKind::Overload => judge_load(
             plan.capacity_of(i),
             load::load_at(fits, plan.heights_of(i), t),
         ),
-        b'L' => judge_bound(true, plan, boxes, fits, task, t),
-        b'U' => judge_bound(false, plan, boxes, fits, task, t),
-        _ => Judged::Unknown,
+        StepKind::Lower => judge_bound(Side::Lower, plan, boxes, fits, task, t),
+        StepKind::Upper => judge_bound(Side::Upper, plan, boxes, fits, task, t),
     }
 }

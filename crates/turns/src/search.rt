@@ -101,7 +101,7 @@ fn is_crowded(w: Window, plan: &Plan, loads: &[u16], i: usize, t: Hour) -> bool
 
 // The first L, or the first U, by task, then hour. A task with no valid triple is skipped, and so are the hours in which no step of its can be
 // admitted.
-fn first_excess(lower: bool, plan: &Plan, boxes: &[u16], fits: &Fits, loads: &[u16]) -> Option<Step>
+fn first_excess(side: Side, plan: &Plan, boxes: &[u16], fits: &Fits, loads: &[u16]) -> Option<Step>
     requires { let P = plan_in plan.now in
         Ready (room_count P) (task_count P) P.heights boxes.now
         × Loaded P.shifts.hours (room_count P) (task_count P) loads.now fits.now P.heights
