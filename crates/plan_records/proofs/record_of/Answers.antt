@@ -1,10 +1,11 @@
 use Rattle.std.proofs.Common.{◌≡◌, ◌+◌, rules, tests, arith}
 use Rattle.std.specs.List.{position}
 use lib.Dec.{eqb}
+use lib.ListN.{length-drop}
 use Rattle.std.proofs.lemmas.Iterator.{YieldsList-from_slice}
 use Rattle.std.proofs.lemmas.Iterator.Search.{position_from_yields_List}
 use Rattle.text.specs.Fields.{tab}
-use Rattle.text.proofs.Parts.{found-none, found-some, to_end, rest-length}
+use Rattle.text.proofs.Parts.{found-none, found-some, to_end}
 use Rattle.plan_records.specs.Inner.Lines.{Finds}
 use Rattle.plan_records.proofs.Recording.{record-one, record-split, finds-more}
 use Rattle.plan_records.proofs.record_of.Goals.{After-position}
@@ -28,4 +29,4 @@ returns c =
     let end = c.in_ok-end.end in
     let found = found-some tab line (first_tab (goal.at.returns c).After-position) c.in_ok-end.was in
     rw (record-split line end found)
-    (finds-more _ _ _ (omega (arith, rest-length line (end + 1))) (rw (to_end line (end + 1)) at c.by_word.ensures))
+    (finds-more _ _ _ _ _ (omega (arith, length-drop (end + 1) line)) (rw (to_end line (end + 1)) at c.by_word.ensures))
