@@ -38,7 +38,9 @@ module _ (fields : List ℕ) where
 
   symbols-empty : length fields ≡ 0 → cal_of (parts tab fields) ≡ None
   unfolding cal_of
-  symbols-empty h = rw (parts_last tab fields (omega (arith, h, first-within tab fields))) (none-if _ _ (not_right _ _ (lt-leb 1 (length fields) (omega arith))))
+  symbols-empty h =
+      rw (parts_last tab fields (omega (arith, h, first-within tab fields)))
+      (none-if _ _ (lt-leb 1 (length fields) (omega arith)))
 
   symbols-are : list_any (λ b. eqb b tab) fields ≡ false → eqb (length fields) 0 ≡ false → cal_of (parts tab fields) ≡ Some (cal_record fields)
   unfolding cal_of
@@ -155,7 +157,7 @@ bare : (word : List ℕ) → by_word (word ∷ []) ≡ None
 unfolding by_word plan_of cal_of task_of numbers_if numbers_of on_option
 bare word =
     if-all (λ (o : Option Record). o ≡ None) (same word word_plan) _ _ (λ e. refl)
-    (λ e. if-all (λ (o : Option Record). o ≡ None) (same word word_cal) _ _ (λ e. none-if _ _ (not_left _ _ refl))
+    (λ e. if-all (λ (o : Option Record). o ≡ None) (same word word_cal) _ _ (λ e. refl)
     (λ e. if-all (λ (o : Option Record). o ≡ None) (same word word_task) _ _ (λ e. refl) (λ e. refl)))
 
 module _ (bytes : List ℕ) where
