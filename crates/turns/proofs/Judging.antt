@@ -2,7 +2,6 @@
 use Rattle.std.specs.Prelude.{Option, None, Some}
 use Rattle.std.specs.Prelude.{if◌then◌else◌}
 use mathlib.Core.Path.{◌≡◌, sym, ap, ◌∙◌}
-use mathlib.Core.Logic.{◌≢◌}
 use mathlib.Core.Bool.{Bool, true, false}
 use mathlib.Core.List.{List}
 use Prim.Native.Nat.{ℕ, ◌+◌, ◌-◌, ◌≤◌, ◌<◌}
@@ -11,14 +10,10 @@ use lib.Dec.{leb, ltb, eqb}
 use lib.ListN.{length, get_or}
 use borrow.Author.Tests.{ltb-true, lt-ltb, le-ltb, le-leb, lt-leb, leb-true, leb-false, ne_eqb}
 use Rattle.units.specs.Choice.{◌and◌, some_if}
-use Rattle.units.specs.Limits.{hour, height, is_hour, is_room_number, with_earliest, with_latest, hour_made, bounds_made}
+use Rattle.units.specs.Limits.{hour, height, is_hour, is_room_number, with_earliest, with_latest}
 use Rattle.units.specs.declared.Hour.{Hour}
 use Rattle.units.specs.declared.Height.{Height}
 use Rattle.units.specs.declared.Bounds.{Bounds}
-use Rattle.units.specs.declared.MaybeHour.{MaybeHour}
-use Rattle.units.specs.declared.MaybeBounds.{MaybeBounds}
-use Rattle.units.specs.declared.MaybeHour.TheVariants as SomeHour
-use Rattle.units.specs.declared.MaybeBounds.TheVariants as SomeBounds
 use Rattle.units.proofs.Choices.{and_both, and_left, and_right, if-true, if-false, if_none, if_some, not_left, not_right}
 use Rattle.plan.specs.Plan.{room_part}
 use Rattle.plan.specs.Boxes.{bounds_at}
@@ -28,7 +23,7 @@ use Rattle.steps.specs.declared.Step.{Step}
 use Rattle.steps.specs.declared.Judged.{Judged}
 use Rattle.steps.specs.declared.Judged.TheVariants.{Unknown, NotAdmitted, Impossible, Moved}
 use Rattle.steps.specs.Load.{must_run}
-use Rattle.steps.specs.Steps.{letter_c, letter_o, letter_l, letter_u, kind_of, is_step, on_fit, same_bounds}
+use Rattle.steps.specs.Steps.{Kind, kind_c, kind_o, kind_l, kind_u, unknown_kind, kind_of, is_step, on_fit, same_bounds}
 use Rattle.turns.specs.Inner.Ready.{Ready}
 use Rattle.turns.specs.Inner.Kept.{load_of, exceeds, excess_in, excess_by, calendar_by, lower_by, upper_by, move_by, bound_by, judge_kind_by, judge_by}
 
@@ -97,21 +92,21 @@ module _ (w : Window) (i : ℕ) (b : Bounds) (excess : Bool) (t : ℕ) where
     lower-holds = and_both _ _ (lt-ltb _ _ holds.0) (and_both _ _ (le-leb _ _ holds.1) holds.2)
 
     -- the box with the next hour as its lower S, as its constructor makes it
-    module _ (next : Hour) (made : MaybeBounds) (is-next : next ≡ hour (t + 1))
-        (is : bounds_made made ≡ some_if (leb next.0 b.latest.0) (with_earliest b next.0)) where
-      at_next : bounds_made made ≡ some_if (leb (t + 1) b.latest.0) (with_earliest b (t + 1))
+    module _ (next : Hour) (made : Option Bounds) (is-next : next ≡ hour (t + 1))
+        (is : made ≡ some_if (leb next.0 b.latest.0) (with_earliest b next.0)) where
+      at_next : made ≡ some_if (leb (t + 1) b.latest.0) (with_earliest b (t + 1))
       at_next = rw is-next at is
 
-      pub lower-stops : made ≡ SomeBounds.Outside → lower_by w i b excess t ≡ Impossible
+      pub lower-stops : made ≡ None → lower_by w i b excess t ≡ Impossible
       unfolding lower_by
       lower-stops e =
-          let above : b.latest.0 < t + 1 = leb-false _ _ (if_none _ _ (sym at_next ∙ ap bounds_made e)) in
+          let above : b.latest.0 < t + 1 = leb-false _ _ (if_none _ _ (sym at_next ∙ e)) in
           if-true _ _ _ lower-holds ∙ if-true _ _ _ (le-leb b.latest.0 t (omega arith))
 
-      pub lower-moves : (v : Bounds) → made ≡ SomeBounds.Within v → lower_by w i b excess t ≡ Moved i v
+      pub lower-moves : (v : Bounds) → made ≡ Some v → lower_by w i b excess t ≡ Moved i v
       unfolding lower_by
       lower-moves v e =
-          let (below, is-box) = if_some _ _ _ (sym at_next ∙ ap bounds_made e) in
+          let (below, is-box) = if_some _ _ _ (sym at_next ∙ e) in
           let later : t < b.latest.0 = omega (arith, leb-true (t + 1) b.latest.0 below) in
           if-true _ _ _ lower-holds ∙ if-false _ _ _ (lt-leb b.latest.0 t later) ∙ ap (Moved i) is-box
 
@@ -140,27 +135,27 @@ module _ (w : Window) (i : ℕ) (b : Bounds) (excess : Bool) (t : ℕ) where
     moves h = if-true _ _ _ upper-holds ∙ if-false _ _ _ (le-ltb _ _ h)
 
     -- the hour minus the lower E, and the box with it as its upper S, as their constructors make them
-    module _ (earlier : MaybeHour) (is-earlier : hour_made earlier ≡ some_if (leb b.shortest.0 t) (hour (t - b.shortest.0))) where
-      pub upper-negative : earlier ≡ SomeHour.Outside → upper_by w i b excess t ≡ Impossible
-      upper-negative e = stops (omega (arith, leb-false b.shortest.0 t (if_none _ _ (sym is-earlier ∙ ap hour_made e))))
+    module _ (earlier : Option Hour) (is-earlier : earlier ≡ some_if (leb b.shortest.0 t) (hour (t - b.shortest.0))) where
+      pub upper-negative : earlier ≡ None → upper_by w i b excess t ≡ Impossible
+      upper-negative e = stops (omega (arith, leb-false b.shortest.0 t (if_none _ _ (sym is-earlier ∙ e))))
 
-      module _ (latest : Hour) (there : earlier ≡ SomeHour.Within latest) (made : MaybeBounds)
-          (is : bounds_made made ≡ some_if (leb b.earliest.0 latest.0) (with_latest b latest.0)) where
+      module _ (latest : Hour) (there : earlier ≡ Some latest) (made : Option Bounds)
+          (is : made ≡ some_if (leb b.earliest.0 latest.0) (with_latest b latest.0)) where
         from_start : (leb b.shortest.0 t ≡ true) × (hour (t - b.shortest.0) ≡ latest)
-        from_start = if_some _ _ _ (sym is-earlier ∙ ap hour_made there)
+        from_start = if_some _ _ _ (sym is-earlier ∙ there)
 
         shorter : b.shortest.0 ≤ t
         shorter = leb-true b.shortest.0 t from_start.0
 
-        at-latest : bounds_made made ≡ some_if (leb b.earliest.0 (t - b.shortest.0)) (with_latest b (t - b.shortest.0))
+        at-latest : made ≡ some_if (leb b.earliest.0 (t - b.shortest.0)) (with_latest b (t - b.shortest.0))
         at-latest = rw (sym from_start.1) at is
 
-        pub upper-stops : made ≡ SomeBounds.Outside → upper_by w i b excess t ≡ Impossible
-        upper-stops e = stops (omega (arith, leb-false b.earliest.0 (t - b.shortest.0) (if_none _ _ (sym at-latest ∙ ap bounds_made e)), shorter))
+        pub upper-stops : made ≡ None → upper_by w i b excess t ≡ Impossible
+        upper-stops e = stops (omega (arith, leb-false b.earliest.0 (t - b.shortest.0) (if_none _ _ (sym at-latest ∙ e)), shorter))
 
-        pub upper-moves : (v : Bounds) → made ≡ SomeBounds.Within v → upper_by w i b excess t ≡ Moved i v
+        pub upper-moves : (v : Bounds) → made ≡ Some v → upper_by w i b excess t ≡ Moved i v
         upper-moves v e =
-            let (above, is-box) = if_some _ _ _ (sym at-latest ∙ ap bounds_made e) in
+            let (above, is-box) = if_some _ _ _ (sym at-latest ∙ e) in
             moves (omega (arith, leb-true b.earliest.0 (t - b.shortest.0) above, shorter)) ∙ ap (Moved i) is-box
 
 -- L or U, from what the code has found of the task
@@ -179,70 +174,68 @@ module _ (hours tasks : ℕ) (capacities heights boxes : List ℕ) (fits : List 
     unfolding bound_by move_by
     bound-upper l q = rw (over, is-box) at q ∙ sym (on-within _ _ _ w told ∙ rw l)
 
--- ---- by the letter
+-- ---- by the kind
 
-module _ (rooms tasks hours n i t : ℕ) where
-  pub step-C : n ≡ letter_c → is_step rooms tasks hours (kind_of n) i t ≡ (ltb i tasks and eqb t 0)
-  unfolding is_step kind_of
-  step-C e = rw e
+-- what exists where 11 does not apply
+module _ (rooms tasks hours i t : ℕ) (k : Kind) (is : is_step rooms tasks hours k i t ≡ true) where
+  pub there-C : k ≡ kind_c → i < tasks
+  unfolding is_step
+  there-C q = ltb-true _ _ (and_left (ltb i tasks) _ (rw q at is))
 
-  pub step-O : n ≡ letter_o → is_step rooms tasks hours (kind_of n) i t ≡ (is_room_number rooms i and is_hour hours t)
-  unfolding is_step kind_of
-  step-O e = rw e
+  pub there-O : k ≡ kind_o → (i < rooms) × (t < hours)
+  unfolding is_step
+  there-O q = let e = rw q at is in (ltb-true _ _ (and_left (ltb i rooms) _ e), ltb-true _ _ (and_right (ltb i rooms) _ e))
 
-  pub step-L : n ≡ letter_l → is_step rooms tasks hours (kind_of n) i t ≡ (ltb i tasks and is_hour hours t)
-  unfolding is_step kind_of
-  step-L e = rw e
+  pub there-L : k ≡ kind_l → (i < tasks) × (t < hours)
+  unfolding is_step
+  there-L q = let e = rw q at is in (ltb-true _ _ (and_left (ltb i tasks) _ e), ltb-true _ _ (and_right (ltb i tasks) _ e))
 
-  pub step-U : n ≡ letter_u → is_step rooms tasks hours (kind_of n) i t ≡ (ltb i tasks and is_hour hours t)
-  unfolding is_step kind_of
-  step-U e = rw e
+  pub there-U : k ≡ kind_u → (i < tasks) × (t < hours)
+  unfolding is_step
+  there-U q = let e = rw q at is in (ltb-true _ _ (and_left (ltb i tasks) _ e), ltb-true _ _ (and_right (ltb i tasks) _ e))
 
-  pub no_step_lem : n ≢ letter_c → n ≢ letter_o → n ≢ letter_l → n ≢ letter_u → is_step rooms tasks hours (kind_of n) i t ≡ false
-  unfolding is_step kind_of
-  no_step_lem c o l u = rw (ne_eqb n letter_c c, ne_eqb n letter_o o, ne_eqb n letter_l l, ne_eqb n letter_u u)
-
-  module _ (is : is_step rooms tasks hours (kind_of n) i t ≡ true) where
-    pub there-C : n ≡ letter_c → i < tasks
-    there-C e = ltb-true _ _ (and_left _ _ (rw (step-C e) at is))
-
-    pub there-O : n ≡ letter_o → (i < rooms) × (t < hours)
-    there-O e = let both = rw (step-O e) at is in (ltb-true _ _ (and_left _ _ both), ltb-true _ _ (and_right _ _ both))
-
-    pub there-L : n ≡ letter_l → (i < tasks) × (t < hours)
-    there-L e = let both = rw (step-L e) at is in (ltb-true _ _ (and_left _ _ both), ltb-true _ _ (and_right _ _ both))
-
-    pub there-U : n ≡ letter_u → (i < tasks) × (t < hours)
-    there-U e = let both = rw (step-U e) at is in (ltb-true _ _ (and_left _ _ both), ltb-true _ _ (and_right _ _ both))
-
-module _ (hours tasks : ℕ) (capacities heights boxes : List ℕ) (fits : List (Option Window)) (x : Step) where
-  pub by-none : is_step (length capacities) tasks hours (kind_of x.kind) x.task x.hour ≡ false
-      → judge_by hours tasks capacities heights boxes fits x ≡ Unknown
+module _ (hours tasks : ℕ) (capacities heights boxes : List ℕ) (fits : List (Option Window)) (x : Step) (k : Kind) (named : k ≡ kind_of x.kind) where
+  by-none : is_step (length capacities) tasks hours k x.task x.hour ≡ false → judge_by hours tasks capacities heights boxes fits x ≡ Unknown
   unfolding judge_by
-  by-none e = if-false _ _ _ e
+  by-none e = if-false _ _ _ (ap (λ (l : Kind). is_step (length capacities) tasks hours l x.task x.hour) (sym named) ∙ e)
 
-  module _ (is : is_step (length capacities) tasks hours (kind_of x.kind) x.task x.hour ≡ true) (r : Judged) where
-    pub by-C : (b : Bounds) → x.kind ≡ letter_c → b ≡ bounds_at boxes x.task → r ≡ calendar_by (get_or fits x.task None) x.task b
+  pub by-nameless : k ≡ unknown_kind → Unknown ≡ judge_by hours tasks capacities heights boxes fits x
+  unfolding is_step
+  by-nameless e = sym (by-none (rw e))
+
+  pub by-absent : {r : Bool} → r ≡ is_step (length capacities) tasks hours k x.task x.hour → r ≡ false
+      → Unknown ≡ judge_by hours tasks capacities heights boxes fits x
+  by-absent q e = sym (by-none (sym q ∙ e))
+
+  module _ (is : is_step (length capacities) tasks hours k x.task x.hour ≡ true) (r : Judged) where
+    by-kind : r ≡ judge_kind_by hours tasks capacities heights boxes fits k x.task x.hour → r ≡ judge_by hours tasks capacities heights boxes fits x
+    unfolding judge_by
+    by-kind q =
+        q
+        ∙ ap (λ (l : Kind). judge_kind_by hours tasks capacities heights boxes fits l x.task x.hour) named
+        ∙ sym (if-true _ _ _ (ap (λ (l : Kind). is_step (length capacities) tasks hours l x.task x.hour) (sym named) ∙ is))
+
+    pub by-C : (b : Bounds) → k ≡ kind_c → b ≡ bounds_at boxes x.task → r ≡ calendar_by (get_or fits x.task None) x.task b
         → r ≡ judge_by hours tasks capacities heights boxes fits x
-    unfolding judge_by judge_kind_by kind_of
-    by-C b k e q = rw e at q ∙ sym (if-true _ _ _ is ∙ rw k)
+    unfolding judge_kind_by
+    by-C b n e q = by-kind (rw e at q ∙ rw n)
 
-    pub by-O : (load : ℕ) {capacity : Height} {own : List ℕ} → x.kind ≡ letter_o → capacity ≡ height (get_or capacities x.task 0)
+    pub by-O : (load : ℕ) {capacity : Height} {own : List ℕ} → k ≡ kind_o → capacity ≡ height (get_or capacities x.task 0)
         → own ≡ room_part tasks heights x.task → load ≡ load_of fits own x.hour
         → r ≡ (if ltb capacity.0 load then Impossible else NotAdmitted)
         → r ≡ judge_by hours tasks capacities heights boxes fits x
-    unfolding judge_by judge_kind_by kind_of
-    by-O load k limit room e q = rw (e, limit, room) at q ∙ sym (if-true _ _ _ is ∙ rw k)
+    unfolding judge_kind_by
+    by-O load n limit room e q = by-kind (rw (e, limit, room) at q ∙ rw n)
 
-    pub by-L : x.kind ≡ letter_l → r ≡ bound_by hours tasks capacities heights boxes fits true x.task x.hour
+    pub by-L : k ≡ kind_l → r ≡ bound_by hours tasks capacities heights boxes fits true x.task x.hour
         → r ≡ judge_by hours tasks capacities heights boxes fits x
-    unfolding judge_by judge_kind_by kind_of
-    by-L k q = q ∙ sym (if-true _ _ _ is ∙ rw k)
+    unfolding judge_kind_by
+    by-L n q = by-kind (q ∙ rw n)
 
-    pub by-U : x.kind ≡ letter_u → r ≡ bound_by hours tasks capacities heights boxes fits false x.task x.hour
+    pub by-U : k ≡ kind_u → r ≡ bound_by hours tasks capacities heights boxes fits false x.task x.hour
         → r ≡ judge_by hours tasks capacities heights boxes fits x
-    unfolding judge_by judge_kind_by kind_of
-    by-U k q = q ∙ sym (if-true _ _ _ is ∙ rw k)
+    unfolding judge_kind_by
+    by-U n q = by-kind (q ∙ rw n)
 
 -- the sum of U's test fits a number of the code
 pub sum_fits : {rooms tasks : ℕ} {heights boxes : List ℕ} → Ready rooms tasks heights boxes → (i : ℕ) (b : Bounds) → i < tasks → b ≡ bounds_at boxes i

@@ -112,7 +112,7 @@ module _ (P : Plan) (boxes : List ℕ) (fits : List (Option Window)) (k : Keepin
     where
       room-kept : (room : ℕ) → room < room_count P
           → excess_in (task_count P) P.capacities P.heights fits w i t room ≡ room_excess P room boxes i t
-      room-kept room m = unfold excess_in heights_of height_of capacity_of in (rw (load_kept room t m) (exceeds-excess P room boxes i t w l e))
+      room-kept room m = unfold excess_in heights_of height_of in (rw (load_kept room t m) (exceeds-excess P room boxes i t w l e))
 
   kind-kept : (kind : Kind) (i t : ℕ) → is_step (room_count P) (task_count P) P.shifts.hours kind i t ≡ true
       → judgement_of boxes (judge_kind_by P.shifts.hours (task_count P) P.capacities P.heights boxes fits kind i t) ≡ judge_kind P boxes kind i t

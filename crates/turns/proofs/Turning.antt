@@ -1,4 +1,5 @@
 -- Laws of a turn: the step that the code finds and judges is the step that stands next, with what it comes to. Assumes nothing.
+use Rattle.std.proofs.lemmas.Option.{same_Some}
 use Rattle.calendar.specs.declared.Window.{Window}
 use mathlib.Core.Path.{◌≡◌, sym, ap, ap₂, ◌∙◌}
 use Rattle.std.specs.Prelude.{Option, None, Some}
@@ -17,8 +18,7 @@ use Rattle.steps.specs.Steps.{impossible, moved, judge}
 use Rattle.steps.specs.Filter.{Admitted, stops, moves, step_of, first_by, filter_order, next}
 use Rattle.steps.proofs.Searches.{Rightly, next-rightly}
 use Rattle.turns.specs.declared.turn.Turn.{Turn}
-use Rattle.turns.specs.declared.turn.Turn.TheVariants as turn
-use Rattle.turns.specs.Inner.Kept.{Keeping, on_judged, judge_by, admitted_by, judgement_of, admitted_of}
+use Rattle.turns.specs.Inner.Kept.{Keeping, turn, on_judged, judge_by, admitted_by, judgement_of, admitted_of}
 use Rattle.turns.proofs.Keeping.{next-kept, judges}
 
 -- what the code makes of a step that is judged to be admitted: the step that stands next
@@ -58,12 +58,6 @@ module _ (P : Plan) (boxes : List ℕ) (fits : List (Option Window)) (k : Keepin
       go (stops y) s right = stops-is boxes x y j (judges P boxes fits k x j js ∙ ap (judge P boxes) (sym s) ∙ right) (sym s)
       go (moves y left) s right = moves-is boxes left x y j (judges P boxes fits k x j js ∙ ap (judge P boxes) (sym s) ∙ right) (sym s)
 
--- what a turn says of its step
-pub never-moves : {C : Type 0} {x : Step} {j : Judged} → turn.Settled ≡ turn.At x j → C
-never-moves e = absurd (let z : ◌≡◌ {A = ℕ} 0 1 = cc in omega arith)
-
-pub judged-of : {x y : Step} {j k : Judged} → turn.At x j ≡ turn.At y k → j ≡ k
-judged-of e = cc
-
-pub turn-moves : {r : Turn} {x : Step} {j : Judged} {i : ℕ} {b : Bounds} → r ≡ turn.At x j → j ≡ Moved i b → r ≡ turn.At x (Moved i b)
-turn-moves found e = rw e at found
+-- what a turn comes to
+pub judged-of : {x y : Step} {j k : Judged} → Some (turn x j) ≡ Some (turn y k) → j ≡ k
+judged-of e = ap (λ (t : Turn). t.judged) (same_Some _ _ e)

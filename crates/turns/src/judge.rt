@@ -72,7 +72,7 @@ fn judge_lower(w: Window, task: u16, b: Bounds, excess: bool, t: Hour) -> Judged
     requires { t.0 < most_hours }
     ensures { result ≡ lower_by w task b excess t.0 }
 {
-    if t >= w.ect {
+    if w.ect <= t {
         return Judged::NotAdmitted;
     }
     if t < b.earliest {
@@ -96,7 +96,7 @@ fn judge_upper(w: Window, task: u16, b: Bounds, excess: bool, t: Hour) -> Judged
     if t < w.bounds.latest {
         return Judged::NotAdmitted;
     }
-    if t >= b.latest.plus(b.shortest) {
+    if b.latest.plus(b.shortest) <= t {
         return Judged::NotAdmitted;
     }
     if !excess {

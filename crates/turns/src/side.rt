@@ -16,6 +16,7 @@ pub enum Side {
 
 impl Side {
     // The letter of the steps that move it.
+    #[tactic(auto, unfolding(crate::specs::Inner::Finding::letter_of))]
     pub fn letter(self) -> u8
         ensures { result ≡ letter_of (is_lower self) }
     {
@@ -26,6 +27,7 @@ impl Side {
     }
 
     // The first hour in which a step of a task with the window and the box can be admitted.
+    #[tactic(auto, unfolding(crate::specs::Inner::Finding::first_hour))]
     pub fn first_hour(self, w: Window, b: Bounds) -> Hour
         ensures { result.0 ≡ first_hour (is_lower self) w b }
     {
@@ -36,6 +38,7 @@ impl Side {
     }
 
     // The hour before which these end.
+    #[tactic(auto, unfolding(crate::specs::Inner::Finding::end_hour))]
     pub fn end_hour(self, w: Window, b: Bounds) -> Hour
         requires { b.latest.0 + b.shortest.0 < 65536 }
         ensures { result.0 ≡ end_hour (is_lower self) w b }

@@ -6,7 +6,7 @@ use mathlib.Core.Path.{◌≡◌, sym, ap, ◌∙◌}
 use mathlib.Core.Bool.{Bool, true, false}
 use Prim.Native.Nat.{ℕ, ◌≤◌, ◌<◌}
 use lib.Dec.{leb, ltb}
-use borrow.Author.Tests.{ltb-true, ltb-false}
+use borrow.Author.Tests.{ltb-true, ltb-false, leb-true, leb-false}
 use Rattle.units.specs.Limits.{hour}
 use Rattle.units.specs.declared.Hour.{Hour}
 
@@ -40,13 +40,20 @@ module _ (s t : ℕ) {r : Bool} (is : r ≡ ltb s t) where
   pub not-before : r ≡ false → t ≤ s
   not-before e = ltb-false s t (sym is ∙ e)
 
+module _ (s t : ℕ) {r : Bool} (is : r ≡ leb s t) where
+  pub at-most : r ≡ true → s ≤ t
+  at-most e = leb-true s t (sym is ∙ e)
+
+  pub not-at-most : r ≡ false → t < s
+  not-at-most e = leb-false s t (sym is ∙ e)
+
 -- of an end that was worked out
-module _ (s : ℕ) {n : ℕ} {end : Hour} {r : Bool} (is-end : end ≡ hour n) (is : r ≡ ltb s end.0) where
-  at_end : r ≡ ltb s n
-  at_end = is ∙ ap (λ (h : Hour). ltb s h.0) is-end
+module _ (t : ℕ) {n : ℕ} {end : Hour} {r : Bool} (is-end : end ≡ hour n) (is : r ≡ leb end.0 t) where
+  at_end : r ≡ leb n t
+  at_end = is ∙ ap (λ (h : Hour). leb h.0 t) is-end
 
-  pub before-end : r ≡ true → s < n
-  before-end = before s n at_end
+  pub end-at-most : r ≡ true → n ≤ t
+  end-at-most = at-most n t at_end
 
-  pub not-before-end : r ≡ false → n ≤ s
-  not-before-end = not-before s n at_end
+  pub not-end-at-most : r ≡ false → t < n
+  not-end-at-most = not-at-most n t at_end

@@ -1,4 +1,5 @@
-use mathlib.Core.Path.{refl}
+use mathlib.Core.Path.{refl, ap}
+use Rattle.turns.specs.Inner.Kept.{is_lower}
 use native.Mathlib.Omega.{arith}
 use Rattle.turns.proofs.Judging.{bound-never, bound-lower, bound-upper, sum_fits}
 use Rattle.turns.proofs.judge.judge_bound.Goals as goal
@@ -18,9 +19,9 @@ bounds_at-b-requires c = let pre = c.requires in omega (arith, pre.0.sized, pre.
 pub judge_lower-requires : goal.judge_lower-requires
 judge_lower-requires c = c.requires.2
 
-pub returns-then-lower : goal.returns-then-lower
-returns-then-lower c hours =
-    bound-lower hours _ _ _ _ _ _ _ _ _ _ _ _ c.in-Some.is c.has_excess-excess.ensures c.bounds_at-b.ensures c.if-lower.true
+pub returns-in-Lower : goal.returns-in-Lower
+returns-in-Lower c hours =
+    bound-lower hours _ _ _ _ _ _ _ _ _ _ _ _ c.in-Some.is c.has_excess-excess.ensures c.bounds_at-b.ensures (ap is_lower c.in-Lower.is)
     c.judge_lower.ensures
 
 pub judge_upper-requires : goal.judge_upper-requires
@@ -28,7 +29,7 @@ judge_upper-requires c =
     let pre = c.requires in
     sum_fits pre.0 _ _ pre.1 c.bounds_at-b.ensures
 
-pub returns : goal.returns
-returns c hours =
-    bound-upper hours _ _ _ _ _ _ _ _ _ _ _ _ c.in-Some.is c.has_excess-excess.ensures c.bounds_at-b.ensures c.if-lower.false
+pub returns-in-Upper : goal.returns-in-Upper
+returns-in-Upper c hours =
+    bound-upper hours _ _ _ _ _ _ _ _ _ _ _ _ c.in-Some.is c.has_excess-excess.ensures c.bounds_at-b.ensures (ap is_lower c.in-Upper.is)
     c.judge_upper.ensures

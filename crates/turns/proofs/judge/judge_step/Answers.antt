@@ -1,69 +1,72 @@
-use mathlib.Core.Path.{sym, ◌∙◌}
+use mathlib.Core.Path.{◌≡◌, sym, ap, ◌∙◌}
 use native.Mathlib.Omega.{arith}
+use Rattle.std.specs.Prelude.{Some}
+use Rattle.plan.specs.Plan.{heights_of}
 use Rattle.plan.proofs.Passed.{room_in}
-use Rattle.turns.proofs.Judging.{no_step_lem, there-C, there-O, there-L, there-U, by-none, by-C, by-O, by-L, by-U}
+use Rattle.steps.specs.Steps.{Kind, kind_c, kind_o, kind_l, kind_u, kind_in}
+use Rattle.steps.specs.declared.StepKind.{StepKind}
+use Rattle.turns.proofs.Judging.{there-C, there-O, there-L, there-U, by-nameless, by-absent, by-C, by-O, by-L, by-U}
 use Rattle.turns.proofs.judge.judge_step.Goals as goal
 
+-- the kind that the letter names, as the arm has it
+as-kind : {k l : StepKind} → k ≡ l → kind_in (Some k) ≡ kind_in (Some l)
+as-kind e = ap (λ (m : StepKind). kind_in (Some m)) e
+
+pub returns-in_default : goal.returns-in_default
+returns-in_default c = by-nameless _ _ _ _ _ _ _ _ c.of_letter.ensures (ap kind_in c.in_default.is)
+
 pub returns-then-not-is_step : goal.returns-then-not-is_step
-returns-then-not-is_step c = sym (by-none _ _ _ _ _ _ _ (sym c.is_step.ensures ∙ c.if-not-is_step.true))
+returns-then-not-is_step c = by-absent _ _ _ _ _ _ _ _ c.in-Some.ensures c.is_step.ensures c.if-not-is_step.true
 
 -- 11 does not apply to the step, so its task, its room and its hour exist
 pub bounds-fits-i : goal.bounds-fits-i
 bounds-fits-i c =
-    let known = sym c.is_step.ensures ∙ c.if-not-is_step.false in
-    omega (arith, c.requires.0.rooms_ready.few_tasks, there-C _ _ _ _ _ _ known c.in-67.is)
+    let there = there-C _ _ _ _ _ _ (sym c.if-not-is_step.ensures) (as-kind c.in-Calendar.is) in
+    omega (arith, there, c.requires.0.rooms_ready.few_tasks)
 
 pub bounds_at-requires : goal.bounds_at-requires
 bounds_at-requires c =
-    let known = sym c.is_step.ensures ∙ c.if-not-is_step.false in
-    omega (arith, c.requires.0.sized, there-C _ _ _ _ _ _ known c.in-67.is)
+    let there = there-C _ _ _ _ _ _ (sym c.if-not-is_step.ensures) (as-kind c.in-Calendar.is) in
+    omega (arith, there, c.requires.0.sized)
 
-pub room_part-in_room-requires : goal.room_part-in_room-requires
-room_part-in_room-requires c =
-    let there = there-O _ _ _ _ _ _ (sym c.is_step.ensures ∙ c.if-not-is_step.false) c.in-79.is in
+pub capacity_of-requires : goal.capacity_of-requires
+capacity_of-requires c = (there-O _ _ _ _ _ _ (sym c.if-not-is_step.ensures) (as-kind c.in-Overload.is)).0
+
+pub heights_of-requires : goal.heights_of-requires
+heights_of-requires c =
+    let there = there-O _ _ _ _ _ _ (sym c.if-not-is_step.ensures) (as-kind c.in-Overload.is) in
     room_in _ _ c.args.plan.now.heights.now c.requires.0.rooms_ready.each _ there.0
 
-pub height_at-requires : goal.height_at-requires
-height_at-requires c = (there-O _ _ _ _ _ _ (sym c.is_step.ensures ∙ c.if-not-is_step.false) c.in-79.is).0
-
 pub load_at-requires : goal.load_at-requires
+unfolding heights_of
 load_at-requires c =
-    let there = there-O _ _ _ _ _ _ (sym c.is_step.ensures ∙ c.if-not-is_step.false) c.in-79.is in
-    rw c.room_part-in_room.ensures (c.requires.0.rooms_ready.room _ there.0)
+    let there = there-O _ _ _ _ _ _ (sym c.if-not-is_step.ensures) (as-kind c.in-Overload.is) in
+    rw c.heights_of.ensures (c.requires.0.rooms_ready.room _ there.0)
 
 pub judge_bound-requires : goal.judge_bound-requires
 judge_bound-requires c =
-    let pre = c.requires in
-    let there = there-L _ _ _ _ _ _ (sym c.is_step.ensures ∙ c.if-not-is_step.false) c.in-76.is in
-    (pre.0, there.0, omega (arith, there.1, pre.1))
+    let there = there-L _ _ _ _ _ _ (sym c.if-not-is_step.ensures) (as-kind c.in-Lower.is) in
+    (c.requires.0, there.0, omega (arith, there.1, c.requires.1))
 
-pub judge_bound-requires-in-85 : goal.judge_bound-requires-in-85
-judge_bound-requires-in-85 c =
-    let pre = c.requires in
-    let there = there-U _ _ _ _ _ _ (sym c.is_step.ensures ∙ c.if-not-is_step.false) c.in-85.is in
-    (pre.0, there.0, omega (arith, there.1, pre.1))
+pub judge_bound-requires-in-Upper : goal.judge_bound-requires-in-Upper
+judge_bound-requires-in-Upper c =
+    let there = there-U _ _ _ _ _ _ (sym c.if-not-is_step.ensures) (as-kind c.in-Upper.is) in
+    (c.requires.0, there.0, omega (arith, there.1, c.requires.1))
 
-pub returns-in-67 : goal.returns-in-67
-returns-in-67 c =
-    let known = sym c.is_step.ensures ∙ c.if-not-is_step.false in
-    by-C _ _ _ _ _ _ _ known _ _ c.in-67.is c.bounds_at.ensures c.judge_calendar.ensures
+pub returns-in-Calendar : goal.returns-in-Calendar
+returns-in-Calendar c =
+    by-C _ _ _ _ _ _ _ _ c.in-Some.ensures (sym c.if-not-is_step.ensures) _ _ (as-kind c.in-Calendar.is) c.bounds_at.ensures c.judge_calendar.ensures
 
-pub returns-in-79 : goal.returns-in-79
-returns-in-79 c =
-    let known = sym c.is_step.ensures ∙ c.if-not-is_step.false in
-    by-O _ _ _ _ _ _ _ known _ _ c.in-79.is c.height_at.ensures c.room_part-in_room.ensures c.load_at.ensures c.judge_load.ensures
+pub returns-in-Overload : goal.returns-in-Overload
+unfolding heights_of
+returns-in-Overload c =
+    by-O _ _ _ _ _ _ _ _ c.in-Some.ensures (sym c.if-not-is_step.ensures) _ _ (as-kind c.in-Overload.is) c.capacity_of.ensures c.heights_of.ensures
+    c.load_at.ensures c.judge_load.ensures
 
-pub returns-in-76 : goal.returns-in-76
-returns-in-76 c =
-    let known = sym c.is_step.ensures ∙ c.if-not-is_step.false in
-    by-L _ _ _ _ _ _ _ known _ c.in-76.is (c.judge_bound.ensures _)
+pub returns-in-Lower : goal.returns-in-Lower
+returns-in-Lower c =
+    by-L _ _ _ _ _ _ _ _ c.in-Some.ensures (sym c.if-not-is_step.ensures) _ (as-kind c.in-Lower.is) (c.judge_bound.ensures _)
 
-pub returns-in-85 : goal.returns-in-85
-returns-in-85 c =
-    let known = sym c.is_step.ensures ∙ c.if-not-is_step.false in
-    by-U _ _ _ _ _ _ _ known _ c.in-85.is (c.judge_bound-in-85.ensures _)
-
-pub returns-in_default : goal.returns-in_default
-returns-in_default c =
-    let rest = c.in_default.in_default-own.rest in
-    sym (by-none _ _ _ _ _ _ _ (no_step_lem _ _ _ _ _ _ rest.0.0.0.1 rest.0.0.1 rest.0.1 rest.1))
+pub returns-in-Upper : goal.returns-in-Upper
+returns-in-Upper c =
+    by-U _ _ _ _ _ _ _ _ c.in-Some.ensures (sym c.if-not-is_step.ensures) _ (as-kind c.in-Upper.is) (c.judge_bound-in-Upper.ensures _)

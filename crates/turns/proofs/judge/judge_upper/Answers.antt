@@ -1,17 +1,17 @@
-use mathlib.Core.Path.{◌≡◌, sym}
+use mathlib.Core.Path.{◌≡◌, sym, ◌∙◌}
 use mathlib.Core.Bool.{true}
 use Prim.Native.Nat.{◌+◌, ◌≤◌, ◌<◌}
-use Rattle.units.proofs.Hours.{before, not-before, before-end, not-before-end}
+use Rattle.units.proofs.Hours.{le-cmp, lt-cmp, before, not-before, end-at-most, not-end-at-most}
 use Rattle.calendar.specs.Rule.{lst}
 use Rattle.turns.proofs.Judging.{upper-before, upper-earlier, upper-room, upper-negative, upper-stops, upper-moves}
 use Rattle.turns.proofs.judge.judge_upper.Goals as goal
 
-pub returns-then-is_before : goal.returns-then-is_before
-returns-then-is_before c = sym (upper-before _ _ _ _ _ (before _ _ c.is_before.ensures c.if-is_before.true))
+pub returns-then-lt : goal.returns-then-lt
+returns-then-lt c = sym (upper-before _ _ _ _ _ (before _ _ (c.lt.ensures ∙ lt-cmp _ _) c.if-lt.true))
 
-pub returns-then-not-is_before : goal.returns-then-not-is_before
-returns-then-not-is_before c =
-    sym (upper-earlier _ _ _ _ _ (not-before-end _ c.plus.ensures c.is_before-2.ensures c.if-not-is_before.true))
+pub returns-then-le : goal.returns-then-le
+returns-then-le c =
+    sym (upper-earlier _ _ _ _ _ (end-at-most _ c.plus.ensures (c.le.ensures ∙ le-cmp _ _) c.if-le.true))
 
 pub returns-then-not-excess : goal.returns-then-not-excess
 returns-then-not-excess c = sym (upper-room _ _ _ _ _ c.if-not-excess.true)
@@ -19,8 +19,8 @@ returns-then-not-excess c = sym (upper-room _ _ _ _ _ c.if-not-excess.true)
 pub returns-in_default : goal.returns-in_default
 returns-in_default c =
     sym (upper-negative _ _ _ _ _ (let known : let a = c.args in (lst a.w ≤ a.t.0) × (a.t.0 < a.b.latest.0 + a.b.shortest.0) × (a.excess ≡ true) = (
-      not-before _ _ c.is_before.ensures c.if-is_before.false,
-      before-end _ c.plus.ensures c.is_before-2.ensures c.if-not-is_before.false,
+      not-before _ _ (c.lt.ensures ∙ lt-cmp _ _) c.if-lt.false,
+      not-end-at-most _ c.plus.ensures (c.le.ensures ∙ le-cmp _ _) c.if-le.false,
       c.if-not-excess.false,
     ) in known) _ c.minus.ensures c.in_default.is)
 
@@ -28,8 +28,8 @@ pub returns-in_default-starting_by : goal.returns-in_default-starting_by
 returns-in_default-starting_by c =
     sym
     (upper-stops _ _ _ _ _ (let known : let a = c.args in (lst a.w ≤ a.t.0) × (a.t.0 < a.b.latest.0 + a.b.shortest.0) × (a.excess ≡ true) = (
-      not-before _ _ c.is_before.ensures c.if-is_before.false,
-      before-end _ c.plus.ensures c.is_before-2.ensures c.if-not-is_before.false,
+      not-before _ _ (c.lt.ensures ∙ lt-cmp _ _) c.if-lt.false,
+      not-end-at-most _ c.plus.ensures (c.le.ensures ∙ le-cmp _ _) c.if-le.false,
       c.if-not-excess.false,
     ) in known) _ c.minus.ensures _ c.in-Some.is _
     c.starting_by.ensures c.in_default-starting_by.is)
@@ -38,8 +38,8 @@ pub returns : goal.returns
 returns c =
     sym
     (upper-moves _ _ _ _ _ (let known : let a = c.args in (lst a.w ≤ a.t.0) × (a.t.0 < a.b.latest.0 + a.b.shortest.0) × (a.excess ≡ true) = (
-      not-before _ _ c.is_before.ensures c.if-is_before.false,
-      before-end _ c.plus.ensures c.is_before-2.ensures c.if-not-is_before.false,
+      not-before _ _ (c.lt.ensures ∙ lt-cmp _ _) c.if-lt.false,
+      not-end-at-most _ c.plus.ensures (c.le.ensures ∙ le-cmp _ _) c.if-le.false,
       c.if-not-excess.false,
     ) in known) _ c.minus.ensures _ c.in-Some.is _
     c.starting_by.ensures _ c.in-Some-starting_by.is)

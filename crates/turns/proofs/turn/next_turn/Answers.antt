@@ -1,22 +1,15 @@
-use mathlib.Core.Path.{ap}
-use Rattle.plan.specs.Plan.{room_count, task_count}
+use mathlib.Core.Path.{sym, ap, ◌∙◌}
+use Rattle.turns.specs.Inner.Kept.{turn_of}
 use Rattle.turns.proofs.Keeping.{moved-there}
-use Rattle.turns.proofs.Turning.{turn-settles, turn-found, judged-of, never-moves}
+use Rattle.turns.proofs.Turning.{turn-settles, turn-found, judged-of}
 use Rattle.turns.proofs.turn.next_turn.Goals as goal
 
-pub returns-in_default : goal.returns-in_default
-returns-in_default c =
-    let found = c.next_step-found.ensures in
-    record {
-      answer = λ calendars task_calendars work_times n k. turn-settles _ _ _ k _ (rw n at found) (ap c.in_default.is);
-      there = λ x i b e. never-moves e;
-    }
+pub returns-in_err-step-clause-answer : goal.returns-in_err-step-clause-answer
+returns-in_err-step-clause-answer c k =
+    ap (turn_of c.args.boxes.now) c.from_residual.ensures ∙ turn-settles _ _ _ k _ c.next_step.ensures (c.in_err-step.was)
 
-pub returns : goal.returns
-returns c =
-    let found = c.next_step-found.ensures in
-    record {
-      answer = λ calendars task_calendars work_times n k.
-          turn-found _ _ _ k _ (rw n at found) _ _ (ap c.in-Some.is) (rw n at c.judge_step-judged.ensures);
-      there = λ x i b e. moved-there _ _ _ _ _ _ _ _ i b c.judge_step-judged.ensures (judged-of e);
-    }
+pub returns-clause-answer : goal.returns-clause-answer
+returns-clause-answer c k = turn-found _ _ _ k _ c.next_step.ensures _ _ c.in_ok-step.was c.judge_step-judged.ensures
+
+pub returns-clause-there : goal.returns-clause-there
+returns-clause-there c x i b e = moved-there _ _ _ _ _ _ _ _ i b c.judge_step-judged.ensures (judged-of e)
