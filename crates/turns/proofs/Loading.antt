@@ -4,14 +4,16 @@ use Rattle.std.specs.Prelude.{Option, None, Some}
 use mathlib.Core.Path.{◌≡◌, refl, sym, ap, ◌∙◌}
 use mathlib.Core.Logic.{◌≢◌}
 use mathlib.Core.Bool.{Bool, true, false}
-use mathlib.Core.List.{List}
-use Prim.Native.Nat.{ℕ, zero, suc, ◌+◌, ◌*◌, ◌≤◌, ◌<◌, min}
+use mathlib.Core.List.{List, ◌++◌}
+use Prim.Native.Nat.{ℕ, zero, suc, ◌+◌, ◌-◌, ◌*◌, ◌≤◌, ◌<◌, min}
 use native.Mathlib.Nat.{mul-le-mul_right, add-mul}
 use native.Mathlib.Numerals.{add-one}
 use native.Mathlib.Omega.{arith}
 use lib.Dec.{ltb, eqb}
-use lib.ListN.{length, get_or, set, take, replicate, length-set, length-replicate}
-use lib.Seq.{get_or-set_same, get_or-set_other, get_or-take, length-take-le}
+use lib.ListN.{length, get_or, set, take, drop, replicate, length-set, length-replicate, length-take, length-drop, length-append, get_or-append}
+use Rattle.std.proofs.lemmas.List.{get_or-append_right}
+use lib.Seq.{get_or-set_same, get_or-set_other, get_or-take, get_or-drop, length-take-le}
+use borrow.Rule.Slice.PartMut.{put_mid}
 use borrow.Author.Tests.{lt-ltb, le-ltb, le-leb, lt-leb, ltb-true, ltb-false, eqb-true, eqb-false}
 use Rattle.units.specs.Sums.{sum_to, sum_where}
 use Rattle.units.specs.Limits.{most_tasks, most_height, height}
@@ -26,19 +28,8 @@ use Rattle.calendar.specs.declared.Window.{Window}
 use Rattle.calendar.specs.Rule.{lst, ect}
 use Rattle.steps.specs.Load.{must_run}
 use Rattle.turns.specs.Inner.Kept.{load_of}
-use Rattle.turns.specs.Inner.Finding.{part_at, Changed, Loaded}
+use Rattle.turns.specs.Inner.Finding.{part_at, Loaded}
 use Rattle.turns.specs.Inner.Ready.{RoomReady}
-
--- ---- the compulsory part of a task with a window
-
-module _ (w : Window) (t : ℕ) where
-  pub before-lst : t < lst w → must_run (Some w) t ≡ false
-  unfolding must_run
-  before-lst h = not_left _ _ (lt-leb (lst w) t h)
-
-  pub from-lst : lst w ≤ t → must_run (Some w) t ≡ ltb t (ect w)
-  unfolding must_run
-  from-lst h = and-rest _ _ (le-leb (lst w) t h)
 
 -- ---- the sum over the tasks passed
 
@@ -59,18 +50,13 @@ module _ (fits : List (Option Window)) (heights : List ℕ) (t : ℕ) where
   unfolding load_to load_of
   load-all = refl
 
-  module _ (sum i : ℕ) (so_far : sum ≡ load_to i) where
-    pub load-never : get_or fits i None ≡ None → sum ≡ load_to (i + 1)
-    unfolding load_to must_run
-    load-never e = where-skip _ _ sum i so_far (rw e)
+  pub load_skips : {sum : ℕ} (n : ℕ) → sum ≡ load_to n → must_run (get_or fits n None) t ≡ false → sum ≡ load_to (n + 1)
+  unfolding load_to
+  load_skips {sum} n so_far e = where-skip _ _ sum n so_far e
 
-    pub load-rests : (w : Window) → get_or fits i None ≡ Some w → must_run (Some w) t ≡ false → sum ≡ load_to (i + 1)
-    unfolding load_to
-    load-rests w e q = where-skip _ _ sum i so_far (rw e q)
-
-    pub load-runs : (w : Window) → get_or fits i None ≡ Some w → must_run (Some w) t ≡ true → sum + get_or heights i 0 ≡ load_to (i + 1)
-    unfolding load_to
-    load-runs w e q = where-more _ _ sum i so_far (rw e q)
+  pub load_adds : {sum : ℕ} (n : ℕ) → sum ≡ load_to n → must_run (get_or fits n None) t ≡ true → sum + get_or heights n 0 ≡ load_to (n + 1)
+  unfolding load_to
+  load_adds {sum} n so_far e = where-more _ _ sum n so_far e
 
   module _ (small : (i : ℕ) → get_or heights i 0 ≤ most_height) where
     pub load-small : (sum i : ℕ) → sum ≡ load_to i → sum ≤ i * most_height
@@ -111,20 +97,20 @@ unfolding part_at must_run
 part-never height t = refl
 
 -- the numbers from the first up to before t, all before the end, are raised, and the others are as they were
-pub record Raised (first end height : ℕ) (old new : List ℕ) (t : ℕ) : Type 0 where
+pub record Raised (first end raise : ℕ) (old new : List ℕ) (t : ℕ) : Type 0 where
   pub same : length new ≡ length old
   pub from : first ≤ t
   pub before : (u : ℕ) → u < first → get_or new u 0 ≡ get_or old u 0
-  pub passed : (u : ℕ) → first ≤ u → u < t → (u < end) × (get_or new u 0 ≡ get_or old u 0 + height)
+  pub passed : (u : ℕ) → first ≤ u → u < t → (u < end) × (get_or new u 0 ≡ get_or old u 0 + raise)
   pub rest : (u : ℕ) → t ≤ u → get_or new u 0 ≡ get_or old u 0
 
-pub raised-none : (first end height : ℕ) (old : List ℕ) → Raised first end height old old first
-raised-none first end height old =
+pub raised-none : (first end raise : ℕ) (old : List ℕ) → Raised first end raise old old first
+raised-none first end raise old =
     record { same = refl; from = omega arith; before = λ u l. refl; passed = λ u l m. absurd (omega arith); rest = λ u l. refl }
 
-pub raised-next : {first end height : ℕ} {old new : List ℕ} {t : ℕ} (n : ℕ) → n ≡ get_or new t 0 + height → t < end → t < length old
-    → Raised first end height old new t → Raised first end height old (set new t n) (t + 1)
-raised-next {first} {end} {height} {old} {new} {t} n is k l r =
+pub raised-next : {first end raise : ℕ} {old new : List ℕ} {t : ℕ} (n : ℕ) → n ≡ get_or new t 0 + raise → t < end → t < length old
+    → Raised first end raise old new t → Raised first end raise old (set new t n) (t + 1)
+raised-next {first} {end} {raise} {old} {new} {t} n is k l r =
     record {
       same = length-set new t _ ∙ r.same;
       from = omega arith;
@@ -134,96 +120,96 @@ raised-next {first} {end} {height} {old} {new} {t} n is k l r =
     }
   where
     go : (u : ℕ) → first ≤ u → u < t + 1 → (b : Bool) → eqb u t ≡ b
-        → (u < end) × (get_or (set new t n) u 0 ≡ get_or old u 0 + height)
+        → (u < end) × (get_or (set new t n) u 0 ≡ get_or old u 0 + raise)
     go u m o true q =
         let e : u ≡ t = eqb-true u t q in
-        (omega arith, rw e (get_or-set_same new t n 0 (omega (arith, r.same)) ∙ is ∙ ap (λ (x : ℕ). x + height) (r.rest t (omega arith))))
+        (omega arith, rw e (get_or-set_same new t n 0 (omega (arith, r.same)) ∙ is ∙ ap (λ (x : ℕ). x + raise) (r.rest t (omega arith))))
     go u m o false q =
         let ne : u ≢ t = eqb-false u t q in
         let p = r.passed u m (omega arith) in
         (p.0, get_or-set_other new t u _ 0 ne ∙ p.1)
 
--- once all are passed: the room's numbers, which begin at `from`, are raised by the task's part, and the others are as they were
-module _ (w : Window) (from hours end height : ℕ) (old new : List ℕ) (t : ℕ) (is-end : end ≡ min (ect w) hours) (all : from + end ≤ t)
-    (r : Raised (from + lst w) (from + end) height old new t) where
-  pub raised_all : (u : ℕ) → u < hours → get_or new (from + u) 0 ≡ get_or old (from + u) 0 + part_at (Some w) height u
-  raised_all u m = go (ltb u (lst w)) refl (ltb (from + u) t) refl
-    where
-      go : (a : Bool) → ltb u (lst w) ≡ a → (b : Bool) → ltb (from + u) t ≡ b
-          → get_or new (from + u) 0 ≡ get_or old (from + u) 0 + part_at (Some w) height u
-      go true p b q =
-          let h : u < lst w = ltb-true u (lst w) p in
-          omega (arith, r.before (from + u) (omega arith), part-before w height u h)
-      go false p true q =
-          let h : lst w ≤ u = ltb-false u (lst w) p in
-          let k = r.passed (from + u) (omega arith) (ltb-true _ _ q) in
-          omega (arith, k.1, part_in w height u h (omega (arith, k.0)))
-      go false p false q =
-          let h : t ≤ from + u = ltb-false (from + u) t q in
-          omega (arith, r.rest (from + u) h, part-after w height u (omega arith))
-
-  pub raised-within : Changed from hours old new
-  raised-within =
-      record {
-        same = r.same;
-        before = λ k l. r.before k (omega arith);
-        after = λ k l. go k l (ltb k t) refl (ltb k (from + lst w)) refl;
-      }
-    where
-      go : (k : ℕ) → from + hours ≤ k → (b : Bool) → ltb k t ≡ b → (a : Bool) → ltb k (from + lst w) ≡ a → get_or new k 0 ≡ get_or old k 0
-      go k l b q true p = r.before k (ltb-true _ _ p)
-      go k l true q false p = absurd (omega (arith, (r.passed k (ltb-false _ _ p) (ltb-true _ _ q)).0))
-      go k l false q false p = r.rest k (ltb-false _ _ q)
+-- once all are passed, the numbers are raised by the task's part
+pub raised_all : (w : Window) (end raise : ℕ) (old new : List ℕ) (t : ℕ) → end ≡ min (length old) (ect w) → end ≤ t
+    → Raised (lst w) end raise old new t
+    → (u : ℕ) → u < length old → get_or new u 0 ≡ get_or old u 0 + part_at (Some w) raise u
+raised_all w end raise old new t is-end all r u m = go (ltb u (lst w)) refl (ltb u t) refl
+  where
+    go : (a : Bool) → ltb u (lst w) ≡ a → (b : Bool) → ltb u t ≡ b → get_or new u 0 ≡ get_or old u 0 + part_at (Some w) raise u
+    go true p b q =
+        let h : u < lst w = ltb-true u (lst w) p in
+        omega (arith, r.before u (omega arith), part-before w raise u h)
+    go false p true q =
+        let h : lst w ≤ u = ltb-false u (lst w) p in
+        let k = r.passed u h (ltb-true u t q) in
+        omega (arith, k.1, part_in w raise u h (omega (arith, k.0)))
+    go false p false q =
+        let h : t ≤ u = ltb-false u t q in
+        omega (arith, r.rest u h, part-after w raise u (omega arith))
 
 -- ---- the sums over the tasks passed, in all hours
 
--- the room's numbers hold the sums over the first n tasks, and the others are as they were
-pub record Filled (fits : List (Option Window)) (heights : List ℕ) (from hours : ℕ) (old new : List ℕ) (n : ℕ) : Type 0 where
-  pub changed : Changed from hours old new
-  pub sums : (t : ℕ) → t < hours → get_or new (from + t) 0 ≡ load_to fits heights t n
+-- the room's numbers hold the sums over the first n tasks
+pub record Filled (fits : List (Option Window)) (heights old new : List ℕ) (n : ℕ) : Type 0 where
+  pub same : length new ≡ length old
+  pub sums : (t : ℕ) → t < length old → get_or new t 0 ≡ load_to fits heights t n
 
 -- numbers that are 0
-pub filled_none : {fits : List (Option Window)} {heights : List ℕ} {from hours : ℕ} {old : List ℕ} → ((t : ℕ) → t < hours → get_or old (from + t) 0 ≡ 0)
-    → Filled fits heights from hours old old 0
-filled_none {fits} {heights} h =
-    record {
-      changed = record { same = refl; before = λ k l. refl; after = λ k l. refl };
-      sums = λ t l. h t l ∙ sym (load-none fits heights t);
-    }
+pub filled_none : {fits : List (Option Window)} {heights old : List ℕ} → ((t : ℕ) → t < length old → get_or old t 0 ≡ 0)
+    → Filled fits heights old old 0
+filled_none {fits} {heights} h = record { same = refl; sums = λ t l. h t l ∙ sym (load-none fits heights t) }
 
-module _ {fits : List (Option Window)} {heights : List ℕ} {from hours : ℕ} {old new : List ℕ} {n : ℕ} (r : Filled fits heights from hours old new n) where
-  pub filled-never : get_or fits n None ≡ None → Filled fits heights from hours old new (n + 1)
+module _ {fits : List (Option Window)} {heights old new : List ℕ} {n : ℕ} (r : Filled fits heights old new n) where
+  pub filled-never : get_or fits n None ≡ None → Filled fits heights old new (n + 1)
   filled-never e =
       record {
-        changed = r.changed;
+        same = r.same;
         sums = λ t l. omega (arith, r.sums t l, load-next fits heights t n None e, part-never (get_or heights n 0) t);
       }
 
-  pub filled_next : (w : Window) {own : Height} (next : List ℕ) → get_or fits n None ≡ Some w → own ≡ height (get_or heights n 0)
-      → Changed from hours new next
-      → ((t : ℕ) → t < hours → get_or next (from + t) 0 ≡ get_or new (from + t) 0 + part_at (Some w) own.0 t)
-      → Filled fits heights from hours old next (n + 1)
-  filled_next w next e is c h =
+  pub filled_next : (w : Window) {own : ℕ} (next : List ℕ) → get_or fits n None ≡ Some w → own ≡ get_or heights n 0
+      → length next ≡ length new
+      → ((t : ℕ) → t < length new → get_or next t 0 ≡ get_or new t 0 + part_at (Some w) own t)
+      → Filled fits heights old next (n + 1)
+  filled_next w next e is same h =
       record {
-        changed =
-            record {
-              same = c.same ∙ r.changed.same;
-              before = λ k l. c.before k l ∙ r.changed.before k l;
-              after = λ k l. c.after k l ∙ r.changed.after k l;
-            };
-        sums = λ t l. omega (arith, r.sums t l, load-next fits heights t n (Some w) e, rw is at h t l);
+        same = same ∙ r.same;
+        sums = λ t l. omega (arith, r.sums t l, load-next fits heights t n (Some w) e, rw is at h t (omega (arith, r.same)));
       }
 
-  pub filled-room : RoomReady heights → n < length heights → (t : ℕ) → t < hours → get_or new (from + t) 0 + get_or heights n 0 < 65536
+  pub filled-room : RoomReady heights → n < length heights → (t : ℕ) → t < length old → get_or new t 0 + get_or heights n 0 < 65536
   filled-room ready l t m =
       omega (arith, ready.few, r.sums t m, load-small fits heights t ready.small _ n refl, ready.small n)
 
-  pub filled-all : n ≤ length heights → length heights ≤ n → (t : ℕ) → t < hours → get_or new (from + t) 0 ≡ load_of fits heights t
-  filled-all k l t m =
-      let e : n ≡ length heights = omega arith in
-      r.sums t m ∙ rw e (load-all fits heights t)
+  pub filled-all : n ≡ length heights → (t : ℕ) → t < length old → get_or new t 0 ≡ load_of fits heights t
+  filled-all e t m = r.sums t m ∙ rw e (load-all fits heights t)
 
 -- ---- room by room
+
+-- numbers of which k from the a-th on became others
+module _ (a k : ℕ) (xs ys : List ℕ) (inside : a + k ≤ length xs) (long : length ys ≡ k) where
+  put-length : length (put_mid a k xs ys) ≡ length xs
+  put-length = simp (length-append, length-take, length-drop) (omega (arith, inside, long))
+
+  put-before : (j : ℕ) → j < a → get_or (put_mid a k xs ys) j 0 ≡ get_or xs j 0
+  put-before j l = get_or-append (take a xs) _ 0 j (rw (length-take-le a xs (omega arith)) l) ∙ get_or-take a xs j 0 l
+
+  past : (j : ℕ) → a ≤ j → get_or (put_mid a k xs ys) j 0 ≡ get_or (ys ++ drop k (drop a xs)) (j - a) 0
+  past j l = get_or-append_right (take a xs) _ a j 0 (length-take-le a xs (omega arith)) l
+
+  put_in : (j : ℕ) → j < k → get_or (put_mid a k xs ys) (a + j) 0 ≡ get_or ys j 0
+  put_in j l =
+      let e : a + j - a ≡ j = omega arith in
+      past (a + j) (omega arith) ∙ rw e (get_or-append ys _ 0 j (omega arith))
+
+  put-after : (j : ℕ) → a + k ≤ j → get_or (put_mid a k xs ys) j 0 ≡ get_or xs j 0
+  put-after j l =
+      let e : a + (k + (j - a - k)) ≡ j = omega arith in
+      past j (omega arith)
+      ∙ get_or-append_right ys _ k (j - a) 0 long (omega arith)
+      ∙ get_or-drop k (drop a xs) (j - a - k) 0
+      ∙ get_or-drop a xs (k + (j - a - k)) 0
+      ∙ ap (λ (i : ℕ). get_or xs i 0) e
 
 -- the numbers of the first n rooms hold their loads, and the rest are 0
 pub record RoomsFilled (hours tasks : ℕ) (fits : List (Option Window)) (heights old new : List ℕ) (n : ℕ) : Type 0 where
@@ -241,25 +227,40 @@ module _ {hours tasks rooms : ℕ} {fits : List (Option Window)} {heights old ne
   pub room-there : n * hours + hours ≤ length new
   room-there = omega (arith, r.same, part-within hours rooms n there)
 
-  pub room-zero : (t : ℕ) → t < hours → get_or new (n * hours + t) 0 ≡ 0
-  room-zero t l = r.rest (n * hours + t) (omega arith) (omega (arith, part-within hours rooms n there))
+  pub room-zero : (k : ℕ) → k ≡ hours → (t : ℕ) → t < length (take k (drop (n * hours) new)) → get_or (take k (drop (n * hours) new)) t 0 ≡ 0
+  room-zero k e t l =
+      let below : t < hours = omega (arith, length-take k (drop (n * hours) new)) in
+      get_or-take k _ t 0 (omega arith)
+      ∙ get_or-drop (n * hours) new t 0
+      ∙ r.rest (n * hours + t) (omega arith) (omega (arith, part-within hours rooms n there))
 
-  pub rooms-next : (own next : List ℕ) → own ≡ room_part tasks heights n → Changed (n * hours) hours new next
-      → ((t : ℕ) → t < hours → get_or next (n * hours + t) 0 ≡ load_of fits own t) → RoomsFilled hours tasks fits heights old next (n + 1)
-  rooms-next own next is c h =
-      record {
-        same = c.same ∙ r.same;
-        load = λ room l t m. go room l t m (eqb room n) refl;
-        rest = λ k m l. c.after k (omega (arith, add-mul n 1 hours)) ∙ r.rest k (omega (arith, add-mul n 1 hours)) l;
-      }
-    where
-      go : (room : ℕ) → room < n + 1 → (t : ℕ) → t < hours → (b : Bool) → eqb room n ≡ b
-          → get_or next (room * hours + t) 0 ≡ load_of fits (room_part tasks heights room) t
-      go room l t m true q = let e : room ≡ n = eqb-true room n q in rw (e, ← is) (h t m)
-      go room l t m false q =
-          let ne : room ≢ n = eqb-false room n q in
-          let below : room < n = omega arith in
-          c.before (room * hours + t) (omega (arith, part-within hours n room below)) ∙ r.load room below t m
+  module _ (k : ℕ) (own part : List ℕ) (is-k : k ≡ hours) (is : own ≡ room_part tasks heights n)
+      (same : length part ≡ length (take k (drop (n * hours) new)))
+      (h : (t : ℕ) → t < length (take k (drop (n * hours) new)) → get_or part t 0 ≡ load_of fits own t) where
+    long : length (take k (drop (n * hours) new)) ≡ k
+    long = simp (length-take, length-drop) (omega (arith, room-there))
+
+    pub rooms-next : RoomsFilled hours tasks fits heights old (put_mid (n * hours) k new part) (n + 1)
+    rooms-next =
+        record {
+          same = put-length _ _ _ _ (omega (arith, room-there)) (same ∙ long) ∙ r.same;
+          load = λ room l t m. go room l t m (eqb room n) refl;
+          rest =
+              λ j m l.
+              put-after _ _ _ _ (omega (arith, room-there)) (same ∙ long) j (omega (arith, add-mul n 1 hours))
+              ∙ r.rest j (omega (arith, add-mul n 1 hours)) l;
+        }
+      where
+        go : (room : ℕ) → room < n + 1 → (t : ℕ) → t < hours → (b : Bool) → eqb room n ≡ b
+            → get_or (put_mid (n * hours) k new part) (room * hours + t) 0 ≡ load_of fits (room_part tasks heights room) t
+        go room l t m true q =
+            let e : room ≡ n = eqb-true room n q in
+            rw (e, ← is) (put_in _ _ _ _ (omega (arith, room-there)) (same ∙ long) t (omega arith) ∙ h t (omega (arith, long)))
+        go room l t m false q =
+            let ne : room ≢ n = eqb-false room n q in
+            let below : room < n = omega arith in
+            put-before _ _ _ _ (omega (arith, room-there)) (same ∙ long) (room * hours + t) (omega (arith, part-within hours n room below))
+            ∙ r.load room below t m
 
 pub rooms-all : {hours tasks rooms : ℕ} {fits : List (Option Window)} {heights old new : List ℕ} {n : ℕ} → RoomsFilled hours tasks fits heights old new n
     → length old ≡ rooms * hours → n ≤ rooms → rooms ≤ n → Loaded hours rooms tasks new fits heights

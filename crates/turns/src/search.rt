@@ -17,13 +17,10 @@ use steps::{Step, StepKind};
 use units::{Bounds, Duration, Height, Hour, MOST_ROOMS};
 
 // Whether C is admitted: the task has no valid triple, or a bound changes.
-fn is_narrowed(fit: Option<Window>, task: u16, b: Bounds) -> bool
-    ensures { result ≡ admits (calendar_by fit task b) }
+fn is_narrowed(fit: Option<Window>, b: Bounds) -> bool
+    ensures { (task : ℕ) → result ≡ admits (calendar_by fit task b) }
 {
-    let Some(w) = fit else {
-        return true;
-    };
-    w.bounds != b
+    fit.is_none_or(|w| w.bounds != b)
 }
 
 // The first C, by task.
@@ -32,11 +29,10 @@ fn first_calendar(tasks: usize, boxes: &[u16], fits: &Fits) -> Option<Step>
     ensures { result ≡ first_calendar boxes.now fits.now tasks }
 {
     for i in 0..tasks {
-        let task = i as u16;
-        if is_narrowed(fits[i], task, plan::bounds_at(boxes, i)) {
+        if is_narrowed(fits[i], plan::bounds_at(boxes, i)) {
             return Some(Step {
                 kind: StepKind::Calendar.letter(),
-                task,
+                task: i as u16,
                 hour: 0,
             });
         }
@@ -49,16 +45,12 @@ fn room_overload(room: u16, loads: &[u16], capacity: Height) -> Option<Step>
     requires { length loads.now ≤ most_hours }
     ensures { result ≡ room_overload room loads.now capacity.0 }
 {
-    for at in 0..loads.len() {
-        if plan::height_at(loads, at) > capacity {
-            return Some(Step {
-                kind: StepKind::Overload.letter(),
-                task: room,
-                hour: at as u16,
-            });
-        }
-    }
-    None
+    let hour = loads.iter().position(|load| Height(*load) > capacity)?;
+    Some(Step {
+        kind: StepKind::Overload.letter(),
+        task: room,
+        hour: hour as u16,
+    })
 }
 
 // The first O, by room, then hour.
@@ -66,9 +58,9 @@ fn first_overload(hours: usize, loads: &[u16], capacities: &[u16]) -> Option<Ste
     requires { (hours ≤ most_hours) × (length capacities.now ≤ most_rooms) × (length loads.now ≡ length capacities.now * hours) }
     ensures { result ≡ first_overload hours loads.now capacities.now }
 {
-    for room in 0..capacities.len() {
+    for (room, capacity) in capacities.iter().enumerate() {
         let in_room = plan::room_part(loads, hours, room);
-        let found = room_overload(room as u16, in_room, plan::height_at(capacities, room));
+        let found = room_overload(room as u16, in_room, Height(*capacity));
         if found.is_some() {
             return found;
         }
@@ -89,10 +81,10 @@ fn is_crowded(w: Window, plan: &Plan, loads: &[u16], i: usize, t: Hour) -> bool
         → result ≡ excess_by (task_count P) P.capacities P.heights fits w i t.0 }
 {
     let hours = plan.shifts.hours.0 as usize;
-    for room in 0..plan.capacities.len() {
+    for (room, capacity) in plan.capacities.iter().enumerate() {
         let height = plan::height_at(plan.heights, room * plan.shifts.task_calendars.len() + i);
         let load = plan::height_at(loads, room * hours + t.0 as usize);
-        if judge::exceeds(w, height, load, plan.capacity_of(room), t) {
+        if judge::exceeds(w, height, load, Height(*capacity), t) {
             return true;
         }
     }
@@ -110,26 +102,21 @@ fn first_excess(side: Side, plan: &Plan, boxes: &[u16], fits: &Fits, loads: &[u1
         result ≡ first_excess P.shifts.hours (task_count P) P.capacities P.heights boxes.now fits.now (is_lower side) }
 {
     let mut found = None;
-    let kind = side.letter();
-    let hours = plan.shifts.hours.0 as usize;
     'outer: for i in 0..plan.shifts.task_calendars.len() {
-        let fit = fits[i];
-        let Some(w) = fit else {
+        let Some(w) = fits[i] else {
             continue;
         };
         let b = plan::bounds_at(boxes, i);
-        let end = load::clipped(side.end_hour(w, b), hours);
-        let mut t = side.first_hour(w, b);
-        while t < end {
-            if is_crowded(w, plan, loads, i, t) {
+        let end = side.end_hour(w, b).0.min(plan.shifts.hours.0);
+        for t in side.first_hour(w, b).0..end {
+            if is_crowded(w, plan, loads, i, Hour(t)) {
                 found = Some(Step {
-                    kind,
+                    kind: side.letter(),
                     task: i as u16,
-                    hour: t.0,
+                    hour: t,
                 });
                 break 'outer;
             }
-            t = t.plus(Duration(1));
         }
     }
     found
@@ -147,15 +134,9 @@ fn first_by_load(plan: &Plan, boxes: &[u16], fits: &Fits, loads: &mut [u16]) -> 
         (admitted_by P.shifts.hours (task_count P) P.capacities P.heights boxes.now fits.now) load_order }
 {
     load::fill_loads(loads, plan, fits);
-    let overload = first_overload(plan.shifts.hours.0 as usize, loads, plan.capacities);
-    if overload.is_some() {
-        return overload;
-    }
-    let lower = first_excess(Side::Lower, plan, boxes, fits, loads);
-    if lower.is_some() {
-        return lower;
-    }
-    first_excess(Side::Upper, plan, boxes, fits, loads)
+    first_overload(plan.shifts.hours.0 as usize, loads, plan.capacities)
+        .or_else(|| first_excess(Side::Lower, plan, boxes, fits, loads))
+        .or_else(|| first_excess(Side::Upper, plan, boxes, fits, loads))
 }
 
 // The most loads: one an hour in each room.

@@ -32,12 +32,6 @@ end_hour lower w b = if lower then ect w else b.latest.0 + b.shortest.0
 unfoldable pub part_at : Option Window → ℕ → ℕ → ℕ
 part_at fit height t = if must_run fit t then height else 0
 
--- numbers of which only those from an index on, so many, may differ
-pub record Changed (from count : ℕ) (old new : List ℕ) : Type 0 where
-  pub same : length new ≡ length old
-  pub before : (k : ℕ) → k < from → get_or new k 0 ≡ get_or old k 0
-  pub after : (k : ℕ) → from + count ≤ k → get_or new k 0 ≡ get_or old k 0
-
 -- the numbers are the loads of the hours, room by room
 pub record Loaded (hours rooms tasks : ℕ) (loads : List ℕ) (fits : List (Option Window)) (heights : List ℕ) : Type 0 where
   pub each : length loads ≡ rooms * hours
