@@ -10,11 +10,13 @@ use native.Mathlib.Omega.{arith}
 use lib.Dec.{leb, ltb}
 use lib.ListN.{length, get_or}
 use borrow.Author.Tests.{lt-ltb, le-ltb, le-leb, lt-leb}
-use Rattle.units.specs.Choice.{◌and◌, some_if, ◌or_else◌, first_of}
+use Rattle.units.specs.Choice.{◌and◌, some_if, on_option, ◌or_else◌, first_of}
 use Rattle.units.specs.Limits.{hour, is_hour, is_room_number}
 use Rattle.units.specs.declared.Hour.{Hour}
 use Rattle.units.specs.declared.Bounds.{Bounds}
-use Rattle.units.proofs.Choices.{and_both, not_left, not_right, if-true, if-all, none-if}
+use Rattle.std.specs.Option.{MatchOption, option_map}
+use Rattle.std.specs.List.{AllWithin, HoldsAt}
+use Rattle.units.proofs.Choices.{and_both, not_left, not_right, if-true, if-all, some-if, none-if}
 use Rattle.units.proofs.Choices.{first-all-none, first_next}
 use Rattle.units.proofs.Choices.{first-hit}
 use Rattle.plan.specs.Plan.{room_part}
@@ -38,6 +40,27 @@ unfolding ◌or_else◌
 else-last None = refl
 else-last (Some a) = refl
 
+-- the second is asked for where the first is not there, as the library's own says it
+pub chained : {A : Type 0} (x y r : Option A) → MatchOption x (r ≡ y) (λ a. r ≡ Some a) → r ≡ (x or_else y)
+unfolding ◌or_else◌
+chained None y r h = h
+chained (Some a) y r h = h
+
+-- the first number of a list that passes a test, as the library's own says it
+module _ {A : Type 0} (test : ℕ → Bool) (f : ℕ → A) (xs : List ℕ) where
+  abbrev At : ℕ → Option A
+  At i = some_if (test (get_or xs i 0)) (f i)
+
+  none-to : (n : ℕ) → AllWithin (λ x. test x ≡ false) xs 0 n → first_of At n ≡ None
+  none-to n h = first-all-none At n (λ i l. none-if _ _ (h i 0 (omega arith) l))
+
+  pub first-position : (r : Option ℕ)
+      → MatchOption r (AllWithin (λ x. test x ≡ false) xs 0 (length xs))
+      (λ i. (i < length xs) × HoldsAt (λ x. test x ≡ true) xs i × AllWithin (λ x. test x ≡ false) xs 0 i)
+      → first_of At (length xs) ≡ option_map f r
+  first-position None h = none-to _ h
+  first-position (Some i) h = first-hit At i _ _ h.0 (none-to i h.2) (some-if _ _ (h.1 0))
+
 -- ---- what is admitted
 
 judged-is : (j : Judged) (x : Step) → on_judged j None None (Some x) (λ i b. Some x) ≡ some_if (admits j) x
@@ -48,15 +71,13 @@ judged-is Impossible x = refl
 judged-is (Moved i b) x = refl
 
 -- C, of a task with no valid triple, and of one with a window
-pub never-narrowed : (fit : Option Window) (i : ℕ) (b : Bounds) → fit ≡ None → admits (calendar_by fit i b) ≡ true
-unfolding admits calendar_by on_judged on_fit
-never-narrowed fit i b e = rw e
-
-pub narrowed : (fit : Option Window) (i : ℕ) (w : Window) (b : Bounds) → fit ≡ Some w → admits (calendar_by fit i b) ≡ not (same_bounds w.bounds b)
-unfolding calendar_by on_fit
-narrowed fit i w b e = rw e (go (same_bounds w.bounds b))
+pub narrowed : (fit : Option Window) (i : ℕ) (b : Bounds) (r : Bool) → r ≡ on_option fit true (λ w. not (same_bounds w.bounds b))
+    → r ≡ admits (calendar_by fit i b)
+unfolding admits calendar_by on_judged on_fit on_option
+narrowed None i b r h = h
+narrowed (Some w) i b r h = h ∙ go (same_bounds w.bounds b)
   where
-    go : (same : Bool) → admits (if same then NotAdmitted else Moved i w.bounds) ≡ not same
+    go : (same : Bool) → not same ≡ admits (if same then NotAdmitted else Moved i w.bounds)
     go true = unfold admits on_judged in refl
     go false = unfold admits on_judged in refl
 
@@ -181,35 +202,22 @@ module _ (hours tasks : ℕ) (capacities heights boxes : List ℕ) (fits : List 
     abbrev pub of_task : ℕ → Option Step
     of_task i = first_of (at_hour i) hours
 
-    -- a task with no valid triple is passed over
-    pub skip-never : (i : ℕ) → get_or fits i None ≡ None → first_of of_task i ≡ None → first_of of_task (i + 1) ≡ None
-    skip-never i e n = first_next of_task i n ∙ first-all-none (at_hour i) hours (λ t l. none_never i t lower e)
-
-    -- the hour after one in which the step is not admitted
-    pub next-hour : (i t : ℕ) {next : Hour} → next ≡ hour (t + 1) → first_of (at_hour i) t ≡ None → at_hour i t ≡ None → first_of (at_hour i) next.0 ≡ None
-    next-hour i t is n h = rw is (first_next (at_hour i) t n ∙ h)
+    -- a task with no valid triple
+    pub never : (i : ℕ) → get_or fits i None ≡ None → of_task i ≡ None
+    never i e = first-all-none (at_hour i) hours (λ t l. none_never i t lower e)
 
     module _ (i : ℕ) (w : Window) (b : Bounds) (e : get_or fits i None ≡ Some w) (f : b ≡ bounds_at boxes i) where
       -- the hours before the first, and those from the end on
-      pub skip-before : (t : ℕ) → t ≡ first_hour lower w b → first_of (at_hour i) t ≡ None
-      skip-before t q = first-all-none (at_hour i) t (λ u l. none_before i u w b e f lower (omega arith))
+      pub early : (t : ℕ) → t ≡ first_hour lower w b → first_of (at_hour i) t ≡ None
+      early t q = first-all-none (at_hour i) t (λ u l. none_before i u w b e f lower (omega arith))
 
-      pub skip-after : (end clip t : ℕ) → end ≡ end_hour lower w b → clip ≡ min end hours → clip ≤ t → first_of (at_hour i) t ≡ None
-          → first_of of_task i ≡ None → first_of of_task (i + 1) ≡ None
-      skip-after end clip t q r l n m =
-          first_next of_task i m ∙ first_rest (at_hour i) t hours n (λ u k h. none_after i u w b e f lower (omega arith))
+      pub late : (end clip t : ℕ) → end ≡ end_hour lower w b → clip ≡ min end hours → clip ≤ t → first_of (at_hour i) t ≡ None → of_task i ≡ None
+      late end clip t q r l n = first_rest (at_hour i) t hours n (λ u k h. none_after i u w b e f lower (omega arith))
 
       -- an hour between, by the test on its loads
       pub test-hour : (from end clip t : ℕ) (r : Bool) → from ≡ first_hour lower w b → end ≡ end_hour lower w b → clip ≡ min end hours → from ≤ t → t < clip
           → i < tasks → r ≡ excess_by tasks capacities heights fits w i t → at_hour i t ≡ some_if r (step (letter_of lower) i t)
       test-hour from end clip t r p q s k l m h = excess-is i t w b e f lower m (omega arith) (omega arith) (omega arith) ∙ rw h
-
-    -- the search is left at the first hit
-    pub found_at : (kind i t : ℕ) → kind ≡ letter_of lower → i < tasks → t < hours → first_of of_task i ≡ None → first_of (at_hour i) t ≡ None
-        → at_hour i t ≡ Some (step (letter_of lower) i t) → Some (step kind i t) ≡ first_excess hours tasks capacities heights boxes fits lower
-    unfolding first_excess
-    found_at kind i t q l m n o h =
-        rw q (sym (first-hit of_task i tasks _ l n (first-hit (at_hour i) t hours _ m o h)))
 
 -- ---- what the loop over the tasks finds of C
 

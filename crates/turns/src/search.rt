@@ -60,9 +60,8 @@ fn first_overload(hours: usize, loads: &[u16], capacities: &[u16]) -> Option<Ste
 {
     for (room, capacity) in capacities.iter().enumerate() {
         let in_room = plan::room_part(loads, hours, room);
-        let found = room_overload(room as u16, in_room, Height(*capacity));
-        if found.is_some() {
-            return found;
+        if let Some(overload) = room_overload(room as u16, in_room, Height(*capacity)) {
+            return Some(overload);
         }
     }
     None
@@ -123,7 +122,7 @@ fn first_excess(side: Side, plan: &Plan, boxes: &[u16], fits: &Fits, loads: &[u1
 }
 
 // The first O, L or U, with memory for the loads of the hours, which is 0.
-fn first_by_load(plan: &Plan, boxes: &[u16], fits: &Fits, loads: &mut [u16]) -> Option<Step>
+fn first_with_loads(plan: &Plan, boxes: &[u16], fits: &Fits, loads: &mut [u16]) -> Option<Step>
     requires { let P = plan_in plan.now in
         Ready (room_count P) (task_count P) P.heights boxes.now
         × (P.shifts.hours ≤ most_hours)
@@ -142,8 +141,25 @@ fn first_by_load(plan: &Plan, boxes: &[u16], fits: &Fits, loads: &mut [u16]) -> 
 // The most loads: one an hour in each room.
 const MOST_LOADS: usize = MOST_ROOMS * Duration::MOST as usize;
 
-// The first admitted step: C by task; O by room, then hour; L by task, then hour; U by task, then hour. A short plan, or one of few rooms, needs
-// little memory for loads, which is set to 0 at each turn.
+// The first O, L or U. Memory is fixed, so that the loads have one of two sizes: a short plan, or one of few rooms, needs little, and it is set to
+// 0 at each turn.
+fn first_by_load(plan: &Plan, boxes: &[u16], fits: &Fits) -> Option<Step>
+    requires { let P = plan_in plan.now in
+        Ready (room_count P) (task_count P) P.heights boxes.now × (P.shifts.hours ≤ most_hours) }
+    ensures { let P = plan_in plan.now in
+        result ≡ first_by (room_count P) (task_count P) P.shifts.hours
+        (admitted_by P.shifts.hours (task_count P) P.capacities P.heights boxes.now fits.now) load_order }
+{
+    let count = plan.capacities.len() * plan.shifts.hours.0 as usize;
+    if count <= Duration::MOST as usize {
+        let mut loads = [0u16; Duration::MOST as usize];
+        return first_with_loads(plan, boxes, fits, &mut loads[..count]);
+    }
+    let mut loads = [0u16; MOST_LOADS];
+    first_with_loads(plan, boxes, fits, &mut loads[..count])
+}
+
+// The first admitted step: C by task; O by room, then hour; L by task, then hour; U by task, then hour.
 pub fn next_step(plan: &Plan, boxes: &[u16], fits: &Fits) -> Option<Step>
     requires { let P = plan_in plan.now in
         Ready (room_count P) (task_count P) P.heights boxes.now × (P.shifts.hours ≤ most_hours) }
@@ -151,15 +167,5 @@ pub fn next_step(plan: &Plan, boxes: &[u16], fits: &Fits) -> Option<Step>
         result ≡ first_by (room_count P) (task_count P) P.shifts.hours
         (admitted_by P.shifts.hours (task_count P) P.capacities P.heights boxes.now fits.now) filter_order }
 {
-    let calendar = first_calendar(plan.shifts.task_calendars.len(), boxes, fits);
-    if calendar.is_some() {
-        return calendar;
-    }
-    let count = plan.capacities.len() * plan.shifts.hours.0 as usize;
-    if count <= Duration::MOST as usize {
-        let mut loads = [0u16; Duration::MOST as usize];
-        return first_by_load(plan, boxes, fits, &mut loads[..count]);
-    }
-    let mut loads = [0u16; MOST_LOADS];
-    first_by_load(plan, boxes, fits, &mut loads[..count])
+    first_calendar(plan.tasks(), boxes, fits).or_else(|| first_by_load(plan, boxes, fits))
 }

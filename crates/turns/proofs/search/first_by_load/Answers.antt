@@ -1,39 +1,14 @@
-use mathlib.Core.Path.{ap}
-use Rattle.units.proofs.Choices.{outer-ends, outer-goes-on}
-use Rattle.turns.proofs.Searching.{by-load}
+use Rattle.std.proofs.Common.{rules, true, false, List, ◌≡◌, ℕ, ◌+◌, ◌*◌, ◌≤◌, ◌<◌, length, get_or, Option, ◌-◌, ◌/◌, ◌%◌, Bool, nat_eq, nat_lt, [], ◌∷◌, ◌++◌, slice_set, bit_and, bit_or, Fits, w8, w32, w64, Bor, MutBor}
+use Rattle.units.specs.Limits.{most_hours, most_rooms, most_tasks, box_numbers}
+use Rattle.plan.specs.Plan.{room_count, task_count}
+use Rattle.plan.specs.Lent.{plan_in}
+use Rattle.calendar.specs.declared.Window.{Window}
+use Rattle.steps.specs.Filter.{first_by, filter_order}
+use Rattle.turns.specs.Inner.Kept.{excess_by, calendar_by, admitted_by, is_lower}
+use Rattle.turns.specs.Inner.Ready.{RoomsReady, Ready}
+use Rattle.turns.specs.Inner.Finding.{admits, Loaded, load_order, first_calendar, room_overload, first_overload, first_excess}
 use Rattle.turns.proofs.search.first_by_load.Goals as goal
 
-pub fill_loads-requires : goal.fill_loads-requires
-fill_loads-requires c =
-    let pre = c.requires in
-    (pre.1, pre.2, pre.3, pre.0.rooms_ready)
-
-pub first_overload-overload-requires : goal.first_overload-overload-requires
-first_overload-overload-requires c =
-    let pre = c.requires in
-    (pre.1, pre.0.rooms_ready.few_rooms, c.fill_loads.ensures.1.each)
-
-pub returns-in_default : goal.returns-in_default
-returns-in_default c =
-    by-load _ _ _ _ _ _ _ c.fill_loads.ensures.1
-    (outer-ends _ _ c.first_overload-overload.ensures (ap c.in_default.is))
-
-pub first_excess-lower-requires : goal.first_excess-lower-requires
-first_excess-lower-requires c =
-    (c.requires.0, c.fill_loads.ensures.1, c.requires.1)
-
-pub returns-in_default-lower : goal.returns-in_default-lower
-returns-in_default-lower c =
-    by-load _ _ _ _ _ _ _ c.fill_loads.ensures.1
-    (outer-goes-on _ _ c.first_overload-overload.ensures (ap c.in-None.is)
-    (outer-ends _ _ c.first_excess-lower.ensures (ap c.in_default-lower.is)))
-
-pub first_excess-requires : goal.first_excess-requires
-first_excess-requires c =
-    (c.requires.0, c.fill_loads.ensures.1, c.requires.1)
-
+-- src/search.rt:126:1
 pub returns : goal.returns
-returns c =
-    by-load _ _ _ _ _ _ _ c.fill_loads.ensures.1
-    (outer-goes-on _ _ c.first_overload-overload.ensures (ap c.in-None.is)
-    (outer-goes-on _ _ c.first_excess-lower.ensures (ap c.in-None-lower.is) c.first_excess.ensures))
+returns c = ?

@@ -1,8 +1,13 @@
-use mathlib.Core.Path.{◌≡◌}
+use Rattle.units.specs.Choice.{some_if}
+use Rattle.units.proofs.Searching.{Unfound}
+use Rattle.plan.specs.Boxes.{bounds_at}
 use Rattle.std.specs.Prelude.{None}
-use Prim.Native.Nat.{◌≤◌}
-use Rattle.turns.specs.Inner.Finding.{first_calendar}
+use lib.ListN.{get_or}
+use Rattle.steps.specs.Steps.{step, letter_c}
+use Rattle.turns.specs.Inner.Kept.{calendar_by}
+use Rattle.turns.specs.Inner.Finding.{admits}
 use Rattle.turns.proofs.search.first_calendar.Given as goal
 
 abbrev pub invariant-loop-i : goal.invariant-loop-i
-invariant-loop-i l = (l.i ≤ l.tasks) × (first_calendar l.boxes l.fits l.i ≡ None)
+invariant-loop-i l =
+    Unfound (λ i. some_if (admits (calendar_by (get_or l.fits i None) i (bounds_at l.boxes i))) (step letter_c i 0)) l.tasks l.i

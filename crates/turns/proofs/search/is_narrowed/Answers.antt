@@ -1,10 +1,13 @@
-use mathlib.Core.Path.{sym, ap, ◌∙◌}
-use mathlib.Core.Bool.{not}
-use Rattle.turns.proofs.Searching.{never-narrowed, narrowed}
+use Rattle.std.proofs.Common.{rules}
+use mathlib.Core.Path.{◌≡◌}
+use mathlib.Core.Bool.{true, not}
+use Rattle.units.specs.Choice.{on_option}
+use Rattle.steps.specs.Steps.{same_bounds}
+use Rattle.turns.proofs.Searching.{narrowed}
 use Rattle.turns.proofs.search.is_narrowed.Goals as goal
 
-pub returns-in_default : goal.returns-in_default
-returns-in_default c = sym (never-narrowed _ _ _ c.in_default.is)
-
 pub returns : goal.returns
-returns c = ap not c.same_bounds.ensures ∙ sym (narrowed _ _ _ _ c.in-Some.is)
+unfolding same_bounds on_option
+returns c i =
+    let told : c.is_none_or.result ≡ on_option c.args.fit true (λ w. not (same_bounds w.bounds c.args.b)) = search rules in
+    narrowed _ _ _ _ told

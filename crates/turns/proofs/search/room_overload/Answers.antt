@@ -1,29 +1,30 @@
-use mathlib.Core.Path.{refl, sym, ap, ◌∙◌}
-use native.Mathlib.Omega.{arith}
+use Rattle.std.proofs.Common.{rules}
+use mathlib.Core.Path.{◌≡◌, sym, ap, ◌∙◌}
+use mathlib.Core.Bool.{true, false}
 use lib.Dec.{ltb}
+use Rattle.std.specs.Option.{option_map}
+use Rattle.std.proofs.lemmas.Iterator.{YieldsList-from_slice, IsFirst-from_position}
+use Rattle.units.proofs.Hours.{gt-cmp}
+use Rattle.steps.specs.Steps.{step, letter_o}
 use Rattle.turns.specs.Inner.Finding.{room_overload}
-use Rattle.units.specs.declared.Height.{Height}
-use Rattle.units.specs.Choice.{first_of}
-use Rattle.units.proofs.Choices.{some-if, none-if, first_next, first-hit, first-end}
+use Rattle.turns.proofs.Searching.{first-position}
 use Rattle.turns.proofs.search.room_overload.Goals as goal
 
-pub loop-at-init : goal.loop-at-init
-unfolding first_of
-loop-at-init c = (omega arith, refl)
-
-pub returns-then-exceeds : goal.returns-then-exceeds
+pub returns-in_err-hour : goal.returns-in_err-hour
 unfolding room_overload
-returns-then-exceeds c =
-    sym (first-hit _ _ _ _ c.loop-at-test.true c.loop-at.invariant.1 (some-if _ _ (sym (let capacity = c.args.capacity in
-    c.exceeds.ensures ∙ ap (λ (h : Height). ltb capacity.0 h.0) c.height_at.ensures) ∙ c.if-exceeds.true)))
-
-pub loop-at-preserved : goal.loop-at-preserved
-loop-at-preserved c = (
-  omega (arith, c.loop-at-test.true),
-  first_next _ _ c.loop-at.invariant.1 ∙ none-if _ _ (sym (let capacity = c.args.capacity in
-      c.exceeds.ensures ∙ ap (λ (h : Height). ltb capacity.0 h.0) c.height_at.ensures) ∙ c.if-exceeds.false),
-)
+returns-in_err-hour c =
+    let capacity = c.args.capacity.0 in
+    let found = IsFirst-from_position _ _ c.position.result (λ x. ltb capacity x ≡ true) (λ x. ltb capacity x ≡ false) c.position.ensures.ran
+    (YieldsList-from_slice c.args.loads.now c.iter.ensures.rest)
+    (λ x q k. sym (gt-cmp _ _) ∙ search rules) (λ x q k. (search rules, sym (gt-cmp _ _) ∙ search rules)) in
+    c.from_residual.ensures ∙ sym (first-position (ltb capacity) (step letter_o c.args.room) _ _ found ∙ ap (option_map _) c.in_err-hour.was)
 
 pub returns : goal.returns
 unfolding room_overload
-returns c = sym (first-end _ _ _ c.loop-at.invariant.0 c.loop-at-test.false c.loop-at.invariant.1)
+returns c =
+    let capacity = c.args.capacity.0 in
+    let found = IsFirst-from_position _ _ c.position.result (λ x. ltb capacity x ≡ true) (λ x. ltb capacity x ≡ false) c.position.ensures.ran
+    (YieldsList-from_slice c.args.loads.now c.iter.ensures.rest)
+    (λ x q k. sym (gt-cmp _ _) ∙ search rules) (λ x q k. (search rules, sym (gt-cmp _ _) ∙ search rules)) in
+    rw c.letter.ensures
+    (sym (first-position (ltb capacity) (step letter_o c.args.room) _ _ found ∙ ap (option_map _) c.in_ok-hour.was))
