@@ -19,7 +19,7 @@ use Rattle.text.proofs.Parts.{parts_more, parts_last, parts_first}
 use Rattle.plan_lines.specs.declared.Scan.{Scan}
 use Rattle.plan_lines.specs.declared.Section.TheVariants as section_is
 use Rattle.plan_format.specs.Text.{Read, most_bytes, plan_section, nothing, with_line, read_lines, read_text}
-use Rattle.plan_lines.specs.Inner.Scanning.{section_number, capacities_at, counted, Sized, Holds, Follows}
+use Rattle.plan_lines.specs.Inner.Scanning.{section_number, capacities_at, Holds, Follows}
 use Rattle.plan_lines.proofs.Sections.{kept-none}
 use Rattle.plan_lines.proofs.Following.{holds-empty, holds_later}
 
@@ -52,10 +52,6 @@ module _ {text rest : List ℕ} {whole : Bool} {line : ℕ} {s : Scan} {symbols 
 
   -- a turn of the loop: a line up to its LF
   module _ (e : ℕ) (p : (e ≡ first_at lf rest) × (e < length rest)) where
-    -- what `with_line` asks
-    pub line-asks : length text ≤ most_bytes → (counted s ≤ most_bytes) × (length (take e rest) ≤ most_bytes)
-    line-asks m = (omega (arith, at.held.few), omega (arith, at.inside, length-take-le e rest (omega arith)))
-
     one_line : read_lines whole 1 nothing (parts lf text)
         ≡ on_option (with_line at.so_far (take e rest)) (refused (fault 1 line)) (λ more. read_lines whole (line + 1) more (parts lf (drop (e + 1) rest)))
     unfolding read_lines
@@ -95,10 +91,6 @@ same-yet = record { of_symbols = refl; of_cells = refl }
 pub same-again : {symbols₀ cells₀ symbols cells symbols' cells' : List ℕ} → SameSizes symbols₀ cells₀ symbols cells
     → (length symbols' ≡ length symbols) × ((length cells' ≡ length cells) × Unit {0}) → SameSizes symbols₀ cells₀ symbols' cells'
 same-again same k = record { of_symbols = k.0 ∙ same.of_symbols; of_cells = k.1.0 ∙ same.of_cells }
-
-pub sized-still : {symbols₀ cells₀ symbols cells : List ℕ} → SameSizes symbols₀ cells₀ symbols cells → Sized symbols₀ cells₀ → Sized symbols cells
-sized-still same size =
-    record { of_symbols = same.of_symbols ∙ size.of_symbols; of_cells = same.of_cells ∙ size.of_cells }
 
 -- ---- the whole text, or as much of it as is looked at
 

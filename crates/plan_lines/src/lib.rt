@@ -16,6 +16,7 @@ ghost use Rattle.plan_lines.specs.Inner.Scanning.{section_number, counted, Sized
 use plan::Refusal;
 use plan_records::LineRecord;
 use text::LF;
+use text::fields::find;
 use text::put::put_all;
 use units::{Bounds, MOST_ROOMS};
 
@@ -237,7 +238,7 @@ pub fn read_text(text: &[u8], symbols: &mut [u8], cells: &mut [u16]) -> Result<S
     let mut scan = NOTHING;
     let mut line = 1;
     let mut rest = seen;
-    while let Some(end) = rest.iter().position(|b| *b == LF) {
+    while let Some(end) = find(rest, LF) {
         scan = with_line(scan, &rest[..end], symbols, cells).ok_or(Refusal::Malformed(line))?;
         line += 1;
         rest = &rest[end + 1..];

@@ -1,12 +1,9 @@
-use Rattle.std.proofs.Common.{◌≡◌, false, rules, tests, arith, sym, ◌∙◌, length, take, ◌+◌, Err}
-use Rattle.std.specs.List.{position}
+use Rattle.std.proofs.Common.{◌≡◌, false, rules, arith, sym, ◌∙◌, length, take, ◌+◌, Err}
 use lib.Dec.{eqb, leb}
 use lib.Seq.{length-take-le}
 use borrow.Author.Tests.{le-leb, lt-leb}
-use Rattle.std.proofs.lemmas.Iterator.{YieldsList-from_slice}
-use Rattle.std.proofs.lemmas.Iterator.Search.{position_from_yields_List}
 use Rattle.text.specs.Fields.{lf, parts}
-use Rattle.text.proofs.Parts.{found-none, found-some, to_end}
+use Rattle.std.proofs.lemmas.List.{take_rest}
 use Rattle.plan.specs.declared.Refusal.TheVariants.{Malformed}
 use Rattle.units.specs.Choice.{◌and◌}
 use Rattle.plan_format.specs.Text.{most_bytes, plan_section, nothing, read_lines, read_text}
@@ -17,21 +14,15 @@ use Rattle.plan_lines.proofs.Reaching.{le-section}
 use Rattle.plan_lines.proofs.Following.{holds_later}
 use Rattle.plan_lines.proofs.Lining.{same-yet, same-again, reached-none}
 use Rattle.plan_lines.proofs.Lining.{last_line, line-broken, line_read, text-seen}
-use Rattle.plan_lines.proofs.read_text.Goals.{After-position, After-from_residual, else-whole-via-then-whole+then-le+else-is_empty}
+use Rattle.plan_lines.proofs.read_text.Goals.{After-find, After-from_residual, else-whole-via-then-whole+then-le+else-is_empty}
 use Rattle.plan_lines.proofs.read_text.Goals.{else-whole-via-then-whole+else-le, else-whole-via-else-whole}
 use Rattle.plan_lines.proofs.read_text.Goals as goal
-
--- where the first LF of the rest stands
-first_lf : (c : After-position) → c.position.result ≡ position (λ b. eqb b lf) c.loop-end.rest.now
-first_lf c =
-    position_from_yields_List (λ b. eqb b lf) _ _ c.position.result c.position.ensures.ran (YieldsList-from_slice _ c.iter.ensures.rest)
-    (λ x b q k. search (rules, tests))
 
 pub loop-end-init : goal.loop-end-init
 loop-end-init c = (same-yet, reached-none _ _ _ _)
 
 -- as much of the text as is looked at
-seen : (c : After-position) → read_text c.args.text.now ≡ read_lines (leb (length c.args.text.now) most_bytes) 1 nothing (parts lf (take c.min.result c.args.text.now))
+seen : (c : After-find) → read_text c.args.text.now ≡ read_lines (leb (length c.args.text.now) most_bytes) 1 nothing (parts lf (take c.min.result c.args.text.now))
 seen c = rw c.min.ensures (text-seen c.args.text.now)
 
 -- the error is that of the line
@@ -41,28 +32,25 @@ refusal c = search rules
 pub returns-in_err-scan : goal.returns-in_err-scan
 unfolding Scans Follows
 returns-in_err-scan c =
-    let before = (goal.at.returns-in_err-scan c).After-position in
+    let before = (goal.at.returns-in_err-scan c).After-find in
     let at = c.loop-end.invariant.1 in
-    let found = found-some lf c.loop-end.rest.now (first_lf before) c.in-Some.is in
     let broken = rw c.in_err-scan.ensures.ok_part at (c.with_line.ensures at.so_far _ at.held) in
-    rw (refusal c) (seen before ∙ line-broken at _ found broken)
+    rw (refusal c) (seen before ∙ line-broken at _ c.in-Some.ensures broken)
 
 pub loop-end-preserved : goal.loop-end-preserved
 loop-end-preserved c =
-    let before = (goal.at.loop-end-preserved c).After-position in
     let at = c.loop-end.invariant.1 in
-    let found = found-some lf c.loop-end.rest.now (first_lf before) c.in-Some.is in
     let more = rw c.in_ok-scan.ensures.ok_part at (c.with_line.ensures at.so_far _ at.held) in (
       same-again c.loop-end.invariant.0 (c.with_line.auto.symbols, (c.with_line.auto.cells, tt)),
-      rw (to_end c.loop-end.rest.now (c.in-Some.end + 1)) (line_read at _ found _ _ _ more),
+      rw (take_rest c.loop-end.rest.now (c.in-Some.end + 1)) (line_read at _ c.in-Some.ensures _ _ _ more),
     )
 
 pub returns-then-is_empty : goal.returns-then-is_empty
 unfolding Scans
 returns-then-is_empty c =
-    let before = (goal.at.returns-then-is_empty c).After-position in
+    let before = (goal.at.returns-then-is_empty c).After-find in
     let at = c.loop-end.invariant.1 in
-    let last = last_line at (found-none lf _ (first_lf before) c.in_default.is) in
+    let last = last_line at c.in_default.ensures in
     let begun = sym (le-section Plan _) ∙ sym c.if-le.ensures in
     let test = and_both _ _ (le-leb _ _ c.if-whole.true) (and_both _ _ begun (sym c.if-is_empty.ensures)) in
     let size = length-take-le c.min.result c.args.text.now (omega (arith, c.min.ensures)) in
@@ -71,9 +59,9 @@ returns-then-is_empty c =
 pub returns-else-whole : goal.returns-else-whole
 unfolding Scans
 returns-else-whole c =
-    let before = (goal.at.returns-else-whole c).After-position in
+    let before = (goal.at.returns-else-whole c).After-find in
     let at = c.loop-end.invariant.1 in
-    let last = last_line at (found-none lf _ (first_lf before) c.in_default.is) in
+    let last = last_line at c.in_default.ensures in
     let whole = leb (length c.args.text.now) most_bytes in
     let begun = leb plan_section (section_number c.loop-end.scan.reached) in
     let nothing-left = eqb (length c.loop-end.rest.now) 0 in
