@@ -133,9 +133,14 @@ fn first_with_loads(plan: &Plan, boxes: &[u16], fits: &Fits, loads: &mut [u16]) 
         (admitted_by P.shifts.hours (task_count P) P.capacities P.heights boxes.now fits.now) load_order }
 {
     load::fill_loads(loads, plan, fits);
-    first_overload(plan.shifts.hours.0 as usize, loads, plan.capacities)
-        .or_else(|| first_excess(Side::Lower, plan, boxes, fits, loads))
-        .or_else(|| first_excess(Side::Upper, plan, boxes, fits, loads))
+    let hours = plan.shifts.hours.0 as usize;
+    if let Some(overload) = first_overload(hours, loads, plan.capacities) {
+        return Some(overload);
+    }
+    if let Some(lower) = first_excess(Side::Lower, plan, boxes, fits, loads) {
+        return Some(lower);
+    }
+    first_excess(Side::Upper, plan, boxes, fits, loads)
 }
 
 // The most loads: one an hour in each room.
@@ -167,5 +172,8 @@ pub fn next_step(plan: &Plan, boxes: &[u16], fits: &Fits) -> Option<Step>
         result ≡ first_by (room_count P) (task_count P) P.shifts.hours
         (admitted_by P.shifts.hours (task_count P) P.capacities P.heights boxes.now fits.now) filter_order }
 {
-    first_calendar(plan.tasks(), boxes, fits).or_else(|| first_by_load(plan, boxes, fits))
+    if let Some(calendar) = first_calendar(plan.tasks(), boxes, fits) {
+        return Some(calendar);
+    }
+    first_by_load(plan, boxes, fits)
 }
