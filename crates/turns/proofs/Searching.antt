@@ -11,13 +11,11 @@ use lib.Dec.{leb, ltb}
 use lib.ListN.{length, get_or}
 use borrow.Author.Tests.{lt-ltb, le-ltb, le-leb, lt-leb}
 use Rattle.units.specs.Choice.{◌and◌, some_if, on_option, ◌or_else◌, first_of}
-use Rattle.units.specs.Limits.{hour, is_hour, is_room_number}
-use Rattle.units.specs.declared.Hour.{Hour}
 use Rattle.units.specs.declared.Bounds.{Bounds}
 use Rattle.std.specs.Option.{MatchOption, option_map}
 use Rattle.std.specs.List.{AllWithin, HoldsAt}
 use Rattle.units.proofs.Choices.{and_both, not_left, not_right, if-true, if-all, some-if, none-if}
-use Rattle.units.proofs.Choices.{first-all-none, first_next}
+use Rattle.units.proofs.Choices.{first-all-none}
 use Rattle.units.proofs.Choices.{first-hit}
 use Rattle.plan.specs.Plan.{room_part}
 use Rattle.plan.specs.Boxes.{bounds_at}

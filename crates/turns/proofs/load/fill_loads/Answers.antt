@@ -1,6 +1,5 @@
 use native.Mathlib.Omega.{arith}
 use Rattle.plan.specs.Plan.{heights_of}
-use Rattle.plan.proofs.Passed.{room_in}
 use Rattle.turns.proofs.Loading.{rooms-none, room-zero, rooms-next, rooms-all}
 use Rattle.turns.proofs.load.fill_loads.Goals as goal
 
