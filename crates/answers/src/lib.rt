@@ -2,19 +2,29 @@
 #![tactic(auto)]
 
 ghost use Rattle.std.specs.Prelude.{◌≡◌, ◌≤◌};
-ghost use Rattle.calendar.specs.Entry.{rule_answer};
+ghost use Rattle.plan.specs.Refusals.{fault_of, answer_of};
 ghost use Rattle.schedule.specs.Entry.{schedule_answer};
-ghost use Rattle.steps.specs.Entry.{log_answer, filter_answer};
+ghost use Rattle.steps.specs.Entry.{filter_answer};
 ghost use Rattle.plan_text.specs.Entry.{reading_answer};
-ghost use Rattle.plan_writing.specs.Entry.{writing_answer};
-ghost use Rattle.answers.specs.Numbers.{with_triple, window_numbers, rule_numbers, schedule_numbers, log_numbers, filter_numbers, read_numbers, write_numbers};
+ghost use Rattle.answers.specs.Numbers.{refused_numbers, with_triple, window_numbers, rule_numbers, schedule_numbers, log_numbers, filter_numbers, read_numbers, write_numbers};
 
-use calendar::{RuleAnswer, Triple, Window, Witnesses};
-use plan::fault_of;
-use plan_text::PlanReading;
-use plan_writing::PlanWriting;
-use schedule::ScheduleChecked;
-use steps::{Filtered, LogChecked};
+use calendar::{Triple, Witnessed};
+use plan::{Fault, Refusal};
+use plan_text::PlanRead;
+use steps::{Accepted, Ending, Filtered};
+use units::Hour;
+
+// A refusal's number and place, of an answer of so many numbers.
+fn refused<const N: usize>(refusal: Refusal) -> [u64; N]
+    requires { 2 ≤ N }
+    ensures { result ≡ refused_numbers N (fault_of refusal) }
+{
+    let fault = Fault::from(refusal);
+    let mut numbers = [0u64; N];
+    numbers[0] = fault.number as u64;
+    numbers[1] = fault.place as u64;
+    numbers
+}
 
 // The calendar rule's numbers with s, e and o of a triple from a place on.
 fn with_triple(numbers: [u64; 29], at: usize, t: Triple) -> [u64; 29]
@@ -29,10 +39,10 @@ fn with_triple(numbers: [u64; 29], at: usize, t: Triple) -> [u64; 29]
 }
 
 // A window's: S, E and O, the lower bound first, ect and lct, then the witness of each bound.
-fn window_numbers(w: Window, by: Witnesses) -> [u64; 29]
-    ensures { result ≡ window_numbers w by }
+fn window_numbers(found: Witnessed) -> [u64; 29]
+    ensures { result ≡ window_numbers found }
 {
-    let b = w.bounds;
+    let b = found.window.bounds;
     let mut bounds = [0u64; 29];
     bounds[2] = 1;
     bounds[3] = b.earliest.0 as u64;
@@ -41,8 +51,9 @@ fn window_numbers(w: Window, by: Witnesses) -> [u64; 29]
     bounds[6] = b.longest.0 as u64;
     bounds[7] = b.fewest.0 as u64;
     bounds[8] = b.most.0 as u64;
-    bounds[9] = w.ect.0 as u64;
-    bounds[10] = w.lct.0 as u64;
+    bounds[9] = found.window.ect.0 as u64;
+    bounds[10] = found.window.lct.0 as u64;
+    let by = found.by;
     let lower_start = with_triple(bounds, 11, by.earliest);
     let start = with_triple(lower_start, 14, by.latest);
     let lower_elapsed = with_triple(start, 17, by.shortest);
@@ -51,97 +62,71 @@ fn window_numbers(w: Window, by: Witnesses) -> [u64; 29]
     with_triple(lower_overtime, 26, by.most)
 }
 
-pub fn rule_numbers(answer: RuleAnswer) -> [u64; 29]
-    ensures { result ≡ rule_numbers (rule_answer answer) }
+pub fn rule_numbers(answer: Result<Option<Witnessed>, Refusal>) -> [u64; 29]
+    ensures { result ≡ rule_numbers (answer_of answer) }
 {
     match answer {
-        RuleAnswer::Refused(refusal) => {
-            let f = fault_of(refusal);
-            let mut numbers = [0u64; 29];
-            numbers[0] = f.0 as u64;
-            numbers[1] = f.1 as u64;
-            numbers
-        }
-        RuleAnswer::Never => [0u64; 29],
-        RuleAnswer::Within(w, by) => window_numbers(w, by),
+        Err(refusal) => refused(refusal),
+        Ok(None) => [0u64; 29],
+        Ok(Some(found)) => window_numbers(found),
     }
 }
 
-pub fn schedule_numbers(answer: ScheduleChecked) -> [u64; 3]
+pub fn schedule_numbers(answer: Result<Hour, Refusal>) -> [u64; 3]
     ensures { result ≡ schedule_numbers (schedule_answer answer) }
 {
     match answer {
-        ScheduleChecked::Refused(refusal) => {
-            let f = fault_of(refusal);
-            [f.0 as u64, f.1 as u64, 0]
-        }
-        ScheduleChecked::Feasible(end) => [0, 0, end.0 as u64],
+        Err(refusal) => refused(refusal),
+        Ok(end) => [0, 0, end.0 as u64],
     }
 }
 
-pub fn log_numbers(answer: LogChecked) -> [u64; 4]
-    ensures { result ≡ log_numbers (log_answer answer) }
+pub fn log_numbers(answer: Result<Accepted, Refusal>) -> [u64; 4]
+    ensures { result ≡ log_numbers (answer_of answer) }
 {
     match answer {
-        LogChecked::Refused(refusal) => {
-            let f = fault_of(refusal);
-            [f.0 as u64, f.1 as u64, 0, 0]
-        }
-        LogChecked::Accepted { steps, impossible } => {
-            if impossible {
-                return [0, 0, steps as u64, 1];
-            }
-            [0, 0, steps as u64, 0]
-        }
+        Err(refusal) => refused(refusal),
+        Ok(accepted) => [0, 0, accepted.steps as u64, accepted.impossible as u64],
     }
 }
 
-pub fn filter_numbers(answer: Filtered) -> [u64; 4]
+pub fn filter_numbers(answer: Result<Filtered, Refusal>) -> [u64; 4]
     ensures { result ≡ filter_numbers (filter_answer answer) }
 {
     match answer {
-        Filtered::Refused(refusal) => {
-            let f = fault_of(refusal);
-            [f.0 as u64, f.1 as u64, 0, 0]
+        Err(refusal) => refused(refusal),
+        Ok(filtered) => {
+            let count = filtered.count as u64;
+            match filtered.ending {
+                Ending::NoRoom => [32, 0, count, 0],
+                Ending::Settled => [0, 0, count, 0],
+                Ending::Impossible => [0, 0, count, 1],
+            }
         }
-        Filtered::NoRoom(count) => [32, 0, count as u64, 0],
-        Filtered::Settled(count) => [0, 0, count as u64, 0],
-        Filtered::Impossible(count) => [0, 0, count as u64, 1],
     }
 }
 
-pub fn read_numbers(answer: PlanReading) -> [u64; 6]
+pub fn read_numbers(answer: Result<PlanRead, Refusal>) -> [u64; 6]
     ensures { result ≡ read_numbers (reading_answer answer) }
 {
     match answer {
-        PlanReading::Refused(refusal) => {
-            let f = fault_of(refusal);
-            [f.0 as u64, f.1 as u64, 0, 0, 0, 0]
-        }
-        PlanReading::Read {
-            hours,
-            rooms,
-            calendars,
-            tasks,
-        } => [
+        Err(refusal) => refused(refusal),
+        Ok(read) => [
             0,
             0,
-            hours as u64,
-            rooms as u64,
-            calendars as u64,
-            tasks as u64,
+            read.hours as u64,
+            read.rooms as u64,
+            read.calendars as u64,
+            read.tasks as u64,
         ],
     }
 }
 
-pub fn write_numbers(answer: PlanWriting) -> [u64; 3]
-    ensures { result ≡ write_numbers (writing_answer answer) }
+pub fn write_numbers(answer: Result<usize, Refusal>) -> [u64; 3]
+    ensures { result ≡ write_numbers (answer_of answer) }
 {
     match answer {
-        PlanWriting::Refused(refusal) => {
-            let f = fault_of(refusal);
-            [f.0 as u64, f.1 as u64, 0]
-        }
-        PlanWriting::Written(length) => [0, 0, length as u64],
+        Err(refusal) => refused(refusal),
+        Ok(length) => [0, 0, length as u64],
     }
 }

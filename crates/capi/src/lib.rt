@@ -5,7 +5,7 @@
 ghost use Rattle.std.specs.Prelude.{◌≡◌, length};
 ghost use Rattle.units.specs.Cells.{written};
 ghost use Rattle.plan.specs.Boxes.{bounds_at};
-ghost use Rattle.plan.specs.Lent.{old_plan};
+ghost use Rattle.plan.specs.Plan.{plan};
 ghost use Rattle.calendar.specs.Entry.{calendar_rule};
 ghost use Rattle.schedule.specs.Entry.{check_schedule};
 ghost use Rattle.steps.specs.Entry.{check_log, check_answer, filter_end, filter_plan};
@@ -14,6 +14,7 @@ ghost use Rattle.plan_format.specs.Writing.{write_plan};
 ghost use Rattle.text_listing.specs.Program.{listing_of_text};
 ghost use Rattle.answers.specs.Numbers.{rule_numbers, schedule_numbers, log_numbers, filter_numbers, read_numbers, write_numbers};
 
+use plan::Plan;
 use units::Duration;
 
 // The calendar rule for one calendar, a work time and a box of six numbers.
@@ -44,16 +45,12 @@ pub extern "C" fn shimlantern_check_schedule(
     schedule: &[u16],
     answer: &mut [u64; 3],
 )
-    ensures { let P = old_plan hours capacities calendars task_calendars work_times heights in
+    ensures { let P = plan hours capacities.now calendars.now task_calendars.now work_times.now heights.now in
         answer.new ≡ schedule_numbers (check_schedule P boxes.now schedule.now) }
 {
+    let plan = Plan::new(hours, capacities, calendars, task_calendars, work_times, heights);
     let checked = schedule::check_schedule(
-        hours,
-        capacities,
-        calendars,
-        task_calendars,
-        work_times,
-        heights,
+        &plan,
         boxes,
         schedule,
     );
@@ -75,17 +72,13 @@ pub extern "C" fn shimlantern_check_log(
     log_hours: &[u16],
     answer: &mut [u64; 4],
 )
-    ensures { let P = old_plan hours capacities calendars task_calendars work_times heights in
+    ensures { let P = plan hours capacities.now calendars.now task_calendars.now work_times.now heights.now in
         let e = check_log P boxes.old log_kinds.now log_tasks.now log_hours.now in
         (answer.new ≡ log_numbers (check_answer e)) × (boxes.new ≡ e.boxes) }
 {
+    let plan = Plan::new(hours, capacities, calendars, task_calendars, work_times, heights);
     let checked = propagation::replay::check_log(
-        hours,
-        capacities,
-        calendars,
-        task_calendars,
-        work_times,
-        heights,
+        &plan,
         boxes,
         log_kinds,
         log_tasks,
@@ -109,18 +102,14 @@ pub extern "C" fn shimlantern_filter(
     log_hours: &mut [u16],
     answer: &mut [u64; 4],
 )
-    ensures { let P = old_plan hours capacities calendars task_calendars work_times heights in
+    ensures { let P = plan hours capacities.now calendars.now task_calendars.now work_times.now heights.now in
         let e = filter_plan P boxes.old log_kinds.old log_tasks.old log_hours.old in
         (answer.new ≡ filter_numbers e.answer)
         × (filter_end e.answer boxes.new log_kinds.new log_tasks.new log_hours.new ≡ e) }
 {
+    let plan = Plan::new(hours, capacities, calendars, task_calendars, work_times, heights);
     let filtered = propagation::filter::filter(
-        hours,
-        capacities,
-        calendars,
-        task_calendars,
-        work_times,
-        heights,
+        &plan,
         boxes,
         log_kinds,
         log_tasks,
@@ -170,17 +159,13 @@ pub extern "C" fn shimlantern_write_plan(
     out: &mut [u8],
     answer: &mut [u64; 3],
 )
-    ensures { let P = old_plan hours capacities calendars task_calendars work_times heights in
+    ensures { let P = plan hours capacities.now calendars.now task_calendars.now work_times.now heights.now in
         let e = write_plan P boxes.now out.old in
         (answer.new ≡ write_numbers e.answer) × (out.new ≡ e.out) }
 {
+    let plan = Plan::new(hours, capacities, calendars, task_calendars, work_times, heights);
     let writing = plan_writing::write_plan(
-        hours,
-        capacities,
-        calendars,
-        task_calendars,
-        work_times,
-        heights,
+        &plan,
         boxes,
         out,
     );

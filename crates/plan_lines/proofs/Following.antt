@@ -13,15 +13,15 @@ use Rattle.units.proofs.Choices.{some-if, none-if, and_both, not_left, not_right
 use Rattle.units.proofs.Lists.{list-eq}
 use Rattle.plan.specs.Plan.{plan}
 use Rattle.plan_lines.specs.declared.Scan.{Scan}
-use Rattle.plan_lines.specs.declared.MaybeScan.{MaybeScan}
-use Rattle.plan_lines.specs.declared.MaybeScan.TheVariants.{Broken, Next}
+use Rattle.plan_lines.specs.declared.Section.{Section}
+use Rattle.plan_lines.specs.declared.Section.TheVariants as section_is
 use Rattle.plan_format.specs.Records.{Record, plan_record, cal_record, task_record, record_of}
 use Rattle.plan_format.specs.Text.{Read, plan_section, cal_section, task_section, comes, is_task_line, with_record, with_line}
 use Rattle.plan_format.specs.Reading.{joined, box_of, heights_in, plan_in, boxes_in, all_of, most_symbols, most_bounds}
 use Rattle.plan_format.proofs.Boxes.{boxes-length}
 use Rattle.plan_format.proofs.Joined.{joined-more, all_more}
-use Rattle.plan_records.specs.Inner.Lines.{Begin}
-use Rattle.plan_lines.specs.Inner.Scanning.{calendars_at, work_times_at, boxes_at, capacities_at, room_at, section}
+use Rattle.text.specs.Reading.{Begin}
+use Rattle.plan_lines.specs.Inner.Scanning.{calendars_at, work_times_at, boxes_at, capacities_at, room_at, section, section_number}
 use Rattle.plan_lines.specs.Inner.Scanning.{Kept, Keeps, KeepsTasks, stored_heights, stored_plan, stored_boxes, Holds, Follows}
 use Rattle.plan_lines.proofs.Sections.{kept-none, kept-section}
 use Rattle.plan_lines.proofs.Numbering.{begin-cell}
@@ -30,8 +30,8 @@ use Rattle.plan_lines.proofs.Storing.{tasks-none}
 -- ---- a record more
 
 -- no calendars and no tasks
-pub holds-empty : (reached h k n : ℕ) (cs symbols cells : List ℕ) → k ≡ length cs → Kept capacities_at most_rooms cs cells
-    → Holds (record { reached = reached; hours = h; capacities = cs; calendars = []; tasks = [] })
+pub holds-empty : (reached : Section) (h k n : ℕ) (cs symbols cells : List ℕ) → k ≡ length cs → Kept capacities_at most_rooms cs cells
+    → Holds (record { reached = section_number reached; hours = h; capacities = cs; calendars = []; tasks = [] })
     (record { reached = reached; hours = h; rooms = k; calendars = 0; even = true; symbols = 0; tasks = 0 }) n symbols cells
 unfolding joined all_of
 holds-empty reached h k n cs symbols cells e kept =
@@ -66,36 +66,36 @@ module _ {r : Read} {s : Scan} {n : ℕ} {symbols cells : List ℕ} (held : Hold
       }
 
   -- a test of the section reached, as the code makes it
-  reaches : (section : ℕ) {may t : Bool} → may ≡ comes section s.reached → may ≡ t → comes section r.reached ≡ t
+  reaches : (section : ℕ) {may t : Bool} → may ≡ comes section (section_number s.reached) → may ≡ t → comes section r.reached ≡ t
   reaches section p q = ap (comes section) (sym held.reached) ∙ sym p ∙ q
 
-  module _ {may : Bool} {count : ℕ} {ns numbers : List ℕ} (begin : Begin ns count numbers) (p : may ≡ comes plan_section s.reached) where
-    pub plan-broken : (cells' : List ℕ) → may ≡ false → Follows (with_record r (plan_record (get_or ns 0 0) (drop 1 ns))) Broken n symbols cells'
+  module _ {may : Bool} {count : ℕ} {ns numbers : List ℕ} (begin : Begin ns count numbers) (p : may ≡ comes plan_section (section_number s.reached)) where
+    pub plan-broken : (cells' : List ℕ) → may ≡ false → Follows (with_record r (plan_record (get_or ns 0 0) (drop 1 ns))) None n symbols cells'
     unfolding with_record Follows
     plan-broken cells' q = none-if _ _ (reaches plan_section p q)
 
     pub plan-next : (cells' : List ℕ) → may ≡ true → 1 ≤ count → 1 ≤ length numbers → Kept capacities_at most_rooms (drop 1 ns) cells'
         → Follows (with_record r (plan_record (get_or ns 0 0) (drop 1 ns)))
-        (Next (record { reached = plan_section; hours = get_or numbers 0 0; rooms = count - 1; calendars = 0; even = true; symbols = 0; tasks = 0 }))
+        (Some (record { reached = section_is.Plan; hours = get_or numbers 0 0; rooms = count - 1; calendars = 0; even = true; symbols = 0; tasks = 0 }))
         n symbols cells'
     unfolding with_record Follows
     plan-next cells' q least room kept =
         rw (begin-cell begin 0 (omega arith) (omega arith)) (
           _,
           some-if _ _ (reaches plan_section p q),
-          holds-empty plan_section (get_or ns 0 0) (count - 1) n (drop 1 ns) symbols cells' (omega (arith, begin.counted, length-drop 1 ns)) kept,
+          holds-empty section_is.Plan (get_or ns 0 0) (count - 1) n (drop 1 ns) symbols cells' (omega (arith, begin.counted, length-drop 1 ns)) kept,
         )
 
-  module _ {may : Bool} (l : List ℕ) (p : may ≡ comes cal_section s.reached) where
-    pub cal-broken : (symbols' : List ℕ) (m : ℕ) → may ≡ false → Follows (with_record r (cal_record l)) Broken m symbols' cells
+  module _ {may : Bool} (l : List ℕ) (p : may ≡ comes cal_section (section_number s.reached)) where
+    pub cal-broken : (symbols' : List ℕ) (m : ℕ) → may ≡ false → Follows (with_record r (cal_record l)) None m symbols' cells
     unfolding with_record Follows
     cal-broken symbols' m q = none-if _ _ (reaches cal_section p q)
 
     pub cal-next : (even : Bool) (symbols' : List ℕ) → may ≡ true → even ≡ (s.even and eqb (length l) s.hours)
         → ((before : List ℕ) → s.symbols ≡ length before → Kept 0 most_symbols before symbols → Kept 0 most_symbols (before ++ l) symbols')
         → Follows (with_record r (cal_record l))
-        (Next (record {
-          reached = cal_section;
+        (Some (record {
+          reached = section_is.Calendars;
           hours = s.hours;
           rooms = s.rooms;
           calendars = s.calendars + 1;
@@ -122,8 +122,8 @@ module _ {r : Read} {s : Scan} {n : ℕ} {symbols cells : List ℕ} (held : Hold
       },
     )
 
-  module _ {may : Bool} (ns : List ℕ) (p : may ≡ comes task_section s.reached) where
-    pub task-broken : (cells' : List ℕ) (m : ℕ) → may ≡ false → Follows (with_record r (task_record ns)) Broken m symbols cells'
+  module _ {may : Bool} (ns : List ℕ) (p : may ≡ comes task_section (section_number s.reached)) where
+    pub task-broken : (cells' : List ℕ) (m : ℕ) → may ≡ false → Follows (with_record r (task_record ns)) None m symbols cells'
     unfolding with_record Follows
     task-broken cells' m q = none-if _ _ (not_left _ _ (reaches task_section p q))
 
@@ -131,15 +131,15 @@ module _ {r : Read} {s : Scan} {n : ℕ} {symbols cells : List ℕ} (held : Hold
       numbered : {t : Bool} → as_many ≡ t → is_task_line (length r.capacities) (length ns) ≡ t
       numbered q = rw (← held.rooms, ← e) (sym f ∙ q)
 
-      pub task-not : (cells' : List ℕ) (m : ℕ) → as_many ≡ false → Follows (with_record r (task_record ns)) Broken m symbols cells'
+      pub task-not : (cells' : List ℕ) (m : ℕ) → as_many ≡ false → Follows (with_record r (task_record ns)) None m symbols cells'
       unfolding with_record Follows
       task-not cells' m q = none-if _ _ (not_right _ _ (numbered q))
 
       pub task-next : (cells' : List ℕ) → may ≡ true → as_many ≡ true
           → (KeepsTasks s.hours r.capacities r.tasks cells → KeepsTasks s.hours r.capacities (r.tasks ++ (ns ∷ [])) cells')
           → Follows (with_record r (task_record ns))
-          (Next (record {
-            reached = task_section;
+          (Some (record {
+            reached = section_is.Tasks;
             hours = s.hours;
             rooms = s.rooms;
             calendars = s.calendars;
@@ -179,11 +179,11 @@ module _ (r : Read) (line : List ℕ) where
   line-is found e = rw e
 
 -- what follows, said of an equal outcome and more bytes
-pub follows : {o o' : Option Read} (x : MaybeScan) (n m : ℕ) (symbols cells : List ℕ) → o ≡ o' → n ≤ m → Follows o' x n symbols cells
+pub follows : {o o' : Option Read} (x : Option Scan) (n m : ℕ) (symbols cells : List ℕ) → o ≡ o' → n ≤ m → Follows o' x n symbols cells
     → Follows o x m symbols cells
 unfolding Follows
-follows Broken n m symbols cells e h f = e ∙ f
-follows (Next s) n m symbols cells e h (r, q, held) = (r, e ∙ q, holds_later held m h)
+follows None n m symbols cells e h f = e ∙ f
+follows (Some s) n m symbols cells e h (r, q, held) = (r, e ∙ q, holds_later held m h)
 
 -- ---- the plan that is held in the end
 

@@ -3,3 +3,4 @@ pub mod Numbering
 pub mod Storing
 pub mod Following
 pub mod Lining
+pub mod Reaching

@@ -1,16 +1,15 @@
 -- Laws of a line's numbers: what the first cells hold of them, and how many a task line may have. Assumes nothing.
-use mathlib.Core.Path.{◌≡◌, refl, sym, ap, ◌∙◌}
-use mathlib.Core.Bool.{Bool, true, false}
+use mathlib.Core.Path.{◌≡◌, sym, ap, ◌∙◌}
+use mathlib.Core.Bool.{true}
 use mathlib.Core.List.{List}
 use Prim.Native.Nat.{ℕ, ◌+◌, ◌-◌, ◌≤◌, ◌<◌}
 use native.Mathlib.Omega.{arith}
-use lib.Dec.{eqb}
 use lib.ListN.{length, get_or, take, drop}
 use lib.Seq.{get_or-take, take_all}
-use borrow.Author.Tests.{eq-eqb, ne_eqb, eqb-true, eqb-false}
-use Rattle.units.proofs.Choices.{if-true, if-false, if-case}
+use borrow.Author.Tests.{eqb-true}
+use Rattle.units.proofs.Choices.{if-case}
 use Rattle.plan_format.specs.Text.{is_task_line}
-use Rattle.plan_records.specs.Inner.Lines.{Begin}
+use Rattle.text.specs.Reading.{Begin}
 use Rattle.plan_lines.proofs.Sections.{section-part, section-swap}
 
 -- ---- a line's numbers, from the first cells
@@ -37,25 +36,6 @@ capacities-are rooms {cells = cells} begin h =
 -- ---- how many numbers a task line may have
 
 module _ (rooms numbers : ℕ) where
-  pub line-short : numbers < rooms → false ≡ is_task_line rooms numbers
-  unfolding is_task_line
-  line-short h = sym (if-false _ _ _ (ne_eqb numbers (rooms + 2) (λ e. omega arith)) ∙ ne_eqb numbers (rooms + 8) (λ e. omega arith))
-
-  pub line-without : rooms ≤ numbers → numbers - rooms ≡ 2 → true ≡ is_task_line rooms numbers
-  unfolding is_task_line
-  line-without h e = sym (if-true _ _ _ (eq-eqb numbers (rooms + 2) (omega arith)))
-
-  pub line-with : rooms ≤ numbers → (numbers - rooms ≡ 2 → ⊥) → eqb (numbers - rooms) 8 ≡ is_task_line rooms numbers
-  unfolding is_task_line
-  line-with h e = same ∙ sym (if-false _ _ _ (ne_eqb numbers (rooms + 2) (λ k. e (omega arith))))
-    where
-      same : eqb (numbers - rooms) 8 ≡ eqb numbers (rooms + 8)
-      same = go (eqb (numbers - rooms) 8) refl
-        where
-          go : (t : Bool) → eqb (numbers - rooms) 8 ≡ t → eqb (numbers - rooms) 8 ≡ eqb numbers (rooms + 8)
-          go true p = p ∙ sym (eq-eqb numbers (rooms + 8) (omega (arith, eqb-true (numbers - rooms) 8 p)))
-          go false p = p ∙ sym (ne_eqb numbers (rooms + 8) (λ k. eqb-false (numbers - rooms) 8 p (omega arith)))
-
   pub line-least : is_task_line rooms numbers ≡ true → rooms + 2 ≤ numbers
   unfolding is_task_line
   line-least e =

@@ -38,7 +38,9 @@ module _ (fields : List ℕ) where
 
   symbols-empty : length fields ≡ 0 → cal_of (parts tab fields) ≡ None
   unfolding cal_of
-  symbols-empty h = rw (parts_last tab fields (omega (arith, h, first-within tab fields))) (none-if _ _ (not_right _ _ (lt-leb 1 (length fields) (omega arith))))
+  symbols-empty h =
+      rw (parts_last tab fields (omega (arith, h, first-within tab fields)))
+      (none-if _ _ (lt-leb 1 (length fields) (omega arith)))
 
   symbols-are : list_any (λ b. eqb b tab) fields ≡ false → eqb (length fields) 0 ≡ false → cal_of (parts tab fields) ≡ Some (cal_record fields)
   unfolding cal_of
@@ -110,13 +112,13 @@ module _ (fields : List (List ℕ)) (bytes cells : List ℕ) where
   task-found (Some n) (ns, e, begin) = (ns, rw e, count-least 2 fields e begin, begin)
 
 -- more bytes, of which those were a part
-pub finds-more : (o : Option Record) (x : Option LineRecord) {bytes more : List ℕ} (cells : List ℕ) → length bytes ≤ length more → Finds o x bytes cells
+pub finds-more : (o : Option Record) (x : Option LineRecord) (bytes more cells : List ℕ) → length bytes ≤ length more → Finds o x bytes cells
     → Finds o x more cells
 unfolding Finds
-finds-more o None cells l f = f
-finds-more o (Some (line.Plan n)) cells l f = f
-finds-more o (Some (line.Cal symbols)) cells l f = (f.0, omega (arith, f.1))
-finds-more o (Some (line.Task n)) cells l f = f
+finds-more o None bytes more cells l f = f
+finds-more o (Some (line.Plan n)) bytes more cells l f = f
+finds-more o (Some (line.Cal symbols)) bytes more cells l f = (f.0, omega (arith, f.1))
+finds-more o (Some (line.Task n)) bytes more cells l f = f
 
 -- ---- by the first field
 
@@ -155,7 +157,7 @@ bare : (word : List ℕ) → by_word (word ∷ []) ≡ None
 unfolding by_word plan_of cal_of task_of numbers_if numbers_of on_option
 bare word =
     if-all (λ (o : Option Record). o ≡ None) (same word word_plan) _ _ (λ e. refl)
-    (λ e. if-all (λ (o : Option Record). o ≡ None) (same word word_cal) _ _ (λ e. none-if _ _ (not_left _ _ refl))
+    (λ e. if-all (λ (o : Option Record). o ≡ None) (same word word_cal) _ _ (λ e. refl)
     (λ e. if-all (λ (o : Option Record). o ≡ None) (same word word_task) _ _ (λ e. refl) (λ e. refl)))
 
 module _ (bytes : List ℕ) where
@@ -168,22 +170,3 @@ module _ (bytes : List ℕ) where
       → record_of bytes ≡ by_word (take end bytes ∷ parts tab (drop (end + 1) bytes))
   unfolding record_of
   record-split end p = rw (add-one, p.0) (ap by_word (parts_more tab bytes (omega arith)))
-
--- ---- what is found, once it is known which
-
-module _ (o : Option Record) (bytes cells : List ℕ) (x : Option LineRecord) (finds : Finds o x bytes cells) where
-  pub finds-none : x ≡ None → o ≡ None
-  unfolding Finds
-  finds-none e = rw e at finds
-
-  pub finds-plan : (n : ℕ) → x ≡ Some (line.Plan n) → (ns : List ℕ) × (o ≡ Some (plan_record (get_or ns 0 0) (drop 1 ns))) × (1 ≤ n) × Begin ns n cells
-  unfolding Finds
-  finds-plan n e = rw e at finds
-
-  pub finds-cal : (symbols : Bor (List ℕ)) → x ≡ Some (line.Cal symbols) → (o ≡ Some (cal_record symbols.now)) × (length symbols.now ≤ length bytes)
-  unfolding Finds
-  finds-cal symbols e = rw e at finds
-
-  pub finds-task : (n : ℕ) → x ≡ Some (line.Task n) → (ns : List ℕ) × (o ≡ Some (task_record ns)) × (2 ≤ n) × Begin ns n cells
-  unfolding Finds
-  finds-task n e = rw e at finds

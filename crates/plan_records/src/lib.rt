@@ -8,7 +8,7 @@ ghost use Rattle.plan_format.specs.Records.{cal_record, numbers_if, cal_of, by_w
 ghost use Rattle.plan_records.specs.Inner.Lines.{Finds};
 
 use text::TAB;
-use text::fields::numbers_of;
+use text::fields::{find, numbers_of};
 
 // A line's record: how many numbers a `plan` or a `task` line has, the symbols of a `cal` line.
 #[derive(Clone, Copy)]
@@ -49,6 +49,6 @@ fn by_word<'a>(word: &[u8], fields: &'a [u8], numbers: &mut [u16]) -> Option<Lin
 pub fn record_of<'a>(line: &'a [u8], numbers: &mut [u16]) -> Option<LineRecord<'a>>
     ensures { Finds (record_of line.now) result line.now numbers.new }
 {
-    let end = line.iter().position(|b| *b == TAB)?;
+    let end = find(line, TAB)?;
     by_word(&line[..end], &line[end + 1..], numbers)
 }

@@ -1,5 +1,7 @@
 -- Laws of the filter's loop: the steps taken, logged in the first cells, what holds at each turn, and what each case of a turn makes of it. Assumes
 -- nothing.
+use Rattle.std.specs.Prelude.{Option}
+use Rattle.calendar.specs.declared.Window.{Window}
 use mathlib.Core.Path.{◌≡◌, refl, sym, ap, ◌∙◌}
 use mathlib.Core.Bool.{true}
 use Rattle.std.specs.Prelude.{None, Some}
@@ -16,8 +18,6 @@ use Rattle.plan.specs.Boxes.{with_bounds}
 use Rattle.plan.specs.Refusals.{fault}
 use Rattle.plan.specs.Passed.{Passed}
 use Rattle.plan.proofs.Boxes.{length-with}
-use Rattle.calendar.specs.declared.Fit.{Fit}
-use Rattle.calendar.specs.declared.Fit.TheVariants.{Never}
 use Rattle.steps.specs.declared.Step.{Step}
 use Rattle.steps.specs.declared.Judged.{Judged}
 use Rattle.steps.specs.declared.Judged.TheVariants.{Unknown, NotAdmitted, Impossible, Moved}
@@ -154,7 +154,7 @@ module _ (P : Plan) (opening kinds₀ tasks₀ hours₀ : List ℕ) (count : ℕ
 
 -- ---- each turn
 
-pub record Filtering (P : Plan) (opening kinds₀ tasks₀ hours₀ : List ℕ) (count : ℕ) (boxes kinds tasks hours : List ℕ) (fits : List Fit) : Type 0 where
+pub record Filtering (P : Plan) (opening kinds₀ tasks₀ hours₀ : List ℕ) (count : ℕ) (boxes kinds tasks hours : List ℕ) (fits : List (Option Window)) : Type 0 where
   pub keeps : Keeping P boxes fits
   pub taken : Taken P opening kinds₀ tasks₀ hours₀ count boxes kinds tasks hours
   pub same_boxes : length boxes ≡ length opening
@@ -164,8 +164,8 @@ pub record Filtering (P : Plan) (opening kinds₀ tasks₀ hours₀ : List ℕ) 
   pub each_task : length tasks₀ ≡ length kinds₀
   pub each_hour : length hours₀ ≡ length kinds₀
 
-pub filter-opens : {P : Plan} {boxes kinds tasks hours : List ℕ} {fits : List Fit} → Passed P boxes × (one_for_each_step kinds tasks hours ≡ true)
-    → ((i : ℕ) → i < task_count P → get_or fits i Never ≡ fit_at P.shifts boxes i) → length fits ≡ most_tasks
+pub filter-opens : {P : Plan} {boxes kinds tasks hours : List ℕ} {fits : List (Option Window)} → Passed P boxes × (one_for_each_step kinds tasks hours ≡ true)
+    → ((i : ℕ) → i < task_count P → get_or fits i None ≡ fit_at P.shifts boxes i) → length fits ≡ most_tasks
     → Filtering P boxes kinds tasks hours 0 boxes kinds tasks hours fits
 filter-opens {P} {boxes} {kinds} {tasks} {hours} (p, e) q r =
     record {
@@ -191,7 +191,7 @@ admitted-moves : (boxes : List ℕ) (x : Step) {j : Judged} {i : ℕ} {b : Bound
 unfolding admitted_of on_judged
 admitted-moves boxes x e = rw e
 
-module _ {P : Plan} {opening kinds₀ tasks₀ hours₀ : List ℕ} {count : ℕ} {boxes kinds tasks hours : List ℕ} {fits : List Fit}
+module _ {P : Plan} {opening kinds₀ tasks₀ hours₀ : List ℕ} {count : ℕ} {boxes kinds tasks hours : List ℕ} {fits : List (Option Window)}
     (at : Filtering P opening kinds₀ tasks₀ hours₀ count boxes kinds tasks hours fits) {r : Turn} (is : turn_of boxes r ≡ next P boxes) (n : ℕ) where
   pub settles : r ≡ turn.Settled → Ends P n opening kinds₀ tasks₀ hours₀ (filter_end (settled_after (n + count)) boxes kinds tasks hours)
   settles e = ends-settled P opening kinds₀ tasks₀ hours₀ count boxes kinds tasks hours at.taken n (sym is ∙ ap (turn_of boxes) e)
@@ -223,7 +223,7 @@ module _ {P : Plan} {opening kinds₀ tasks₀ hours₀ : List ℕ} {count : ℕ
         pub filter-may-move : (i < most_tasks) × Fitting P.shifts (with_bounds boxes i b) i
         filter-may-move = may-move P boxes fits at.keeps x i b moves_so there
 
-        pub goes_on : {boxes' : List ℕ} {fits' : List Fit} → (boxes' ≡ with_bounds boxes i b) × (fits' ≡ set fits i (fit_at P.shifts boxes' i))
+        pub goes_on : {boxes' : List ℕ} {fits' : List (Option Window)} → (boxes' ≡ with_bounds boxes i b) × (fits' ≡ set fits i (fit_at P.shifts boxes' i))
             → Filtering P opening kinds₀ tasks₀ hours₀ (count + 1) boxes' (set kinds count x.kind) (set tasks count x.task)
             (set hours count x.hour) fits'
         goes_on {boxes'} {fits'} (e, f) =

@@ -1,4 +1,6 @@
 -- Laws of the answers of the calendar rule, one for each task: how one is taken from memory, and how they fill an array. Assumes nothing.
+use Rattle.std.specs.Prelude.{Option}
+use Rattle.calendar.specs.declared.Window.{Window}
 use mathlib.Core.Path.{◌≡◌, ◌∙◌}
 use mathlib.Core.Bool.{true}
 use mathlib.Core.List.{List}
@@ -13,7 +15,6 @@ use Rattle.plan.specs.HourKinds.{is_symbol}
 use Rattle.plan.proofs.HourKinds.{symbol-part}
 use Rattle.plan.specs.Boxes.{bounds_at}
 use Rattle.plan.specs.Passed.{Passed}
-use Rattle.calendar.specs.declared.Fit.{Fit}
 use Rattle.calendar.specs.Rule.{rule_of}
 use Rattle.calendar.specs.Inner.Ready.{RuleReady}
 use Rattle.steps.specs.Load.{fit_at}
@@ -34,7 +35,7 @@ module _ (S : Shifts) (boxes : List ℕ) (i : ℕ) (part : List ℕ) (b : Bounds
       symbol : (t : ℕ) → t < S.hours → Fitting S boxes i → is_symbol part t ≡ true
       symbol t l f = rw is-part (symbol-part S.calendars first S.hours t l ∙ f.symbols (first + t) (omega (arith, f.calendar)))
 
-  pub core-answers : (r : Fit) → r ≡ rule_of part (get_or S.work_times i 0) b → r ≡ fit_at S boxes i
+  pub core-answers : (r : Option Window) → r ≡ rule_of part (get_or S.work_times i 0) b → r ≡ fit_at S boxes i
   unfolding fit_at calendar_of calendar_at
   core-answers r e = e ∙ rw (is-part, is-box)
 

@@ -1,4 +1,6 @@
 -- What passes the tests is small enough for a turn, and the answers kept stay right when a box changes. Assumes nothing.
+use Rattle.std.specs.Prelude.{Option, None}
+use Rattle.calendar.specs.declared.Window.{Window}
 use mathlib.Core.Path.{◌≡◌, refl, sym, ◌∙◌}
 use mathlib.Core.Logic.{◌≢◌}
 use mathlib.Core.Bool.{Bool, true, false}
@@ -17,8 +19,6 @@ use Rattle.plan.specs.Boxes.{with_bounds}
 use Rattle.plan.specs.Passed.{Passed}
 use Rattle.plan.proofs.Boxes.{bounds-other}
 use Rattle.plan.proofs.Passed.{room-heights}
-use Rattle.calendar.specs.declared.Fit.{Fit}
-use Rattle.calendar.specs.declared.Fit.TheVariants.{Never}
 use Rattle.steps.specs.declared.Step.{Step}
 use Rattle.steps.specs.Load.{fit_at}
 use Rattle.steps.specs.Steps.{moved, judge}
@@ -54,7 +54,7 @@ module _ (P : Plan) (boxes : List ℕ) (passed : Passed P boxes) where
 
 -- ---- a box is stored, and its task's answer worked out anew
 
-module _ (P : Plan) (boxes : List ℕ) (fits : List Fit) (k : Keeping P boxes fits) where
+module _ (P : Plan) (boxes : List ℕ) (fits : List (Option Window)) (k : Keeping P boxes fits) where
   fit-other : (i j : ℕ) (b : Bounds) → j ≢ i → fit_at P.shifts (with_bounds boxes i b) j ≡ fit_at P.shifts boxes j
   unfolding fit_at
   fit-other i j b ne = rw (bounds-other boxes i j b ne)
@@ -67,7 +67,7 @@ module _ (P : Plan) (boxes : List ℕ) (fits : List Fit) (k : Keeping P boxes fi
     pub may-move : (i < most_tasks) × Fitting P.shifts (with_bounds boxes i b) i
     may-move = (omega (arith, there, k.passed.tasks), fitting P _ passes-moved i there)
 
-    pub keeps-moved : {left : List ℕ} {fits' : List Fit} → (left ≡ with_bounds boxes i b) × (fits' ≡ set fits i (fit_at P.shifts left i))
+    pub keeps-moved : {left : List ℕ} {fits' : List (Option Window)} → (left ≡ with_bounds boxes i b) × (fits' ≡ set fits i (fit_at P.shifts left i))
         → Keeping P left fits'
     keeps-moved {left} {fits'} (e, f) =
         rw (f, e)
@@ -80,6 +80,6 @@ module _ (P : Plan) (boxes : List ℕ) (fits : List Fit) (k : Keeping P boxes fi
         new : Fit
         new = fit_at P.shifts (with_bounds boxes i b) i
 
-        go : (j : ℕ) → j < task_count P → Dec (j ≡ i) → get_or (set fits i new) j Never ≡ fit_at P.shifts (with_bounds boxes i b) j
-        go j l (yes q) = rw q (get_or-set_same fits i new Never (omega (arith, there, k.full, k.passed.tasks)))
-        go j l (no q) = get_or-set_other fits i j new Never q ∙ k.kept j l ∙ sym (fit-other i j b q)
+        go : (j : ℕ) → j < task_count P → Dec (j ≡ i) → get_or (set fits i new) j None ≡ fit_at P.shifts (with_bounds boxes i b) j
+        go j l (yes q) = rw q (get_or-set_same fits i new None (omega (arith, there, k.full, k.passed.tasks)))
+        go j l (no q) = get_or-set_other fits i j new None q ∙ k.kept j l ∙ sym (fit-other i j b q)

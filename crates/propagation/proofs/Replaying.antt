@@ -1,5 +1,7 @@
 -- Laws of the log checker's loop: the end of a log from a step on, what holds at each turn, and what each case of a step makes of it. Assumes
 -- nothing.
+use Rattle.std.specs.Prelude.{Option}
+use Rattle.calendar.specs.declared.Window.{Window}
 use mathlib.Core.Path.{◌≡◌, refl, sym, ap, ◌∙◌}
 use mathlib.Core.Bool.{Bool, true, false}
 use Rattle.std.specs.Prelude.{None, Some}
@@ -16,8 +18,6 @@ use Rattle.plan.specs.declared.Fault.{Fault}
 use Rattle.plan.specs.Refusals.{fault, Answer, refused, answered, answer_unless}
 use Rattle.plan.specs.Passed.{Passed}
 use Rattle.plan.proofs.Boxes.{length-with}
-use Rattle.calendar.specs.declared.Fit.{Fit}
-use Rattle.calendar.specs.declared.Fit.TheVariants.{Never}
 use Rattle.steps.specs.declared.Judged.{Judged}
 use Rattle.steps.specs.declared.Judged.TheVariants.{Unknown, NotAdmitted, Impossible, Moved}
 use Rattle.steps.specs.Load.{fit_at}
@@ -105,7 +105,7 @@ answers-accepted e q = rw q
 -- ---- each turn
 
 -- What holds at each turn of the log checker: the end from here is the log's end.
-pub record Replaying (P : Plan) (n : ℕ) (said₀ : Bool) (opening kinds tasks hours : List ℕ) (k : ℕ) (said : Bool) (boxes : List ℕ) (fits : List Fit) :
+pub record Replaying (P : Plan) (n : ℕ) (said₀ : Bool) (opening kinds tasks hours : List ℕ) (k : ℕ) (said : Bool) (boxes : List ℕ) (fits : List (Option Window)) :
     Type 0 where
   pub keeps : Keeping P boxes fits
   pub same : length boxes ≡ length opening
@@ -121,9 +121,9 @@ abbrev Replayed : Plan → ℕ → Bool → List ℕ → List ℕ → List ℕ �
 Replayed P n said₀ opening kinds tasks hours answer left =
     (answer ≡ check_answer (replay_from P n said₀ opening (steps_in kinds tasks hours))) × (left ≡ (replay_from P n said₀ opening (steps_in kinds tasks hours)).boxes)
 
-pub replay-opens : {P : Plan} {n : ℕ} {said₀ : Bool} {opening kinds tasks hours : List ℕ} {fits : List Fit} → Passed P opening ×
+pub replay-opens : {P : Plan} {n : ℕ} {said₀ : Bool} {opening kinds tasks hours : List ℕ} {fits : List (Option Window)} → Passed P opening ×
     (one_for_each_step kinds tasks hours ≡ true)
-    → ((i : ℕ) → i < task_count P → get_or fits i Never ≡ fit_at P.shifts opening i) → length fits ≡ most_tasks
+    → ((i : ℕ) → i < task_count P → get_or fits i None ≡ fit_at P.shifts opening i) → length fits ≡ most_tasks
     → Replaying P n said₀ opening kinds tasks hours 0 said₀ opening fits
 replay-opens {P} {n} {said₀} {opening} {kinds} {tasks} {hours} (p, e) q r =
     record {
@@ -134,7 +134,7 @@ replay-opens {P} {n} {said₀} {opening} {kinds} {tasks} {hours} (p, e) q r =
       each_hour = (one_each kinds tasks hours e).1;
     }
 
-module _ {P : Plan} {n : ℕ} {said₀ : Bool} {opening kinds tasks hours : List ℕ} {k : ℕ} {said : Bool} {boxes : List ℕ} {fits : List Fit}
+module _ {P : Plan} {n : ℕ} {said₀ : Bool} {opening kinds tasks hours : List ℕ} {k : ℕ} {said : Bool} {boxes : List ℕ} {fits : List (Option Window)}
     (at : Replaying P n said₀ opening kinds tasks hours k said boxes fits) where
   pub replay-done : k ≡ length kinds → Replayed P n said₀ opening kinds tasks hours (answered (record { steps = n + length kinds; impossible = said })) boxes
   replay-done l =
@@ -181,7 +181,7 @@ module _ {P : Plan} {n : ℕ} {said₀ : Bool} {opening kinds tasks hours : List
       pub replay-may-move : (i < most_tasks) × Fitting P.shifts (with_bounds boxes i b) i
       replay-may-move = may-move P boxes fits at.keeps _ i b moves_so there
 
-      pub replay-moves : {boxes' : List ℕ} {fits' : List Fit} → (boxes' ≡ with_bounds boxes i b) × (fits' ≡ set fits i (fit_at P.shifts boxes' i))
+      pub replay-moves : {boxes' : List ℕ} {fits' : List (Option Window)} → (boxes' ≡ with_bounds boxes i b) × (fits' ≡ set fits i (fit_at P.shifts boxes' i))
           → Replaying P n said₀ opening kinds tasks hours (k + 1) said boxes' fits'
       replay-moves {boxes'} {fits'} (e, f) =
           record {

@@ -5,9 +5,9 @@
 ghost use Rattle.std.specs.Prelude.{◌≡◌, ◌++◌, ◌+◌, ◌≤◌, ◌<◌, length, get_or, set, take, drop};
 ghost use Rattle.units.specs.Cells.{written};
 ghost use Rattle.plan.specs.Faults.{input_fault};
-ghost use Rattle.plan.specs.Lent.{old_plan};
+ghost use Rattle.plan.specs.Lent.{plan_in};
 ghost use Rattle.steps.specs.Claim.{CheckedHolds, FilterHolds};
-ghost use Rattle.steps.specs.Entry.{check_answer, log_answer, filter_answer};
+ghost use Rattle.steps.specs.Entry.{check_answer, filter_answer};
 ghost use Rattle.step_log.specs.Entry.{check_steps, steps_end, filter_steps};
 ghost use Rattle.step_log.specs.Inner.Parts.{no_step, part_size, part_steps, Sized};
 
@@ -62,32 +62,22 @@ fn put_part(log: &mut [Step], from: usize, steps: Part)
 
 // The log checker. Accepted or refused by 11, 12 or 13, the boxes become those at the log's end; any other refusal changes nothing.
 pub fn check_log(
-    hours: u16,
-    capacities: &[u16],
-    calendars: &[u8],
-    task_calendars: &[u16],
-    work_times: &[u16],
-    heights: &[u16],
+    plan: &Plan,
     boxes: &mut [u16],
     log: &[Step],
-) -> LogChecked
-    ensures answer { let P = old_plan hours capacities calendars task_calendars work_times heights in
+) -> Result<Accepted, Refusal>
+    ensures answer { let P = plan_in plan.now in
         let e = check_steps P boxes.old log.now in
-        (log_answer result ≡ check_answer e) × (boxes.new ≡ e.boxes) }
-    ensures holds { let P = old_plan hours capacities calendars task_calendars work_times heights in
-        CheckedHolds P boxes.old (input_fault P boxes.old) log.now (log_answer result) boxes.new }
+        (answer_of result ≡ check_answer e) × (boxes.new ≡ e.boxes) }
+    ensures holds { let P = plan_in plan.now in
+        CheckedHolds P boxes.old (input_fault P boxes.old) log.now (answer_of result) boxes.new }
 {
     let mut from = 0;
     let mut said = false;
     loop {
         let steps = part_at(log, from);
         let checked = part::check_part(
-            hours,
-            capacities,
-            calendars,
-            task_calendars,
-            work_times,
-            heights,
+            plan,
             boxes,
             from,
             said,
@@ -103,30 +93,20 @@ pub fn check_log(
 
 // The filter, with the log lent as its room. A refused plan changes nothing; log cells past the count are untouched.
 pub fn filter(
-    hours: u16,
-    capacities: &[u16],
-    calendars: &[u8],
-    task_calendars: &[u16],
-    work_times: &[u16],
-    heights: &[u16],
+    plan: &Plan,
     boxes: &mut [u16],
     log: &mut [Step],
-) -> Filtered
-    ensures answer { let P = old_plan hours capacities calendars task_calendars work_times heights in
+) -> Result<Filtered, Refusal>
+    ensures answer { let P = plan_in plan.now in
         steps_end (filter_answer result) boxes.new log.new ≡ filter_steps P boxes.old log.old }
-    ensures holds { let P = old_plan hours capacities calendars task_calendars work_times heights in
+    ensures holds { let P = plan_in plan.now in
         FilterHolds P boxes.old (check_steps P boxes.old) (length log.old) (filter_answer result) boxes.new (λ n. take n log.new) }
 {
     let room = log.len();
     let mut taken = 0;
     loop {
         let filtered = part::filter_part(
-            hours,
-            capacities,
-            calendars,
-            task_calendars,
-            work_times,
-            heights,
+            plan,
             boxes,
             taken,
             room,

@@ -1,6 +1,6 @@
 // A part of a log: as many of its steps as `propagation` is called with at a time, by value, and what it makes of them.
 ghost use Rattle.std.specs.Prelude.{◌≡◌, [], ◌∷◌, ◌++◌, ◌+◌, ◌-◌, ◌^◌, ◌≤◌, ◌<◌, min};
-ghost use Rattle.plan.specs.Lent.{old_plan};
+ghost use Rattle.plan.specs.Lent.{plan_in};
 ghost use Rattle.steps.specs.Entry.{step_at, count_of, filter_answer};
 ghost use Rattle.step_log.specs.Inner.Parts.{part_size, part_steps, Sized, checked_part, check_steps_from, CheckedAs, does_go_on, filtered_part, FilteredAs};
 
@@ -108,19 +108,14 @@ fn checked_part(answer: LogChecked, count: usize) -> PartChecked
 
 // The log checker from a step of the log on, over one part: on the boxes that the step before it left, and whether that one said impossible.
 pub fn check_part(
-    hours: u16,
-    capacities: &[u16],
-    calendars: &[u8],
-    task_calendars: &[u16],
-    work_times: &[u16],
-    heights: &[u16],
+    plan: &Plan,
     boxes: &mut [u16],
     from: usize,
     said: bool,
     part: Part,
 ) -> PartChecked
     requires { (part.count ≤ part_size) × Sized part × (from + part.count < 2 ^ 64) }
-    ensures { let P = old_plan hours capacities calendars task_calendars work_times heights in
+    ensures { let P = plan_in plan.now in
         CheckedAs (check_steps_from P from said boxes.old (part_steps part)) part.count result boxes.new }
 {
     let count = part.count;
@@ -128,12 +123,7 @@ pub fn check_part(
     let tasks = part.tasks;
     let task_hours = part.hours;
     let checked = propagation::replay::check_from(
-        hours,
-        capacities,
-        calendars,
-        task_calendars,
-        work_times,
-        heights,
+        plan,
         boxes,
         &kinds[..count],
         &tasks[..count],
@@ -196,18 +186,13 @@ fn filtered_part(
 
 // The filter over one part, after so many steps and with room for so many in all, on the boxes that those steps left.
 pub fn filter_part(
-    hours: u16,
-    capacities: &[u16],
-    calendars: &[u8],
-    task_calendars: &[u16],
-    work_times: &[u16],
-    heights: &[u16],
+    plan: &Plan,
     boxes: &mut [u16],
     taken: usize,
     room: usize,
 ) -> PartFiltered
     requires { taken ≤ room }
-    ensures { let P = old_plan hours capacities calendars task_calendars work_times heights in
+    ensures { let P = plan_in plan.now in
         FilteredAs P boxes.old taken room result boxes.new }
 {
     let mut kinds = [0u8; Part::SIZE];
@@ -215,12 +200,7 @@ pub fn filter_part(
     let mut task_hours = [0u16; Part::SIZE];
     let cells = part_end(taken, room) - taken;
     let answer = propagation::filter::filter_from(
-        hours,
-        capacities,
-        calendars,
-        task_calendars,
-        work_times,
-        heights,
+        plan,
         boxes,
         &mut kinds[..cells],
         &mut tasks[..cells],

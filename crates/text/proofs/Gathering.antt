@@ -13,7 +13,7 @@ use borrow.Author.Tests.{ltb-true, ltb-false}
 use Rattle.std.proofs.lemmas.List.{set_past}
 use Rattle.units.specs.Choice.{on_option}
 use Rattle.text.specs.Numbers.{number_of, numbers_of}
-use Rattle.text.specs.Reading.{Begin, NumbersMade}
+use Rattle.text.specs.Reading.{Begin}
 
 -- numbers read before others
 unfoldable pub before : List ℕ → Option (List ℕ) → Option (List ℕ)
@@ -94,13 +94,3 @@ module _ {fields : List (List ℕ)} {cells : List ℕ} {count : ℕ} (at : Gathe
           begins = rw s (begin-more n at.begins);
           decides = at.decides ∙ rw next (field_is at.so_far f _ n k);
         }
-
--- what the loop's caller learns, once it is known which
-module _ (o : Option (List ℕ)) (cells : List ℕ) (x : Option ℕ) where
-  pub made_none : NumbersMade o x cells → x ≡ None → o ≡ None
-  unfolding NumbersMade
-  made_none m e = rw e at m
-
-  pub made-count : {n : ℕ} → NumbersMade o x cells → x ≡ Some n → (ns : List ℕ) × (o ≡ Some ns) × Begin ns n cells
-  unfolding NumbersMade
-  made-count m e = rw e at m

@@ -9,12 +9,12 @@ use native.Mathlib.Omega.{arith}
 use lib.ListN.{length, get_or, drop, drop_of_length-le}
 use lib.Seq.{drop-cons}
 use lib.Dec.{leb, eqb}
-use borrow.Author.Tests.{lt-leb, le-leb, leb-true, eqb-true, eqb-false}
+use borrow.Author.Tests.{lt-leb, le-leb, eqb-true, eqb-false}
 use Rattle.std.specs.Char.{is_ascii_digit}
 use Rattle.text.proofs.Words.{and_is}
 use Rattle.units.specs.Choice.{◌and◌}
 use Rattle.units.specs.Limits.{within}
-use Rattle.units.proofs.Choices.{not_left, not_right, none-if, some-if, if_some, and_both, and_left}
+use Rattle.units.proofs.Choices.{not_left, not_right, none-if, some-if, and_both}
 use Rattle.text.specs.Numbers.{is_digits, decimal, is_plain, is_number, most_number, number_of}
 
 module _ (l : List ℕ) (i : ℕ) where
@@ -79,8 +79,3 @@ module _ (bs : List ℕ) where
   unfolding number_of is_number
   number_is h d p m =
       some-if _ _ (and_both _ _ (le-leb 1 (length bs) h) (and_both _ _ d (and_both _ _ p (le-leb (decimal 0 bs) most_number m))))
-
-  -- a number has a digit
-  pub number-some : (n : ℕ) → number_of bs ≡ Some n → 1 ≤ length bs
-  unfolding number_of is_number
-  number-some n e = leb-true _ _ (and_left _ _ (if_some _ _ n e).0)

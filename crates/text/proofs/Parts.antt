@@ -3,14 +3,13 @@ use Rattle.std.specs.Prelude.{if◌then◌else◌}
 use mathlib.Core.Path.{◌≡◌, refl, sym, ap, ◌∙◌}
 use mathlib.Core.Bool.{Bool, true, false, cond, ◌||◌}
 use mathlib.Core.List.{List, [], ◌∷◌}
-use Prim.Native.Nat.{ℕ, suc, ◌+◌, ◌-◌, ◌≤◌, ◌<◌}
-use native.Mathlib.Numerals.{add-one}
+use Prim.Native.Nat.{ℕ, suc, ◌+◌, ◌≤◌, ◌<◌}
 use native.Mathlib.Omega.{arith}
 use lib.Dec.{eqb, ltb}
-use lib.ListN.{length, take, drop, length-drop}
-use lib.Seq.{drop-drop, take_all, length-take-le}
-use Rattle.std.specs.Prelude.{Option, None, Some}
-use Rattle.std.specs.Option.{MatchOption, unwrap_or}
+use lib.ListN.{length, take, drop}
+use lib.Seq.{take_all}
+use Rattle.std.specs.Prelude.{None, Some}
+use Rattle.std.specs.Option.{MatchOption}
 use Rattle.std.specs.List.{list_any, position, position_or_len, slice_split, onto_first}
 use Rattle.std.proofs.lemmas.List.Recursion.{is_position_or_len}
 use borrow.Author.Tests.{ltb-true, ltb-false}
@@ -75,25 +74,13 @@ module _ (separator : ℕ) where
       (λ b bs. let q : suc (first_at separator bs) ≡ 1 + first_at separator bs = omega arith in rw q)
 
   -- the first that passes is the first separator; where none does, that is the length
-  module _ (l : List ℕ) where
-    first_found : MatchOption (position here l) (first_at separator l ≡ length l) (λ n. (n ≡ first_at separator l) × (n < length l))
-    first_found = go (ltb (position_or_len here l) (length l)) refl
-      where
-        go : (t : Bool) → ltb (position_or_len here l) (length l) ≡ t
-            → MatchOption (cond t (Some (position_or_len here l)) None) (first_at separator l ≡ length l) (λ n. (n ≡ first_at separator l) × (n < length l))
-        go true e = (sym (first_is l), ltb-true (position_or_len here l) (length l) e)
-        go false e = omega (arith, first_is l, first-within l, ltb-false (position_or_len here l) (length l) e)
-
-    module _ {o : Option ℕ} (found : o ≡ position here l) where
-      pub found-none : o ≡ None → first_at separator l ≡ length l
-      found-none e = rw (sym found ∙ e) at first_found
-
-      pub found-some : {n : ℕ} → o ≡ Some n → (n ≡ first_at separator l) × (n < length l)
-      found-some e = rw (sym found ∙ e) at first_found
-
-    pub first_or_length : {o : Option ℕ} → o ≡ position here l → unwrap_or o (length l) ≡ first_at separator l
-    first_or_length {o = None} found = sym (found-none found refl)
-    first_or_length {o = Some n} found = (found-some found refl).0
+  pub first_found : (l : List ℕ) → MatchOption (position here l) (first_at separator l ≡ length l) (λ n. (n ≡ first_at separator l) × (n < length l))
+  first_found l = go (ltb (position_or_len here l) (length l)) refl
+    where
+      go : (t : Bool) → ltb (position_or_len here l) (length l) ≡ t
+          → MatchOption (cond t (Some (position_or_len here l)) None) (first_at separator l ≡ length l) (λ n. (n ≡ first_at separator l) × (n < length l))
+      go true e = (sym (first_is l), ltb-true (position_or_len here l) (length l) e)
+      go false e = omega (arith, first_is l, first-within l, ltb-false (position_or_len here l) (length l) e)
 
   -- none passes, or one does
   pub any-none : (l : List ℕ) → list_any here l ≡ false → first_at separator l ≡ length l
@@ -126,37 +113,3 @@ module _ (separator : ℕ) where
       go false e =
           let None : first_at separator l ≡ length l = omega (arith, ltb-false (first_at separator l) (length l) e, first-within l) in
           ([], parts_last l None ∙ ap (λ (p : List ℕ). p ∷ []) (sym (take_all (first_at separator l) l (omega arith))))
-
--- what is left of a text from an index on, as code takes it
-abbrev pub rest_of : List ℕ → ℕ → List ℕ
-rest_of l from = take (length l - from) (drop from l)
-
-pub to_end : (l : List ℕ) (from : ℕ) → rest_of l from ≡ drop from l
-to_end l from = take_all (length l - from) (drop from l) (omega (arith, length-drop from l))
-
-pub rest-length : (l : List ℕ) (from : ℕ) → length (rest_of l from) ≡ length l - from
-rest-length l from = ap length (to_end l from) ∙ length-drop from l
-
--- a loop over the parts: e is the end of the first part of what is left
-module _ (separator : ℕ) (l : List ℕ) (from e : ℕ) (p : e ≡ first_at separator (rest_of l from)) where
-  pub end-in : e ≤ length l - from
-  end-in = omega (arith, first-within separator (rest_of l from), rest-length l from)
-
-  pub part_length : e ≡ length (take e (rest_of l from))
-  part_length = sym (length-take-le e (rest_of l from) (omega (arith, end-in, rest-length l from)))
-
-  pub part-last : e ≡ length (rest_of l from) → parts separator (drop from l) ≡ rest_of l from ∷ []
-  part-last h = ap (parts separator) (sym (to_end l from)) ∙ parts_last separator (rest_of l from) (sym p ∙ h)
-
-  module _ (h : e ≡ length (rest_of l from) → ⊥) where
-    pub next-in : from ≤ length l → from + (e + 1) ≤ length l
-    next-in k = omega (arith, end-in, rest-length l from, h)
-
-    pub part-more : parts separator (drop from l) ≡ take e (rest_of l from) ∷ parts separator (drop (from + (e + 1)) l)
-    part-more =
-        let d : drop (suc (first_at separator (rest_of l from))) (rest_of l from) ≡ drop (from + (e + 1)) l =
-        rw (to_end l from, drop-drop, p, to_end l from, add-one)
-        in
-        ap (parts separator) (sym (to_end l from))
-        ∙ parts_more separator (rest_of l from) (omega (arith, p, end-in, rest-length l from, h))
-        ∙ rw (d, p)

@@ -1,5 +1,5 @@
 // Fields and the numbers that they are.
-ghost use Rattle.std.specs.Prelude.{◌≡◌, ◌≤◌, length, set};
+ghost use Rattle.std.specs.Prelude.{◌≡◌, ◌≤◌, ◌<◌, length, set, MatchOption};
 ghost use Rattle.text.specs.Fields.{tab, parts, first_at};
 ghost use Rattle.text.specs.Numbers.{is_plain, number_of, numbers_of};
 ghost use Rattle.text.specs.Reading.{NumbersMade};
@@ -9,14 +9,19 @@ use crate::TAB;
 // The greatest number of plan text.
 const MOST_NUMBER: usize = 65535;
 
+// Where the first separator stands, if there is one.
+pub fn find(bytes: &[u8], separator: u8) -> Option<usize>
+    ensures { MatchOption result (first_at separator bytes.now ≡ length bytes.now) (λ n.
+        (n ≡ first_at separator bytes.now) × (n < length bytes.now)) }
+{
+    bytes.iter().position(|b| *b == separator)
+}
+
 // Where the first separator stands, or the length.
 pub fn end_of(bytes: &[u8], separator: u8) -> usize
     ensures { result ≡ first_at separator bytes.now }
 {
-    bytes
-        .iter()
-        .position(|b| *b == separator)
-        .unwrap_or(bytes.len())
+    find(bytes, separator).unwrap_or(bytes.len())
 }
 
 // Whether a field is without leading zero.

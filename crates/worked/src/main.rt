@@ -6,17 +6,15 @@ ghost use Rattle.std.specs.Prelude.{◌≡◌, ◌≤◌, IfOk, length};
 ghost use Rattle.plan_format.specs.Text.{most_bytes};
 ghost use Rattle.worked.specs.Logs.{cells};
 
-use plan::{Refusal, fault_of, first_symbol};
-use plan_text::{MOST_BOUNDS, MOST_BYTES, MOST_HEIGHTS, MOST_SYMBOLS, PlanReading};
-use plan_writing::PlanWriting;
-use schedule::ScheduleChecked;
+use plan::{Fault, Plan, Refusal, first_symbol};
+use plan_text::{MOST_BOUNDS, MOST_BYTES, MOST_HEIGHTS, MOST_SYMBOLS};
 use std::fs::File;
 use std::io;
 use std::io::Read;
 use std::rt::Files;
-use steps::{Filtered, LogChecked, Step};
+use steps::{Accepted, Ending, Filtered, Step};
 use text::fields::end_of;
-use units::{Bounds, Duration, RoomNumber};
+use units::{Bounds, Duration, Hour, MOST_ROOMS};
 
 fn print_word(rt: &impl Print, word: &[u8]) -> io::Result<()> {
     rt.write_all(word)
@@ -31,17 +29,17 @@ fn end_line(rt: &impl Print) -> io::Result<()> {
 }
 
 fn report_refusal(rt: &impl Print, refusal: Refusal) -> io::Result<()> {
-    let fault = fault_of(refusal);
+    let fault = Fault::from(refusal);
     print_word(rt, b"refused")?;
-    print_field(rt, fault.0 as u64)?;
-    print_field(rt, fault.1 as u64)?;
+    print_field(rt, fault.number as u64)?;
+    print_field(rt, fault.place as u64)?;
     end_line(rt)
 }
 
-fn report(rt: &impl Print, answer: ScheduleChecked) -> io::Result<()> {
+fn report(rt: &impl Print, answer: Result<Hour, Refusal>) -> io::Result<()> {
     match answer {
-        ScheduleChecked::Refused(refusal) => report_refusal(rt, refusal),
-        ScheduleChecked::Feasible(end) => {
+        Err(refusal) => report_refusal(rt, refusal),
+        Ok(end) => {
             print_word(rt, b"feasible")?;
             print_field(rt, end.0 as u64)?;
             end_line(rt)
@@ -50,34 +48,33 @@ fn report(rt: &impl Print, answer: ScheduleChecked) -> io::Result<()> {
 }
 
 // The two tasks of these weeks: each of calendar 0, two hours of work and one rack, in each room if there are two.
-const TASK_CALENDARS: [u16; 2] = [0, 0];
+static TASK_CALENDARS: [u16; 2] = [0, 0];
 
-const WORK_TIMES: [u16; 2] = [2, 2];
+static WORK_TIMES: [u16; 2] = [2, 2];
 
-const HEIGHTS: [u16; 2] = [1, 1];
+static HEIGHTS: [u16; 2] = [1, 1];
 
-const HEIGHTS_IN_TWO_ROOMS: [u16; 4] = [1, 1, 1, 1];
+static HEIGHTS_IN_TWO_ROOMS: [u16; 4] = [1, 1, 1, 1];
+
+// A week of these tasks.
+fn week<'a>(hours: u16, capacities: &'a [u16], calendar: &'a [u8], heights: &'a [u16]) -> Plan<'a> {
+    Plan::new(
+        hours,
+        capacities,
+        calendar,
+        &TASK_CALENDARS,
+        &WORK_TIMES,
+        heights,
+    )
+}
 
 // The printed week's opening boxes.
 const OPENING: [u16; 12] = [0, 3, 2, 3, 0, 0, 0, 2, 2, 3, 0, 0];
 
 // A schedule of the printed week, held against its opening boxes.
-fn printed_week(schedule: &[u16]) -> ScheduleChecked {
-    let task_calendars = TASK_CALENDARS;
-    let work_times = WORK_TIMES;
-    let heights = HEIGHTS;
-    let boxes = OPENING;
-    let capacities = [1u16];
-    schedule::check_schedule(
-        6,
-        &capacities,
-        b"rcrrrr",
-        &task_calendars,
-        &work_times,
-        &heights,
-        &boxes,
-        schedule,
-    )
+fn printed_week(schedule: &[u16]) -> Result<Hour, Refusal> {
+    let plan = week(6, &[1], b"rcrrrr", &HEIGHTS);
+    schedule::check_schedule(&plan, &OPENING, schedule)
 }
 
 fn feasible_schedule(rt: &impl Print) -> io::Result<()> {
@@ -99,23 +96,10 @@ fn schedule_that_ends_closed(rt: &impl Print) -> io::Result<()> {
 
 // Both tasks run in hour 1: the first room has racks for both, the second has not.
 fn schedule_over_the_second_capacity(rt: &impl Print) -> io::Result<()> {
-    let task_calendars = TASK_CALENDARS;
-    let work_times = WORK_TIMES;
-    let heights = HEIGHTS_IN_TWO_ROOMS;
-    let capacities: [u16; 2] = [2, 1];
+    let plan = week(3, &[2, 1], b"rrr", &HEIGHTS_IN_TWO_ROOMS);
     let boxes: [u16; 12] = [0, 1, 2, 2, 0, 0, 0, 1, 2, 2, 0, 0];
     let schedule: [u16; 6] = [0, 2, 0, 1, 2, 0];
-    let answer = schedule::check_schedule(
-        3,
-        &capacities,
-        b"rrr",
-        &task_calendars,
-        &work_times,
-        &heights,
-        &boxes,
-        &schedule,
-    );
-    report(rt, answer)
+    report(rt, schedule::check_schedule(&plan, &boxes, &schedule))
 }
 
 // Memory for a plan text.
@@ -225,22 +209,27 @@ fn print_count(rt: &impl Print, word: &[u8], count: usize) -> io::Result<()> {
     end_line(rt)
 }
 
-fn report_filtered(rt: &impl Print, answer: Filtered) -> io::Result<()> {
+fn report_filtered(rt: &impl Print, answer: Result<Filtered, Refusal>) -> io::Result<()> {
     match answer {
-        Filtered::Refused(refusal) => report_refusal(rt, refusal),
-        Filtered::NoRoom(count) => print_count(rt, b"room", count),
-        Filtered::Settled(count) => print_count(rt, b"settled", count),
-        Filtered::Impossible(count) => print_count(rt, b"impossible", count),
+        Err(refusal) => report_refusal(rt, refusal),
+        Ok(filtered) => {
+            let word: &[u8] = match filtered.ending {
+                Ending::NoRoom => b"room",
+                Ending::Settled => b"settled",
+                Ending::Impossible => b"impossible",
+            };
+            print_count(rt, word, filtered.count)
+        }
     }
 }
 
-fn report_checked(rt: &impl Print, answer: LogChecked) -> io::Result<()> {
+fn report_checked(rt: &impl Print, answer: Result<Accepted, Refusal>) -> io::Result<()> {
     match answer {
-        LogChecked::Refused(refusal) => report_refusal(rt, refusal),
-        LogChecked::Accepted { steps, impossible } => {
+        Err(refusal) => report_refusal(rt, refusal),
+        Ok(accepted) => {
             print_word(rt, b"accepted")?;
-            print_field(rt, steps as u64)?;
-            if impossible {
+            print_field(rt, accepted.steps as u64)?;
+            if accepted.impossible {
                 print_word(rt, b"\timpossible")?;
             }
             end_line(rt)
@@ -266,170 +255,74 @@ fn empty_log() -> [Step; CELLS]
 fn print_steps(rt: &impl Print, log: [Step; CELLS]) -> io::Result<usize>
     ensures { IfOk result (λ count. count ≤ cells) }
 {
-    for i in 0..CELLS {
-        let x = log[i];
+    for (i, x) in log.iter().enumerate() {
         if x.kind == 0 {
             return Ok(i);
         }
-        print_step(rt, x)?;
+        print_step(rt, *x)?;
     }
     Ok(CELLS)
 }
 
-// The filter of crate `step_log`, with room for so many steps: prints the answer, and gives the log.
-fn filter_log(
-    rt: &impl Print,
-    hours: u16,
-    capacities: &[u16],
-    calendars: &[u8],
-    task_calendars: &[u16],
-    work_times: &[u16],
-    heights: &[u16],
-    boxes: &mut [u16],
-    room: usize,
-) -> io::Result<[Step; CELLS]>
-    requires { room ≤ cells }
-    ensures { IfOk result (λ log. length log ≡ cells) }
-{
-    let mut log = empty_log();
-    let answer = step_log::filter(
-        hours,
-        capacities,
-        calendars,
-        task_calendars,
-        work_times,
-        heights,
-        boxes,
-        &mut log[..room],
-    );
-    report_filtered(rt, answer)?;
-    Ok(log)
-}
-
-// The log checker of crate `step_log` on so many steps.
-fn check_log(
-    hours: u16,
-    capacities: &[u16],
-    calendars: &[u8],
-    task_calendars: &[u16],
-    work_times: &[u16],
-    heights: &[u16],
-    boxes: &mut [u16],
-    log: [Step; CELLS],
-    count: usize,
-) -> LogChecked
-    requires { (count ≤ cells) × (length log ≡ cells) }
-{
-    step_log::check_log(
-        hours,
-        capacities,
-        calendars,
-        task_calendars,
-        work_times,
-        heights,
-        boxes,
-        &log[..count],
-    )
-}
-
-// The filter on a week of the two tasks, with room for so many steps: prints the answer and the boxes left, and gives the log.
+// The filter of crate `step_log` on a week, with room for so many steps: prints the answer and the boxes left, and gives the log.
 fn filter_week(
     rt: &impl Print,
-    hours: u16,
-    capacities: &[u16],
-    calendar: &[u8],
-    heights: &[u16],
+    plan: &Plan,
     opening: [u16; 12],
     room: usize,
 ) -> io::Result<[Step; CELLS]>
     requires { room ≤ cells }
     ensures { IfOk result (λ log. length log ≡ cells) }
 {
-    let task_calendars = TASK_CALENDARS;
-    let work_times = WORK_TIMES;
     let mut boxes = opening;
-    let log = filter_log(
-        rt,
-        hours,
-        capacities,
-        calendar,
-        &task_calendars,
-        &work_times,
-        heights,
-        &mut boxes,
-        room,
-    )?;
+    let mut log = empty_log();
+    let answer = step_log::filter(plan, &mut boxes, &mut log[..room]);
+    report_filtered(rt, answer)?;
     print_boxes(rt, &boxes)?;
     Ok(log)
 }
 
-// The log checker on so many steps of a log of a week of the two tasks: prints the answer and the boxes left.
+// The log checker of crate `step_log` on so many steps of a log of a week: prints the answer and the boxes left.
 fn check_week(
     rt: &impl Print,
-    hours: u16,
-    capacities: &[u16],
-    calendar: &[u8],
-    heights: &[u16],
+    plan: &Plan,
     opening: [u16; 12],
     log: [Step; CELLS],
     count: usize,
 ) -> io::Result<()>
     requires { (count ≤ cells) × (length log ≡ cells) }
 {
-    let task_calendars = TASK_CALENDARS;
-    let work_times = WORK_TIMES;
     let mut boxes = opening;
-    let checked = check_log(
-        hours,
-        capacities,
-        calendar,
-        &task_calendars,
-        &work_times,
-        heights,
-        &mut boxes,
-        log,
-        count,
-    );
+    let checked = step_log::check_log(plan, &mut boxes, &log[..count]);
     report_checked(rt, checked)?;
     print_boxes(rt, &boxes)
 }
 
 // A week with room for so many steps, and its log printed, and checked from the opening boxes.
-fn week_log(
-    rt: &impl Print,
-    hours: u16,
-    capacities: &[u16],
-    calendar: &[u8],
-    heights: &[u16],
-    opening: [u16; 12],
-    room: usize,
-) -> io::Result<()>
+fn week_log(rt: &impl Print, plan: &Plan, opening: [u16; 12], room: usize) -> io::Result<()>
     requires { room ≤ cells }
 {
-    let log = filter_week(rt, hours, capacities, calendar, heights, opening, room)?;
+    let log = filter_week(rt, plan, opening, room)?;
     let count = print_steps(rt, log)?;
-    check_week(
-        rt, hours, capacities, calendar, heights, opening, log, count,
-    )
+    check_week(rt, plan, opening, log, count)
 }
 
 // The printed week.
 fn printed_week_log(rt: &impl Print, room: usize) -> io::Result<()>
     requires { room ≤ cells }
 {
-    let capacities = [1u16];
-    let heights = HEIGHTS;
-    week_log(rt, 6, &capacities, b"rcrrrr", &heights, OPENING, room)
+    week_log(rt, &week(6, &[1], b"rcrrrr", &HEIGHTS), OPENING, room)
 }
 
 // Weeks of two rooms: task 0 fills the second in hours 0 and 1, so that task 1 starts in hour 2; both must run in hour 1.
 fn two_rooms_logs(rt: &impl Print) -> io::Result<()> {
     let capacities: [u16; 2] = [2, 1];
-    let heights = HEIGHTS_IN_TWO_ROOMS;
     let later: [u16; 12] = [0, 0, 2, 2, 0, 0, 0, 3, 2, 4, 0, 0];
-    week_log(rt, 4, &capacities, b"rrrr", &heights, later, CELLS)?;
+    let four_hours = week(4, &capacities, b"rrrr", &HEIGHTS_IN_TWO_ROOMS);
+    week_log(rt, &four_hours, later, CELLS)?;
     let together: [u16; 12] = [0, 1, 2, 2, 0, 0, 0, 1, 2, 2, 0, 0];
-    week_log(rt, 3, &capacities, b"rrr", &heights, together, CELLS)
+    let three_hours = week(3, &capacities, b"rrr", &HEIGHTS_IN_TWO_ROOMS);
+    week_log(rt, &three_hours, together, CELLS)
 }
 
 // 130 regular hours without capacity: the filter raises the earliest start of task 0 hour by hour, until its step 127, the last of the log's second
@@ -437,31 +330,30 @@ fn two_rooms_logs(rt: &impl Print) -> io::Result<()> {
 fn log_of_two_parts(rt: &impl Print) -> io::Result<()> {
     let calendar = [b'r'; 130];
     let opening: [u16; 12] = [0, 128, 2, 2, 0, 0, 0, 128, 2, 2, 0, 0];
-    let capacities = [0u16];
-    let heights = HEIGHTS;
-    let mut log = filter_week(rt, 130, &capacities, &calendar, &heights, opening, CELLS)?;
-    check_week(rt, 130, &capacities, &calendar, &heights, opening, log, 128)?;
+    let plan = week(130, &[0], &calendar, &HEIGHTS);
+    let mut log = filter_week(rt, &plan, opening, CELLS)?;
+    check_week(rt, &plan, opening, log, 128)?;
     let first = log[0];
     log[128] = first;
-    check_week(rt, 130, &capacities, &calendar, &heights, opening, log, 129)
+    check_week(rt, &plan, opening, log, 129)
 }
 
-fn report_writing(rt: &impl Print, answer: PlanWriting) -> io::Result<()> {
+fn report_writing(rt: &impl Print, answer: Result<usize, Refusal>) -> io::Result<()> {
     match answer {
-        PlanWriting::Refused(refusal) => report_refusal(rt, refusal),
-        PlanWriting::Written(length) => print_count(rt, b"written", length),
+        Err(refusal) => report_refusal(rt, refusal),
+        Ok(length) => print_count(rt, b"written", length),
     }
 }
 
 // Reads a plan text and writes the plan back.
-fn rewrite(text: &[u8], out: &mut [u8]) -> PlanWriting {
-    let mut capacities = [0u16; RoomNumber::MOST];
+fn rewrite(text: &[u8], out: &mut [u8]) -> Result<usize, Refusal> {
+    let mut capacities = [0u16; MOST_ROOMS];
     let mut symbols = [0u8; MOST_SYMBOLS];
     let mut task_calendars = [0u16; Bounds::MOST];
     let mut work_times = [0u16; Bounds::MOST];
     let mut heights = [0u16; MOST_HEIGHTS];
     let mut boxes = [0u16; MOST_BOUNDS];
-    let reading = plan_text::read_plan(
+    let read = plan_text::read_plan(
         text,
         &mut capacities,
         &mut symbols,
@@ -469,30 +361,19 @@ fn rewrite(text: &[u8], out: &mut [u8]) -> PlanWriting {
         &mut work_times,
         &mut heights,
         &mut boxes,
+    )?;
+    let all = first_symbol(read.calendars as u16, Duration(read.hours));
+    let each = read.rooms * read.tasks;
+    let cells = Bounds::NUMBERS * read.tasks;
+    let plan = Plan::new(
+        read.hours,
+        &capacities[..read.rooms],
+        &symbols[..all],
+        &task_calendars[..read.tasks],
+        &work_times[..read.tasks],
+        &heights[..each],
     );
-    match reading {
-        PlanReading::Refused(refusal) => PlanWriting::Refused(refusal),
-        PlanReading::Read {
-            hours,
-            rooms,
-            calendars,
-            tasks,
-        } => {
-            let all = first_symbol(calendars as u16, Duration(hours));
-            let each = rooms * tasks;
-            let cells = Bounds::NUMBERS * tasks;
-            plan_writing::write_plan(
-                hours,
-                &capacities[..rooms],
-                &symbols[..all],
-                &task_calendars[..tasks],
-                &work_times[..tasks],
-                &heights[..each],
-                &boxes[..cells],
-                out,
-            )
-        }
-    }
+    plan_writing::write_plan(&plan, &boxes[..cells], out)
 }
 
 // What marks the bytes that writing left as they were: no plan text has it.

@@ -1,18 +1,12 @@
 use mathlib.Core.Path.{sym, ◌∙◌}
-use borrow.Author.Tests.{eq-eqb, ne_eqb}
-use Rattle.units.proofs.Choices.{if-true, if-false}
-use Rattle.units.proofs.Ranges.{too_small, by_most}
-use Rattle.plan_format.specs.Text.{comes}
+use Rattle.plan_lines.proofs.Reaching.{plan-comes, begun-comes, unbegun-comes}
 use Rattle.plan_lines.proofs.may_come.Goals as goal
 
-pub returns-then-section-eq-PLAN : goal.returns-then-section-eq-PLAN
-unfolding comes
-returns-then-section-eq-PLAN c = sym (if-true _ _ _ (eq-eqb _ _ c.if-section-eq-PLAN.true))
+pub returns-then-eq : goal.returns-then-eq
+returns-then-eq c = c.eq-then-eq.ensures ∙ plan-comes _ _ (sym c.if-eq.ensures)
 
-pub returns-then-reached-lt-PLAN : goal.returns-then-reached-lt-PLAN
-unfolding comes
-returns-then-reached-lt-PLAN c = sym (if-false _ _ _ (ne_eqb _ _ c.if-section-eq-PLAN.false) ∙ too_small _ _ _ c.if-reached-lt-PLAN.true)
+pub returns-then-le : goal.returns-then-le
+returns-then-le c = c.le-then-le.ensures ∙ begun-comes _ _ (sym c.if-eq.ensures) (sym c.if-le.ensures)
 
-pub returns : goal.returns
-unfolding comes
-returns c = sym (if-false _ _ _ (ne_eqb _ _ c.if-section-eq-PLAN.false) ∙ by_most _ _ _ c.if-reached-lt-PLAN.false)
+pub returns-else-le : goal.returns-else-le
+returns-else-le c = c.if-le.false ∙ unbegun-comes _ _ (sym c.if-eq.ensures) (sym c.if-le.ensures)

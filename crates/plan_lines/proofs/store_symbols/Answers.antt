@@ -7,7 +7,7 @@ use Rattle.plan_lines.proofs.store_symbols.Goals as goal
 pub returns-then-at-calendar : goal.returns-then-at-calendar
 returns-then-at-calendar c =
     λ before count kept.
-    rw c.put_bytes.ensures.cells_left
+    rw c.put_all.ensures.cells_left
     (kept_more 0 most_symbols c.args.at before c.args.calendar.now c.args.symbols.now (omega arith) kept (omega arith))
 
 pub returns-else-at-calendar : goal.returns-else-at-calendar

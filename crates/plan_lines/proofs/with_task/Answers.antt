@@ -1,18 +1,19 @@
 use mathlib.Core.Path.{sym, ◌∙◌}
 use Rattle.plan_lines.proofs.Following.{task-broken, task-not, task-next}
+use Rattle.plan_lines.proofs.with_task.Goals.{then-not-may_come-via-then-not-may_come, then-not-may_come-via-else-not-may_come+then-not-is_task_line}
 use Rattle.plan_lines.proofs.with_task.Goals as goal
 
 pub returns-then-not-may_come : goal.returns-then-not-may_come
-returns-then-not-may_come c = λ r n symbols ns begin held. task-broken held ns c.may_come.ensures _ _ c.if-not-may_come.true
-
-pub returns-then-not-is_task_line : goal.returns-then-not-is_task_line
-returns-then-not-is_task_line c =
+returns-then-not-may_come c =
     λ r n symbols ns begin held.
-    task-not held ns c.may_come.ensures begin.counted c.is_task_line.ensures _ _ c.if-not-is_task_line.true
+    elim c.then-not-may_come.branch [
+      | then-not-may_come-via-then-not-may_come w ↦ task-broken held ns c.may_come.ensures _ _ w.if-not-may_come.true
+      | then-not-may_come-via-else-not-may_come+then-not-is_task_line w ↦
+          task-not held ns c.may_come.ensures begin.counted w.is_task_line.ensures _ _ w.if-not-is_task_line.true
+    ]
 
 pub store_task-requires : goal.store_task-requires
-store_task-requires c =
-    (c.requires.2, c.requires.1, sym c.is_task_line.ensures ∙ c.if-not-is_task_line.false)
+store_task-requires c = (c.requires.2, c.requires.1, sym c.is_task_line.ensures ∙ c.if-not-is_task_line.false)
 
 pub returns : goal.returns
 returns c =

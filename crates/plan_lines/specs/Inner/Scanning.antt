@@ -1,16 +1,15 @@
 -- What the code keeps of a plan text on its way through the lines: the symbols in bytes of their own, and all numbers in one store.
 use Rattle.std.specs.Prelude.{◌≡◌, List, map, ℕ, zero, suc, ◌+◌, ◌*◌, ◌≤◌, ◌<◌, length, get_or, set, take, drop}
-use Rattle.std.specs.Prelude.{Option, None, Some}
+use Rattle.std.specs.Prelude.{Option, None, Some, Result, Ok, Err}
 use Rattle.units.specs.Limits.{most_rooms, most_tasks, box_numbers}
 use Rattle.units.specs.Lists.{list_to}
 use Rattle.plan.specs.Plan.{Plan, plan}
-use Rattle.plan.specs.Refusals.{fault, Answer, refused, answered}
+use Rattle.plan.specs.declared.Refusal.{Refusal}
+use Rattle.plan.specs.Refusals.{Answer, refused, answered, fault_of}
 use Rattle.plan_lines.specs.declared.Scan.{Scan}
-use Rattle.plan_lines.specs.declared.MaybeScan.{MaybeScan}
-use Rattle.plan_lines.specs.declared.MaybeScan.TheVariants.{Broken, Next}
-use Rattle.plan_lines.specs.declared.Scanned.{Scanned}
-use Rattle.plan_lines.specs.declared.Scanned.TheVariants.{Malformed, Whole}
-use Rattle.plan_format.specs.Text.{Read, most_bytes}
+use Rattle.plan_lines.specs.declared.Section.{Section}
+use Rattle.plan_lines.specs.declared.Section.TheVariants as section_is
+use Rattle.plan_format.specs.Text.{Read, most_bytes, plan_section, cal_section, task_section}
 use Rattle.plan_format.specs.Reading.{joined, box_of, all_of, most_symbols, most_heights, most_bounds}
 
 -- ---- a line's numbers
@@ -87,13 +86,20 @@ stored_boxes tasks cells = section boxes_at (box_numbers * tasks) cells
 
 -- ---- from line to line
 
+-- the number of a section that the code names
+abbrev pub section_number : Section → ℕ
+section_number section_is.Start = 0
+section_number section_is.Plan = plan_section
+section_number section_is.Calendars = cal_section
+section_number section_is.Tasks = task_section
+
 -- everything that is counted; no more than the bytes of the text
 abbrev pub counted : Scan → ℕ
 counted s = s.symbols + s.calendars + s.tasks
 
 -- what has been read, as it is counted and stored once n bytes are
 pub record Holds (r : Read) (s : Scan) (n : ℕ) (symbols cells : List ℕ) : Type 0 where
-  pub reached : s.reached ≡ r.reached
+  pub reached : section_number s.reached ≡ r.reached
   pub hours : s.hours ≡ r.hours
   pub rooms : s.rooms ≡ length r.capacities
   pub calendars : s.calendars ≡ length r.calendars
@@ -110,14 +116,14 @@ pub record Sized (symbols cells : List ℕ) : Type 0 where
   pub of_cells : length cells ≡ store_size
 
 -- what has been read with another line, if the line keeps to the rules
-unfoldable pub Follows : Option Read → MaybeScan → ℕ → List ℕ → List ℕ → Type 0
-Follows o Broken n symbols cells = o ≡ None
-Follows o (Next s) n symbols cells = (r : Read) × (o ≡ Some r) × Holds r s n symbols cells
+unfoldable pub Follows : Option Read → Option Scan → ℕ → List ℕ → List ℕ → Type 0
+Follows o None n symbols cells = o ≡ None
+Follows o (Some s) n symbols cells = (r : Read) × (o ≡ Some r) × Holds r s n symbols cells
 
 -- what the whole text comes to
-unfoldable pub Scans : Answer Read → Scanned → List ℕ → List ℕ → Type 0
-Scans a (Malformed line) symbols cells = a ≡ refused (fault 1 line)
-Scans a (Whole s) symbols cells = (r : Read) × (a ≡ answered r) × Holds r s most_bytes symbols cells
+unfoldable pub Scans : Answer Read → Result Scan Refusal → List ℕ → List ℕ → Type 0
+Scans a (Err refusal) symbols cells = a ≡ refused (fault_of refusal)
+Scans a (Ok s) symbols cells = (r : Read) × (a ≡ answered r) × Holds r s most_bytes symbols cells
 
 -- a whole text as it is stored
 pub record Stored (s : Scan) (symbols cells : List ℕ) : Type 0 where

@@ -41,12 +41,12 @@ overflow_add-count c = omega (arith, c.if-log_kinds-count.false, c.loop-step.inv
 pub move_bounds-next-requires : goal.move_bounds-next-requires
 move_bounds-next-requires c =
     let inv = c.loop-step.invariant in
-    filter-may-move inv (c.next_turn-turn.ensures.answer _ _ _ refl inv.keeps) 0 c.in-At.is c.if-log_kinds-count.false
+    filter-may-move inv (c.next_turn.ensures.answer inv.keeps) 0 c.in-At.is c.if-log_kinds-count.false
     c.in-Moved.is
-    (c.next_turn-turn.ensures.there _ _ _ (turn-moves c.in-At.is c.in-Moved.is))
+    (c.next_turn.ensures.there _ _ _ (turn-moves c.in-At.is c.in-Moved.is))
 
-pub next_turn-turn-requires : goal.next_turn-turn-requires
-next_turn-turn-requires c = let p = c.loop-step.invariant.keeps.passed in (ready _ _ p, p.hours)
+pub next_turn-requires : goal.next_turn-requires
+next_turn-requires c = let p = c.loop-step.invariant.keeps.passed in (ready _ _ p, p.hours)
 
 pub loop-step-smaller : goal.loop-step-smaller
 loop-step-smaller c =
@@ -55,22 +55,22 @@ loop-step-smaller c =
 pub loop-step-preserved : goal.loop-step-preserved
 loop-step-preserved c =
     let inv = c.loop-step.invariant in
-    goes_on inv (c.next_turn-turn.ensures.answer _ _ _ refl inv.keeps) 0 c.in-At.is c.if-log_kinds-count.false c.in-Moved.is
-    (c.next_turn-turn.ensures.there _ _ _ (turn-moves c.in-At.is c.in-Moved.is))
+    goes_on inv (c.next_turn.ensures.answer inv.keeps) 0 c.in-At.is c.if-log_kinds-count.false c.in-Moved.is
+    (c.next_turn.ensures.there _ _ _ (turn-moves c.in-At.is c.in-Moved.is))
     c.move_bounds-next.ensures
 
 pub returns-in_default : goal.returns-in_default
 returns-in_default c =
     let inv = c.loop-step.invariant in
-    settles inv (c.next_turn-turn.ensures.answer _ _ _ refl inv.keeps) _ c.in_default.is
+    settles inv (c.next_turn.ensures.answer inv.keeps) _ c.in_default.is
 
 pub returns-then-log_kinds-count : goal.returns-then-log_kinds-count
 returns-then-log_kinds-count c =
     let inv = c.loop-step.invariant in
-    fills inv (c.next_turn-turn.ensures.answer _ _ _ refl inv.keeps) _ c.in-At.is c.if-log_kinds-count.true
+    fills inv (c.next_turn.ensures.answer inv.keeps) _ c.in-At.is c.if-log_kinds-count.true
 
 pub returns-in_default-judged : goal.returns-in_default-judged
 returns-in_default-judged c =
     let inv = c.loop-step.invariant in
-    stops_at inv (c.next_turn-turn.ensures.answer _ _ _ refl inv.keeps) _ c.in-At.is c.if-log_kinds-count.false
+    stops_at inv (c.next_turn.ensures.answer inv.keeps) _ c.in-At.is c.if-log_kinds-count.false
     c.in_default-judged.not-Moved

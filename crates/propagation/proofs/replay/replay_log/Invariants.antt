@@ -1,7 +1,7 @@
+use Rattle.plan.specs.Lent.{plan_in}
 use mathlib.Core.Path.{◌≡◌}
 use Prim.Native.Nat.{◌≤◌}
 use lib.ListN.{length}
-use Rattle.plan.specs.Plan.{plan}
 use Rattle.propagation.proofs.Replaying.{Replaying}
 use Rattle.propagation.proofs.replay.replay_log.Given as goal
 
@@ -9,5 +9,5 @@ abbrev pub invariant-loop-k : goal.invariant-loop-k
 invariant-loop-k l =
     (l.k ≤ l.k-end)
     × (l.k-end ≡ length l.log_kinds)
-    × Replaying (plan l.hours.0 l.capacities l.calendars l.task_calendars l.work_times l.heights) l.from l.said l.initial.boxes
+    × Replaying (plan_in l.plan) l.from l.said l.initial.boxes
     l.log_kinds l.log_tasks l.log_hours l.k l.impossible l.boxes l.fits

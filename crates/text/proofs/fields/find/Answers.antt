@@ -1,10 +1,10 @@
-use Rattle.std.proofs.Common.{rules, ◌≡◌, ◌∙◌, tests}
+use Rattle.std.proofs.Common.{rules, ◌≡◌, tests}
 use Rattle.std.specs.List.{position}
 use lib.Dec.{eqb}
 use Rattle.std.proofs.lemmas.Iterator.{YieldsList-from_slice}
 use Rattle.std.proofs.lemmas.Iterator.Search.{position_from_yields_List}
-use Rattle.text.proofs.Parts.{first_or_length}
-use Rattle.text.proofs.fields.end_of.Goals as goal
+use Rattle.text.proofs.Parts.{first_found}
+use Rattle.text.proofs.fields.find.Goals as goal
 
 pub returns : goal.returns
 returns c =
@@ -12,4 +12,4 @@ returns c =
     position_from_yields_List (λ b. eqb b c.args.separator) _ _ c.position.result c.position.ensures.ran (YieldsList-from_slice _ c.iter.ensures.rest)
     (λ x b q k. search (rules, tests))
     in
-    c.unwrap_or.ensures ∙ first_or_length c.args.separator c.args.bytes.now found
+    rw found (first_found c.args.separator c.args.bytes.now)

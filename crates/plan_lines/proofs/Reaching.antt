@@ -1,0 +1,64 @@
+-- Laws of the sections of a text: their order is that of their numbers. Assumes nothing.
+use mathlib.Core.Path.{◌≡◌, refl, sym, ◌∙◌}
+use mathlib.Core.Bool.{true, false}
+use lib.Dec.{eqb, leb}
+use denote.Enum.Bare.{sameb}
+use Rattle.std.specs.Ordering.{partial_le}
+use Rattle.units.specs.Limits.{within}
+use Rattle.units.proofs.Choices.{if-true, if-false, and-rest, not_left}
+use Rattle.plan_format.specs.Text.{plan_section, comes}
+use Rattle.plan_lines.specs.contracts.Section.{the_type}
+use Rattle.plan_lines.specs.contracts.SectionPartialOrd.TheImpl.{partial_cmp-value}
+use Rattle.plan_lines.specs.declared.Section.{Section}
+use Rattle.plan_lines.specs.declared.Section.TheVariants.{Start, Plan, Calendars, Tasks}
+use Rattle.plan_lines.specs.Inner.Scanning.{section_number}
+
+is-plan : (a : Section) → sameb the_type a Plan ≡ eqb (section_number a) plan_section
+is-plan Start = refl
+is-plan Plan = refl
+is-plan Calendars = refl
+is-plan Tasks = refl
+
+is-start : (a : Section) → sameb the_type a Start ≡ eqb (section_number a) 0
+is-start Start = refl
+is-start Plan = refl
+is-start Calendars = refl
+is-start Tasks = refl
+
+pub le-section : (a b : Section) → partial_le partial_cmp-value.it a b ≡ leb (section_number a) (section_number b)
+le-section Start Start = refl
+le-section Start Plan = refl
+le-section Start Calendars = refl
+le-section Start Tasks = refl
+le-section Plan Start = refl
+le-section Plan Plan = refl
+le-section Plan Calendars = refl
+le-section Plan Tasks = refl
+le-section Calendars Start = refl
+le-section Calendars Plan = refl
+le-section Calendars Calendars = refl
+le-section Calendars Tasks = refl
+le-section Tasks Start = refl
+le-section Tasks Plan = refl
+le-section Tasks Calendars = refl
+le-section Tasks Tasks = refl
+
+-- what may come, test by test
+module _ (section reached : Section) where
+  pub plan-comes : sameb the_type section Plan ≡ true → sameb the_type reached Start ≡ comes (section_number section) (section_number reached)
+  unfolding comes
+  plan-comes p = is-start reached ∙ sym (if-true _ _ _ (sym (is-plan section) ∙ p))
+
+  module _ (p : sameb the_type section Plan ≡ false) where
+    others-come : within plan_section (section_number section) (section_number reached) ≡ comes (section_number section) (section_number reached)
+    unfolding comes
+    others-come = sym (if-false _ _ _ (sym (is-plan section) ∙ p))
+
+    pub begun-comes : partial_le partial_cmp-value.it Plan reached ≡ true
+        → partial_le partial_cmp-value.it reached section ≡ comes (section_number section) (section_number reached)
+    unfolding within
+    begun-comes q = le-section reached section ∙ sym (and-rest _ _ (sym (le-section Plan reached) ∙ q)) ∙ others-come
+
+    pub unbegun-comes : partial_le partial_cmp-value.it Plan reached ≡ false → false ≡ comes (section_number section) (section_number reached)
+    unfolding within
+    unbegun-comes q = sym (not_left _ _ (sym (le-section Plan reached) ∙ q)) ∙ others-come
