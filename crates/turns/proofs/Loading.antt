@@ -22,7 +22,6 @@ use Rattle.units.proofs.Choices.{and_both, not_left, not_right, if-true, if-fals
 use Rattle.units.proofs.Heights.{number_of}
 use Rattle.units.proofs.Multiples.{part-within}
 use Rattle.units.proofs.Summing.{where-more, where-skip, where-most}
-use Rattle.units.proofs.Choices.{and-rest}
 use Rattle.plan.specs.Plan.{room_part}
 use Rattle.calendar.specs.declared.Window.{Window}
 use Rattle.calendar.specs.Rule.{lst, ect}

@@ -11,18 +11,16 @@ use lib.Dec.{leb, ltb}
 use lib.ListN.{length, get_or}
 use borrow.Author.Tests.{lt-ltb, le-ltb, le-leb, lt-leb}
 use Rattle.units.specs.Choice.{◌and◌, some_if, on_option, ◌or_else◌, first_of}
-use Rattle.units.specs.Limits.{hour, is_hour, is_room_number}
-use Rattle.units.specs.declared.Hour.{Hour}
 use Rattle.units.specs.declared.Bounds.{Bounds}
 use Rattle.std.specs.Option.{MatchOption, option_map}
 use Rattle.std.specs.List.{AllWithin, HoldsAt}
 use Rattle.units.proofs.Choices.{and_both, not_left, not_right, if-true, if-all, some-if, none-if}
-use Rattle.units.proofs.Choices.{first-all-none, first_next}
+use Rattle.units.proofs.Choices.{first-all-none}
 use Rattle.units.proofs.Choices.{first-hit}
 use Rattle.plan.specs.Plan.{room_part}
 use Rattle.plan.specs.Boxes.{bounds_at}
 use Rattle.plan.proofs.Passed.{room-length, room_at}
-use Rattle.units.proofs.Choices.{and-rest, first-eq, first_rest, outer-ends, outer-goes-on}
+use Rattle.units.proofs.Choices.{and-rest, first-eq, first_rest, else-none, else-some}
 use Rattle.calendar.specs.declared.Window.{Window}
 use Rattle.calendar.specs.Rule.{lst, ect}
 use Rattle.steps.specs.declared.Step.{Step}
@@ -39,12 +37,6 @@ else-last : {A : Type 0} (x : Option A) → (x or_else None) ≡ x
 unfolding ◌or_else◌
 else-last None = refl
 else-last (Some a) = refl
-
--- the second is asked for where the first is not there, as the library's own says it
-pub chained : {A : Type 0} (x y r : Option A) → MatchOption x (r ≡ y) (λ a. r ≡ Some a) → r ≡ (x or_else y)
-unfolding ◌or_else◌
-chained None y r h = h
-chained (Some a) y r h = h
 
 -- the first number of a list that passes a test, as the library's own says it
 module _ {A : Type 0} (test : ℕ → Bool) (f : ℕ → A) (xs : List ℕ) where
@@ -260,14 +252,13 @@ module _ (hours tasks : ℕ) (capacities heights boxes : List ℕ) (fits : List 
     unfolding first_by first_excess first_of_kind letter_of
     by-load e = e ∙ ap₂ ◌or_else◌ overload-first (ap (◌or_else◌ _) (sym (else-last _)))
 
-  module _ {r : Option Step} (e : r ≡ first_calendar boxes fits tasks) where
-    pub next-calendar : {x : Step} → r ≡ Some x
-        → r ≡ first_by (length capacities) tasks hours (admitted_by hours tasks capacities heights boxes fits) filter_order
-    unfolding first_by filter_order
-    next-calendar q = outer-ends _ _ (e ∙ calendar-first) q
+  pub next-calendar : {x : Step} → first_calendar boxes fits tasks ≡ Some x
+      → Some x ≡ first_by (length capacities) tasks hours (admitted_by hours tasks capacities heights boxes fits) filter_order
+  unfolding first_by filter_order
+  next-calendar e = sym (else-some _ _ _ (sym calendar-first ∙ e))
 
-    pub next-by-load : {s : Option Step} → r ≡ None
-        → s ≡ first_by (length capacities) tasks hours (admitted_by hours tasks capacities heights boxes fits) load_order
-        → s ≡ first_by (length capacities) tasks hours (admitted_by hours tasks capacities heights boxes fits) filter_order
-    unfolding first_by filter_order
-    next-by-load q k = outer-goes-on _ _ (e ∙ calendar-first) q k
+  pub next-by-load : {s : Option Step} → first_calendar boxes fits tasks ≡ None
+      → s ≡ first_by (length capacities) tasks hours (admitted_by hours tasks capacities heights boxes fits) load_order
+      → s ≡ first_by (length capacities) tasks hours (admitted_by hours tasks capacities heights boxes fits) filter_order
+  unfolding first_by filter_order
+  next-by-load e k = k ∙ sym (else-none _ _ (sym calendar-first ∙ e))

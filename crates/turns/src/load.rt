@@ -1,6 +1,5 @@
 // The load of each hour, from the answers of the calendar rule that are kept.
 ghost use Rattle.std.specs.Prelude.{◌≡◌, ℕ, ◌+◌, ◌*◌, ◌≤◌, ◌<◌, length, get_or, Some};
-ghost use Rattle.units.specs.Limits.{most_hours};
 ghost use Rattle.plan.specs.Plan.{room_count, task_count};
 ghost use Rattle.plan.specs.Lent.{plan_in};
 ghost use Rattle.steps.specs.Load.{must_run};
@@ -63,8 +62,7 @@ fn fill_room(loads: &mut [u16], fits: &Fits, heights: &[u16])
 // The numbers, which are 0, become the loads of the hours, room by room.
 pub fn fill_loads(loads: &mut [u16], plan: &Plan, fits: &Fits)
     requires { let P = plan_in plan.now in
-        (P.shifts.hours ≤ most_hours)
-        × (length loads.old ≡ room_count P * P.shifts.hours)
+        (length loads.old ≡ room_count P * P.shifts.hours)
         × ((k : ℕ) → k < length loads.old → get_or loads.old k 0 ≡ 0)
         × RoomsReady (room_count P) (task_count P) P.heights }
     ensures { let P = plan_in plan.now in

@@ -72,7 +72,6 @@ fn is_crowded(w: Window, plan: &Plan, loads: &[u16], i: usize, t: Hour) -> bool
     requires { let P = plan_in plan.now in
         RoomsReady (room_count P) (task_count P) P.heights
         × ((fits : List (Option Window)) × Loaded P.shifts.hours (room_count P) (task_count P) loads.now fits P.heights)
-        × (P.shifts.hours ≤ most_hours)
         × (i < task_count P)
         × (t.0 < P.shifts.hours) }
     ensures { let P = plan_in plan.now in
@@ -95,12 +94,12 @@ fn is_crowded(w: Window, plan: &Plan, loads: &[u16], i: usize, t: Hour) -> bool
 fn first_excess(side: Side, plan: &Plan, boxes: &[u16], fits: &Fits, loads: &[u16]) -> Option<Step>
     requires { let P = plan_in plan.now in
         Ready (room_count P) (task_count P) P.heights boxes.now
-        × Loaded P.shifts.hours (room_count P) (task_count P) loads.now fits.now P.heights
-        × (P.shifts.hours ≤ most_hours) }
+        × Loaded P.shifts.hours (room_count P) (task_count P) loads.now fits.now P.heights }
     ensures { let P = plan_in plan.now in
         result ≡ first_excess P.shifts.hours (task_count P) P.capacities P.heights boxes.now fits.now (is_lower side) }
 {
     let mut found = None;
+    // 01 orders labelled loops over task and hour, left from inside with the first admitted step.
     'outer: for i in 0..plan.shifts.task_calendars.len() {
         let Some(w) = fits[i] else {
             continue;
@@ -133,9 +132,15 @@ fn first_with_loads(plan: &Plan, boxes: &[u16], fits: &Fits, loads: &mut [u16]) 
         (admitted_by P.shifts.hours (task_count P) P.capacities P.heights boxes.now fits.now) load_order }
 {
     load::fill_loads(loads, plan, fits);
-    first_overload(plan.shifts.hours.0 as usize, loads, plan.capacities)
-        .or_else(|| first_excess(Side::Lower, plan, boxes, fits, loads))
-        .or_else(|| first_excess(Side::Upper, plan, boxes, fits, loads))
+    let hours = plan.shifts.hours.0 as usize;
+    // Tried as a chain of or_else: without clauses, nothing is proved of what its closures answer.
+    if let Some(overload) = first_overload(hours, loads, plan.capacities) {
+        return Some(overload);
+    }
+    if let Some(lower) = first_excess(Side::Lower, plan, boxes, fits, loads) {
+        return Some(lower);
+    }
+    first_excess(Side::Upper, plan, boxes, fits, loads)
 }
 
 // The most loads: one an hour in each room.
@@ -167,5 +172,8 @@ pub fn next_step(plan: &Plan, boxes: &[u16], fits: &Fits) -> Option<Step>
         result ≡ first_by (room_count P) (task_count P) P.shifts.hours
         (admitted_by P.shifts.hours (task_count P) P.capacities P.heights boxes.now fits.now) filter_order }
 {
-    first_calendar(plan.tasks(), boxes, fits).or_else(|| first_by_load(plan, boxes, fits))
+    if let Some(calendar) = first_calendar(plan.tasks(), boxes, fits) {
+        return Some(calendar);
+    }
+    first_by_load(plan, boxes, fits)
 }

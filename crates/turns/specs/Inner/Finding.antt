@@ -1,5 +1,5 @@
 -- The words of the search for the first admitted step. Only contracts of private functions cite this; 01 has no such terms.
-use Rattle.std.specs.Prelude.{Bool, true, false, ◌≡◌, List, [], ◌∷◌, ℕ, ◌+◌, ◌*◌, ◌≤◌, ◌<◌, ltb, length, get_or, if◌then◌else◌}
+use Rattle.std.specs.Prelude.{Bool, true, false, ◌≡◌, List, [], ◌∷◌, ℕ, ◌+◌, ◌*◌, ◌<◌, ltb, length, get_or, if◌then◌else◌}
 use Rattle.std.specs.Prelude.{Option, None}
 use Rattle.units.specs.Choice.{some_if, first_of}
 use Rattle.units.specs.declared.Bounds.{Bounds}

@@ -7,7 +7,7 @@ use lib.ListN.{length, length-append}
 use Rattle.std.proofs.lemmas.Slice.Zip.{zip_turn, zip_end}
 use Rattle.units.proofs.Heights.{number_of}
 use Rattle.steps.specs.Load.{must_run}
-use Rattle.turns.proofs.Loading.{load_to, load-none, load-all, load_skips, load_adds, load-small}
+use Rattle.turns.proofs.Loading.{load-none, load-all, load_skips, load_adds, load-small}
 use Rattle.turns.proofs.load.load_at.Goals as goal
 
 pub loop-fit-init : goal.loop-fit-init

@@ -1,14 +1,16 @@
-use Rattle.std.proofs.Common.{rules, true, false, List, ◌≡◌, ℕ, ◌+◌, ◌*◌, ◌≤◌, ◌<◌, length, get_or, Option, ◌-◌, ◌/◌, ◌%◌, Bool, nat_eq, nat_lt, [], ◌∷◌, ◌++◌, slice_set, bit_and, bit_or, Fits, w8, w32, w64, Bor, MutBor}
-use Rattle.units.specs.Limits.{most_hours, most_rooms, most_tasks, box_numbers}
-use Rattle.plan.specs.Plan.{room_count, task_count}
-use Rattle.plan.specs.Lent.{plan_in}
-use Rattle.calendar.specs.declared.Window.{Window}
-use Rattle.steps.specs.Filter.{first_by, filter_order}
-use Rattle.turns.specs.Inner.Kept.{excess_by, calendar_by, admitted_by, is_lower}
-use Rattle.turns.specs.Inner.Ready.{RoomsReady, Ready}
-use Rattle.turns.specs.Inner.Finding.{admits, Loaded, load_order, first_calendar, room_overload, first_overload, first_excess}
+use mathlib.Core.Path.{sym}
+use Prim.Native.Nat.{◌*◌}
+use native.Mathlib.Nat.{mul-le-mul}
+use Rattle.units.specs.Limits.{most_hours, most_rooms}
+use Rattle.turns.proofs.Loading.{lent_length, lent-zero}
 use Rattle.turns.proofs.search.first_by_load.Goals as goal
 
--- src/search.rt:126:1
-pub returns : goal.returns
-returns c = ?
+pub first_with_loads-requires : goal.first_with_loads-requires
+first_with_loads-requires c =
+    let few = c.if-count.true in
+    (c.requires.0, c.requires.1, sym (lent_length most_hours _ few), lent-zero most_hours _ few)
+
+pub first_with_loads-requires-2 : goal.first_with_loads-requires-2
+first_with_loads-requires-2 c =
+    let few = mul-le-mul c.requires.0.rooms_ready.few_rooms c.requires.1 in
+    (c.requires.0, c.requires.1, sym (lent_length (most_rooms * most_hours) _ few), lent-zero (most_rooms * most_hours) _ few)

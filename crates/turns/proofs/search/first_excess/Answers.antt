@@ -1,4 +1,5 @@
 use mathlib.Core.Path.{refl, sym, ◌∙◌}
+use Prim.Native.Nat.{◌<◌}
 use native.Mathlib.Omega.{arith}
 use Rattle.units.proofs.Choices.{some-if, none-if, first_next, first-hit}
 use Rattle.units.proofs.Searching.{unfound-first, unfound-next, unfound-hit, unfound-end}
@@ -43,6 +44,6 @@ returns-then-is_crowded c =
     let tested =
     test-hour _ _ _ _ _ _ _ _ _ _ c.in-Some.is c.bounds_at-b.ensures _ _ _ _ _ c.first_hour-t.ensures c.end_hour.ensures
     c.min-end.ensures c.loop-t.auto.t c.loop-t-test.true c.outer-test.true (c.is_crowded.ensures _ c.requires.1) in
-    let below = omega (arith, c.loop-t-test.true, c.min-end.ensures) in
+    let below : c.loop-t.t < c.args.plan.now.shifts.hours.0 = omega (arith, c.loop-t-test.true, c.min-end.ensures) in
     rw c.letter.ensures
     (sym (unfound-hit c.outer.invariant.1 c.outer-test.true (first-hit _ _ _ _ below c.loop-t.invariant.1 (tested ∙ some-if _ _ c.if-is_crowded.true))))

@@ -1,14 +1,23 @@
-use Rattle.std.proofs.Common.{rules, true, false, List, ◌≡◌, ℕ, ◌+◌, ◌*◌, ◌≤◌, ◌<◌, length, get_or, Option, ◌-◌, ◌/◌, ◌%◌, Bool, nat_eq, nat_lt, [], ◌∷◌, ◌++◌, slice_set, bit_and, bit_or, Fits, w8, w32, w64, Bor, MutBor}
-use Rattle.units.specs.Limits.{most_hours, most_rooms, most_tasks, box_numbers}
-use Rattle.plan.specs.Plan.{room_count, task_count}
-use Rattle.plan.specs.Lent.{plan_in}
-use Rattle.calendar.specs.declared.Window.{Window}
-use Rattle.steps.specs.Filter.{first_by, filter_order}
-use Rattle.turns.specs.Inner.Kept.{excess_by, calendar_by, admitted_by, is_lower}
-use Rattle.turns.specs.Inner.Ready.{RoomsReady, Ready}
-use Rattle.turns.specs.Inner.Finding.{admits, Loaded, load_order, first_calendar, room_overload, first_overload, first_excess}
+use mathlib.Core.Path.{sym, ◌∙◌}
+use Rattle.units.proofs.Choices.{else-none, else-some}
+use Rattle.turns.proofs.Searching.{by-load}
 use Rattle.turns.proofs.search.first_with_loads.Goals as goal
 
--- src/search.rt:125:1
+pub returns-in-Some : goal.returns-in-Some
+returns-in-Some c =
+    by-load _ _ _ _ _ _ _ c.fill_loads.ensures.1 (sym (else-some _ _ _ (sym c.first_overload.ensures ∙ c.in-Some.is)))
+
+pub returns-in-Some-first_excess : goal.returns-in-Some-first_excess
+returns-in-Some-first_excess c =
+    by-load _ _ _ _ _ _ _ c.fill_loads.ensures.1
+    (sym
+    (else-none _ _ (sym c.first_overload.ensures ∙ c.in_default.is)
+    ∙ else-some _ _ _ (sym c.first_excess.ensures ∙ c.in-Some-first_excess.is)))
+
 pub returns : goal.returns
-returns c = ?
+returns c =
+    by-load _ _ _ _ _ _ _ c.fill_loads.ensures.1
+    (c.first_excess-2.ensures
+    ∙ sym
+    (else-none _ _ (sym c.first_overload.ensures ∙ c.in_default.is)
+    ∙ else-none _ _ (sym c.first_excess.ensures ∙ c.in_default-first_excess.is)))

@@ -13,8 +13,8 @@ use Rattle.turns.proofs.search.is_crowded.Goals as goal
 pub exceeds-requires : goal.exceeds-requires
 exceeds-requires c =
     let (fits, loaded) = c.requires.1 in
-    let own = c.height_at-height.ensures ∙ ap height (sym (room_at _ _ _ _ c.requires.3)) in
-    let load = number_of c.height_at-load.ensures ∙ loaded.load _ c.loop-room-test.true _ c.requires.4 in
+    let own = c.height_at-height.ensures ∙ ap height (sym (room_at _ _ _ _ c.requires.2)) in
+    let load = number_of c.height_at-load.ensures ∙ loaded.load _ c.loop-room-test.true _ c.requires.3 in
     load-most fits _ _ (c.requires.0.room _ c.loop-room-test.true) _ _ load own
 
 pub loop-room-init : goal.loop-room-init
@@ -23,15 +23,15 @@ loop-room-init c fits loaded = unmet-first
 pub returns-then-exceeds : goal.returns-then-exceeds
 unfolding excess_by
 returns-then-exceeds c fits loaded =
-    let own = c.height_at-height.ensures ∙ ap height (sym (room_at _ _ _ _ c.requires.3)) in
-    let load = number_of c.height_at-load.ensures ∙ loaded.load _ c.loop-room-test.true _ c.requires.4 in
+    let own = c.height_at-height.ensures ∙ ap height (sym (room_at _ _ _ _ c.requires.2)) in
+    let load = number_of c.height_at-load.ensures ∙ loaded.load _ c.loop-room-test.true _ c.requires.3 in
     let tested = room-excess _ _ _ fits _ _ _ _ _ _ _ refl own load refl c.exceeds.ensures in
     sym (some-hit _ _ _ c.loop-room-test.true (sym tested ∙ c.if-exceeds.true))
 
 pub loop-room-preserved : goal.loop-room-preserved
 loop-room-preserved c fits loaded =
-    let own = c.height_at-height.ensures ∙ ap height (sym (room_at _ _ _ _ c.requires.3)) in
-    let load = number_of c.height_at-load.ensures ∙ loaded.load _ c.loop-room-test.true _ c.requires.4 in
+    let own = c.height_at-height.ensures ∙ ap height (sym (room_at _ _ _ _ c.requires.2)) in
+    let load = number_of c.height_at-load.ensures ∙ loaded.load _ c.loop-room-test.true _ c.requires.3 in
     let tested = room-excess _ _ _ fits _ _ _ _ _ _ _ refl own load refl c.exceeds.ensures in
     unmet-next (c.loop-room.invariant fits loaded) c.loop-room-test.true (sym tested ∙ c.if-exceeds.false)
 

@@ -1,7 +1,6 @@
 use Rattle.calendar.specs.declared.Window.{Window}
 use Rattle.std.specs.Prelude.{Option}
 use mathlib.Core.List.{List}
-use lib.ListN.{length}
 use Rattle.units.proofs.Searching.{Unmet}
 use Rattle.plan.specs.Plan.{task_count, room_count}
 use Rattle.plan.specs.Lent.{plan_in}

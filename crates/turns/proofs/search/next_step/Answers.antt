@@ -1,30 +1,12 @@
-use Rattle.std.proofs.Common.{rules, true, false, List, ◌≡◌, ℕ, ◌+◌, ◌*◌, ◌≤◌, ◌<◌, length, get_or, Option, ◌-◌, ◌/◌, ◌%◌, Bool, nat_eq, nat_lt, [], ◌∷◌, ◌++◌, slice_set, bit_and, bit_or, Fits, w8, w32, w64, Bor, MutBor}
-use Rattle.units.specs.Limits.{most_hours, most_rooms, most_tasks, box_numbers}
-use Rattle.plan.specs.Plan.{room_count, task_count}
-use Rattle.plan.specs.Lent.{plan_in}
-use Rattle.calendar.specs.declared.Window.{Window}
-use Rattle.steps.specs.Filter.{first_by, filter_order}
-use Rattle.turns.specs.Inner.Kept.{excess_by, calendar_by, admitted_by, is_lower}
-use Rattle.turns.specs.Inner.Ready.{RoomsReady, Ready}
-use Rattle.turns.specs.Inner.Finding.{admits, Loaded, load_order, first_calendar, room_overload, first_overload, first_excess}
+use mathlib.Core.Path.{sym, ap, ◌∙◌}
+use Rattle.turns.specs.Inner.Finding.{first_calendar}
+use Rattle.turns.proofs.Searching.{next-calendar, next-by-load}
 use Rattle.turns.proofs.search.next_step.Goals as goal
 
--- src/search.rt:156:9
-pub returns-then-is_some : goal.returns-then-is_some
-returns-then-is_some c = ?
+pub returns-in-Some : goal.returns-in-Some
+returns-in-Some c =
+    next-calendar _ _ _ _ _ _ (sym (c.first_calendar.ensures ∙ ap (first_calendar _ _) c.tasks.ensures) ∙ c.in-Some.is)
 
--- src/search.rt:161:9
-pub first_by_load-requires : goal.first_by_load-requires
-first_by_load-requires c = ?
-
--- src/search.rt:161:9
-pub returns-then-count : goal.returns-then-count
-returns-then-count c = ?
-
--- src/search.rt:164:5
-pub first_by_load-requires-2 : goal.first_by_load-requires-2
-first_by_load-requires-2 c = ?
-
--- src/search.rt:147:1
 pub returns : goal.returns
-returns c = ?
+returns c =
+    next-by-load _ _ _ _ _ _ (sym (c.first_calendar.ensures ∙ ap (first_calendar _ _) c.tasks.ensures) ∙ c.in_default.is) c.first_by_load.ensures
