@@ -26,6 +26,7 @@ module _ (S : Shifts) (boxes : List ℕ) (i : ℕ) (part : List ℕ) (b : Bounds
     (is-part : part ≡ calendar_of S i) (is-box : b ≡ bounds_at boxes i) where
   -- what the rule's core asks
   pub core-asks : Fitting S boxes i → RuleReady part b
+  unfolding calendar_of calendar_at
   core-asks f =
       let long : length part ≡ S.hours = rw is-part (simp (length-take, length-drop) (omega (arith, f.calendar))) in
       let high : b.latest.0 < S.hours = rw is-box f.latest in
