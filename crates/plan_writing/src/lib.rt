@@ -1,7 +1,7 @@
 // Plan text: writing a plan.
 #![tactic(auto)]
 
-ghost use Rattle.std.specs.Prelude.{◌∷◌, ◌≡◌, ℕ, ◌+◌, ◌*◌, ◌≤◌, ◌<◌, length, get_or, take};
+ghost use Rattle.std.specs.Prelude.{◌∷◌, ◌≡◌, ℕ, ◌+◌, ◌*◌, ◌≤◌, ◌<◌, length, take};
 ghost use Rattle.units.specs.Limits.{most_calendars, most_rooms};
 ghost use Rattle.text.specs.Lines.{ended};
 ghost use Rattle.text.specs.Putting.{Put};
@@ -11,7 +11,7 @@ ghost use Rattle.plan.specs.Refusals.{answered, answer_of};
 ghost use Rattle.plan.specs.Passed.{Passed};
 ghost use Rattle.plan.specs.Lent.{shifts_in, plan_in};
 ghost use Rattle.plan_format.specs.Records.{cal_record, record_line};
-ghost use Rattle.plan_format.specs.Writing.{heights_at, text_of_plan, write_end, write_plan, ReadsBack};
+ghost use Rattle.plan_format.specs.Writing.{text_of_plan, write_end, write_plan, ReadsBack};
 ghost use Rattle.plan_writing.specs.Inner.Sections.{calendars_text, numbers_at, tasks_text};
 
 use plan::{Plan, Refusal, Shifts, bounds_at};
@@ -38,26 +38,6 @@ fn plan_numbers<'a>(plan: &Plan, numbers: &'a mut [usize; PLAN_NUMBERS]) -> &'a 
     &numbers[..plan.rooms() + 1]
 }
 
-// The numbers of the line of task i up to its bounds: calendar, work time, and the height in each room.
-fn height_numbers(plan: &Plan, i: usize) -> [usize; TASK_NUMBERS]
-    requires { let P = plan_in plan.now in
-        (room_count P ≤ most_rooms)
-        × (length P.shifts.work_times ≡ task_count P)
-        × (length P.heights ≡ room_count P * task_count P)
-        × (i < task_count P) }
-    ensures { let P = plan_in plan.now in
-        take (room_count P + 2) result
-        ≡ get_or P.shifts.task_calendars i 0 ∷ get_or P.shifts.work_times i 0 ∷ heights_at (room_count P) (task_count P) P.heights i }
-{
-    let mut numbers = [0; TASK_NUMBERS];
-    numbers[0] = plan.shifts.task_calendars[i] as usize;
-    numbers[1] = plan.shifts.work_times[i] as usize;
-    for room in 0..plan.rooms() {
-        numbers[room + 2] = plan.heights_of(room)[i] as usize;
-    }
-    numbers
-}
-
 // The six bounds, as the numbers of a line.
 fn bound_numbers(b: Bounds) -> [usize; Bounds::NUMBERS]
     ensures { result ≡ box_cells b }
@@ -72,7 +52,7 @@ fn bound_numbers(b: Bounds) -> [usize; Bounds::NUMBERS]
     ]
 }
 
-// The numbers of the line of task i.
+// The numbers of the line of task i: calendar, work time, the height in each room, and the bounds.
 fn task_numbers<'a>(
     plan: &Plan,
     boxes: &[u16],
@@ -82,7 +62,11 @@ fn task_numbers<'a>(
     requires { let P = plan_in plan.now in Passed P boxes.now × (i < task_count P) }
     ensures { result.now ≡ numbers_at (plan_in plan.now) boxes.now i }
 {
-    *numbers = height_numbers(plan, i);
+    numbers[0] = plan.shifts.task_calendars[i] as usize;
+    numbers[1] = plan.shifts.work_times[i] as usize;
+    for room in 0..plan.rooms() {
+        numbers[room + 2] = plan.heights_of(room)[i] as usize;
+    }
     let bounds = bound_numbers(bounds_at(boxes, i));
     let end = put_all(numbers, plan.rooms() + 2, &bounds);
     &numbers[..end]
@@ -106,6 +90,7 @@ fn tasks_length(plan: &Plan, boxes: &[u16]) -> usize
 const CALENDAR_FRAME: usize = 5;
 
 // How many bytes the plan's text has.
+#[tactic(auto, using(crate::proofs::Sections::sections_counted))]
 fn text_length(plan: &Plan, boxes: &[u16]) -> usize
     requires { Passed (plan_in plan.now) boxes.now }
     ensures { result ≡ length (text_of_plan (plan_in plan.now) boxes.now) }
@@ -136,6 +121,7 @@ fn put_calendars(out: &mut [u8], at: usize, shifts: &Shifts) -> usize
         Put (calendars_text S (calendar_count S)) at out.old result out.new }
 {
     let mut end = at;
+    // By number, as the plan's own method finds them: chunks of the symbols would say here again how the calendars lie.
     for k in 0..shifts.calendar_count() {
         end = put_calendar(out, end, shifts.calendar_at(k as u16));
     }
@@ -163,6 +149,7 @@ fn put_tasks(out: &mut [u8], at: usize, plan: &Plan, boxes: &[u16]) -> usize
 }
 
 // The plan's text: the plan line, the calendars' lines, the tasks' lines.
+#[tactic(auto, using(crate::proofs::Sections::sections_length))]
 fn put_text(plan: &Plan, boxes: &[u16], out: &mut [u8]) -> usize
     requires { let P = plan_in plan.now in Passed P boxes.now × (length (text_of_plan P boxes.now) ≤ length out.old) }
     ensures { Put (text_of_plan (plan_in plan.now) boxes.now) 0 out.old result out.new }

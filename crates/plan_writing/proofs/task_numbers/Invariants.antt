@@ -5,7 +5,7 @@ use lib.ListN.{length, get_or, take}
 use Rattle.plan.specs.Plan.{task_count}
 use Rattle.plan.specs.Lent.{plan_in}
 use Rattle.plan_format.specs.Writing.{heights_at}
-use Rattle.plan_writing.proofs.height_numbers.Given as goal
+use Rattle.plan_writing.proofs.task_numbers.Given as goal
 
 abbrev pub invariant-loop-room : goal.invariant-loop-room
 invariant-loop-room l =
