@@ -73,6 +73,7 @@ fn task_numbers<'a>(
 }
 
 // How many bytes the tasks' lines have, 350 a line at most.
+#[tactic(auto, using(crate::proofs::Sections::tasks_counted))]
 fn tasks_length(plan: &Plan, boxes: &[u16]) -> usize
     requires { Passed (plan_in plan.now) boxes.now }
     ensures { let P = plan_in plan.now in
@@ -102,6 +103,7 @@ fn text_length(plan: &Plan, boxes: &[u16]) -> usize
 }
 
 // The line of a calendar.
+#[tactic(auto, using(crate::proofs::Sections::calendar_counted))]
 fn put_calendar(out: &mut [u8], at: usize, calendar: &[u8]) -> usize
     requires { at + length (ended (record_line (cal_record calendar.now))) ≤ length out.old }
     ensures { Put (ended (record_line (cal_record calendar.now))) at out.old result out.new }
