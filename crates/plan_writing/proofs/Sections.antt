@@ -12,6 +12,9 @@ use Rattle.plan.specs.Plan.{Plan, task_count, calendar_count, calendar_at}
 use Rattle.plan.specs.Passed.{Passed}
 use Rattle.plan_format.specs.Writing.{cal_records, text_of_plan}
 use Rattle.plan_format.proofs.Growing.{tasks-none, numbers-length, tasks-longer, cal-length, plan-text, plan-length, calendars-length}
+use Rattle.plan.proofs.Passed.{input-passed}
+use Rattle.plan.proofs.Refusals.{refused-on}
+use Rattle.plan_format.proofs.Writings.{writes-refused, writes_short}
 use Rattle.plan_writing.specs.Inner.Sections.{calendars_text, tasks_text}
 
 module _ (P : Plan) (boxes : List ℕ) {numbers : List ℕ} (e : numbers ≡ P.shifts.hours ∷ P.capacities) where
@@ -44,3 +47,6 @@ module _ (P : Plan) (boxes : List ℕ) {numbers : List ℕ} (e : numbers ≡ P.s
 pub ruleset tasks_counted = (tasks-none, numbers-length, tasks-longer)
 
 pub ruleset calendar_counted = (cal-length)
+
+-- for an answer: refused by the tests, refused for its length, or written
+pub ruleset writes = (input-passed, refused-on, writes-refused, writes_short)

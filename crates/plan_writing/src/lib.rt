@@ -164,6 +164,7 @@ fn put_text(plan: &Plan, boxes: &[u16], out: &mut [u8]) -> usize
 
 // Writes a plan as text, every task line with all its bounds, and answers how long the text is. The memory lent stays as it is until the plan has
 // passed every test and its text is known to fit; the bytes past the text are untouched.
+#[tactic(auto, using(crate::proofs::Sections::writes))]
 pub fn write_plan(plan: &Plan, boxes: &[u16], out: &mut [u8]) -> Result<usize, Refusal>
     ensures answer { write_end (answer_of result) out.new ≡ write_plan (plan_in plan.now) boxes.now out.old }
     ensures back { (n : ℕ) → answer_of result ≡ answered n → ReadsBack (plan_in plan.now) boxes.now (take n out.new) }
