@@ -1,4 +1,5 @@
--- A plan's text, section by section, after a plan line whose numbers the code made. Assumes nothing.
+-- A plan's text, section by section, after a plan line whose numbers the code made, and what is cited wherever one of its functions is proved.
+-- Assumes nothing.
 use mathlib.Core.Path.{◌≡◌}
 use mathlib.Core.List.{List, ◌∷◌, ◌++◌}
 use Prim.Native.Nat.{ℕ, ◌+◌, ◌*◌}
@@ -10,10 +11,10 @@ use Rattle.text.specs.Putting.{Put}
 use Rattle.text.proofs.Puts.{put_both}
 use Rattle.plan.specs.Plan.{Plan, task_count, calendar_count, calendar_at}
 use Rattle.plan.specs.Passed.{Passed}
-use Rattle.plan_format.specs.Writing.{cal_records, text_of_plan}
-use Rattle.plan_format.proofs.Growing.{tasks-none, numbers-length, tasks-longer, cal-length, plan-text, plan-length, calendars-length}
 use Rattle.plan.proofs.Passed.{input-passed}
 use Rattle.plan.proofs.Refusals.{refused-on}
+use Rattle.plan_format.specs.Writing.{cal_records, text_of_plan}
+use Rattle.plan_format.proofs.Growing.{tasks-none, numbers-length, tasks-longer, cal-length, plan-text, plan-length, calendars-length}
 use Rattle.plan_format.proofs.Writings.{writes-refused, writes_short}
 use Rattle.plan_writing.specs.Inner.Sections.{calendars_text, tasks_text}
 
@@ -27,7 +28,7 @@ module _ (P : Plan) (boxes : List ℕ) {numbers : List ℕ} (e : numbers ≡ P.s
   abbrev tasks : List ℕ
   tasks = tasks_text P boxes (task_count P)
 
-  pub text_sections : text_of_plan P boxes ≡ first ++ calendars ++ tasks
+  text_sections : text_of_plan P boxes ≡ first ++ calendars ++ tasks
   unfolding cal_records calendar_at
   text_sections = rw e (plan-text P boxes)
 
@@ -43,10 +44,10 @@ module _ (P : Plan) (boxes : List ℕ) {numbers : List ℕ} (e : numbers ≡ P.s
       → length (text_of_plan P boxes) ≡ length first + (length P.shifts.calendars + 5 * calendar_count P.shifts) + length tasks
   sections_counted p = rw e (omega (arith, plan-length P boxes, calendars-length P boxes p))
 
--- for a loop that counts the tasks' lines, and for a calendar's line
+-- for the loop that counts the tasks' lines, and for a calendar's line
 pub ruleset tasks_counted = (tasks-none, numbers-length, tasks-longer)
 
 pub ruleset calendar_counted = (cal-length)
 
--- for an answer: refused by the tests, refused for its length, or written
+-- for what writing answers: refused by the tests, or for the length of the text
 pub ruleset writes = (input-passed, refused-on, writes-refused, writes_short)

@@ -26,7 +26,7 @@ const PLAN_NUMBERS: usize = 1 + MOST_ROOMS;
 
 const TASK_NUMBERS: usize = 2 + MOST_ROOMS + Bounds::NUMBERS;
 
-// The numbers of the plan line.
+// The numbers of the plan line, in the memory lent.
 fn plan_numbers<'a>(plan: &Plan, numbers: &'a mut [usize; PLAN_NUMBERS]) -> &'a [usize]
     requires { room_count (plan_in plan.now) ≤ most_rooms }
     ensures { let P = plan_in plan.now in result.now ≡ P.shifts.hours ∷ P.capacities }
@@ -52,7 +52,7 @@ fn bound_numbers(b: Bounds) -> [usize; Bounds::NUMBERS]
     ]
 }
 
-// The numbers of the line of task i: calendar, work time, the height in each room, and the bounds.
+// The numbers of the line of task i, in the memory lent: calendar, work time, the height in each room, and the bounds.
 fn task_numbers<'a>(
     plan: &Plan,
     boxes: &[u16],
