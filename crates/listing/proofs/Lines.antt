@@ -57,7 +57,8 @@ pub run-lines : (run : Filtered) (boxes : List ℕ) (tasks : ℕ)
     → listing (filter_answer (Ok run)) boxes tasks ≡ line_of (word_of run.ending) (run.count ∷ []) ++ task_lines boxes tasks
 unfolding listing ending_answer
 run-lines run boxes tasks =
-    elim run.ending as (λ e. listing (ending_answer (ending_of e) run.count) boxes tasks ≡ line_of (word_of e) (run.count ∷ []) ++ task_lines boxes tasks)
+    elim run.ending
+    as (λ e. listing (ending_answer (ending_of e) run.count) boxes tasks ≡ line_of (word_of e) (run.count ∷ []) ++ task_lines boxes tasks)
     [ Settled ↦ refl | Impossible ↦ refl | NoRoom ↦ refl ]
 
 -- how long the lines are

@@ -21,4 +21,6 @@ put_calendar-end-requires c =
 
 pub loop-k-preserved : goal.loop-k-preserved
 loop-k-preserved c =
-    cals-put (shifts_in c.args.shifts.now) c.loop-k.k c.calendar_at.ensures (omega (arith, c.requires.2)) c.loop-k.invariant c.put_calendar-end.ensures
+    cals-put (shifts_in c.args.shifts.now) c.loop-k.k c.calendar_at.ensures (omega (arith, c.requires.2))
+    c.loop-k.invariant
+    c.put_calendar-end.ensures
