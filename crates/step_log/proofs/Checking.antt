@@ -1,7 +1,7 @@
 -- Laws of the log checker in parts: the core's answer for a part as the log's, and the loop over the parts. Assumes nothing.
 use mathlib.Core.Path.{◌≡◌, refl, sym, ap, ◌∙◌, subst}
 use mathlib.Core.Bool.{Bool, true, false, false≢true}
-use Rattle.std.specs.Prelude.{Option, None, Some}
+use Rattle.std.specs.Prelude.{Option, None, Some, Result, Ok, Err}
 use mathlib.Core.List.{List, ◌++◌}
 use Prim.Native.Nat.{ℕ, ◌+◌, ◌-◌, ◌≤◌, ◌<◌, min}
 use native.Mathlib.Omega.{arith}
@@ -12,15 +12,14 @@ use Rattle.units.specs.Choice.{on_option}
 use Rattle.units.proofs.Choices.{None≢Some}
 use Rattle.plan.specs.Plan.{Plan}
 use Rattle.plan.specs.declared.Fault.{Fault}
-use Rattle.plan.specs.Refusals.{Answer, refused, answered, answer_unless, fault_of}
+use Rattle.plan.specs.Refusals.{Answer, refused, answered, answer_unless, answer_of, fault_of}
 use Rattle.plan.specs.Faults.{input_fault}
 use Rattle.plan.specs.declared.Refusal.{Refusal}
 use Rattle.plan.proofs.Refusals.{refused≢answered}
 use Rattle.steps.specs.declared.Step.{Step}
-use Rattle.steps.specs.declared.LogChecked.{LogChecked}
-use Rattle.steps.specs.declared.LogChecked.TheVariants as checked
+use Rattle.steps.specs.declared.Accepted.{Accepted}
 use Rattle.steps.specs.Log.{LogEnd, log_end, replay_from, replay}
-use Rattle.steps.specs.Entry.{entry_fault, Accepted, check_answer, log_answer}
+use Rattle.steps.specs.Entry.{entry_fault, check_answer}
 use Rattle.steps.specs.Inner.From.{check_from}
 use Rattle.steps.proofs.Contracts.{same-fault}
 use Rattle.step_log.specs.declared.part.Part.{Part}
@@ -77,17 +76,17 @@ module _ (P : Plan) (boxes : List ℕ) (k : ℕ) (said : Bool) (steps : List Ste
   from-refused f e = rw e
 
 -- what the loop needs of a part
-pub checked-as : (e : LogEnd) (count : ℕ) (a : LogChecked) (left : List ℕ) → log_answer a ≡ check_answer e → left ≡ e.boxes
+pub checked-as : (e : LogEnd) (count : ℕ) (a : Result Accepted Refusal) (left : List ℕ) → answer_of a ≡ check_answer e → left ≡ e.boxes
     → CheckedAs e count (checked_part a count) left
-checked-as e count (checked.Refused r) left p q =
+checked-as e count (Err r) left p q =
     record {
       answers = p;
       leaves = q;
       goes_on = λ m. absurd (false≢true m);
       ends = λ m n. None≢Some (sym n ∙ refused_end e (fault_of r) p);
     }
-checked-as e count (checked.Accepted k said) left p q =
-    let (s, t, u) = accepted-end e k said p in
+checked-as e count (Ok a) left p q =
+    let (s, t, u) = accepted-end e a.steps a.impossible p in
     record {
       answers = p;
       leaves = q;
@@ -95,7 +94,7 @@ checked-as e count (checked.Accepted k said) left p q =
       ends = λ m n. leb-false part_size count m;
     }
 
-pub checked-ends : (a : LogChecked) (r : Refusal) (count : ℕ) → a ≡ checked.Refused r
+pub checked-ends : (a : Result Accepted Refusal) (r : Refusal) (count : ℕ) → a ≡ Err r
     → ◌≡◌ {A = PartChecked} (record { answer = a; more = false; steps = 0; impossible = false }) (checked_part a count)
 checked-ends a r count e = rw e
 
@@ -119,7 +118,7 @@ module _ (P : Plan) (boxes : List ℕ) (from : ℕ) (said : Bool) (part : Part) 
             part.count l,
       )
 
-  pub core-checked : (a : LogChecked) (left : List ℕ) → (log_answer a ≡ check_answer core) × (left ≡ core.boxes)
+  pub core-checked : (a : Result Accepted Refusal) (left : List ℕ) → (answer_of a ≡ check_answer core) × (left ≡ core.boxes)
       → (r : PartChecked) → r ≡ checked_part a part.count → CheckedAs (check_steps_from P from said boxes (part_steps part)) part.count r left
   core-checked a left (is, leaves) r q =
       rw q (checked-as _ part.count a left (is ∙ ap check_answer core_is) (leaves ∙ ap (λ (x : LogEnd). x.boxes) core_is))
@@ -228,6 +227,6 @@ module _ (P : Plan) (opening : List ℕ) (log : List Step) (from : ℕ) (said : 
             let short : length (drop from log) ≤ part_size = rw (length-drop from log) (omega (arith, c.ends more e, count-is)) in
             ap (check_steps_from P from said boxes) (is ∙ take_all part_size (drop from log) short) ∙ g.ends
 
-    pub part-ends : r.more ≡ false → (log_answer r.answer ≡ check_answer (check_steps P opening log)) × (left ≡ (check_steps P opening log).boxes)
+    pub part-ends : r.more ≡ false → (answer_of r.answer ≡ check_answer (check_steps P opening log)) × (left ≡ (check_steps P opening log).boxes)
     part-ends more =
         (c.answers ∙ ap check_answer (last-part more), c.leaves ∙ ap (λ (e : LogEnd). e.boxes) (last-part more))

@@ -14,7 +14,8 @@ use Rattle.plan.specs.Faults.{input_fault}
 use Rattle.steps.specs.declared.Step.{Step}
 use Rattle.steps.specs.Log.{replay}
 use Rattle.steps.specs.Filter.{run}
-use Rattle.steps.specs.Entry.{Accepted, check_answer}
+use Rattle.steps.specs.declared.Accepted.{Accepted}
+use Rattle.steps.specs.Entry.{check_answer}
 use Rattle.steps.specs.Claim.{CheckedHolds, FilterHolds, LogsHold}
 use Rattle.steps.proofs.Contracts.{first-fault, first-sized, tested-holds, no-run-holds, run_holds}
 use Rattle.steps.proofs.Claim.{LeftBy, logs-hold-by}

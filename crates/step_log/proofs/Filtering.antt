@@ -2,7 +2,8 @@
 use mathlib.Core.Path.{◌≡◌, refl, sym, ap, ◌∙◌, subst}
 use mathlib.Core.Logic.{◌≢◌}
 use mathlib.Core.Bool.{Bool, true, false, false≢true}
-use Rattle.std.specs.Prelude.{Option, None, Some}
+use Rattle.std.specs.Prelude.{Option, None, Some, Result}
+use Rattle.plan.specs.declared.Refusal.{Refusal}
 use mathlib.Core.List.{List, [], ◌∷◌, ◌++◌, map, append_assoc}
 use Prim.Native.Nat.{ℕ, suc, ◌+◌, ◌-◌, ◌≤◌, ◌<◌, min}
 use native.Mathlib.Nat.{suc-add}
@@ -83,7 +84,7 @@ module _ (P : Plan) where
 
 -- ---- what the core's answer makes of a part
 
-count-ending : (e : Ending) (taken n : ℕ) → count_of taken (ending_answer e n) ≡ n
+pub count-ending : (e : Ending) (taken n : ℕ) → count_of taken (ending_answer e n) ≡ n
 count-ending settled taken n = unfold ending_answer in refl
 count-ending impossible taken n = unfold ending_answer in refl
 count-ending no_room taken n = unfold ending_answer in refl
@@ -100,7 +101,7 @@ ends-ending settled room n q w = settled≢no_room w
 ends-ending impossible room n q w = impossible≢no_room w
 ends-ending no_room room n q w = ltb-false n room q
 
-pub filtered-made : (a : Filtered) (taken room : ℕ) (ks ts hs : List ℕ) (n : ℕ) (more : Bool) → n ≡ count_of taken (filter_answer a)
+pub filtered-made : (a : Result Filtered Refusal) (taken room : ℕ) (ks ts hs : List ℕ) (n : ℕ) (more : Bool) → n ≡ count_of taken (filter_answer a)
     → more ≡ does_go_on room (filter_answer a)
     → ◌≡◌ {A = PartFiltered}
     (record { steps = record { kinds = ks; tasks = ts; hours = hs; count = n - taken }; answer = a; more = more; taken = n })
@@ -115,7 +116,7 @@ record RanTo (e : Ending) (taken room : ℕ) (ks ts hs : List ℕ) (f : PartFilt
   goes_on : f.more ≡ true → (e ≡ no_room) × (f.taken ≡ taken + n) × (taken + n < room)
   ends : f.more ≡ false → e ≡ no_room → room ≤ taken + n
 
-ran_to : (a : Filtered) (e : Ending) (n taken room : ℕ) (ks ts hs : List ℕ) → filter_answer a ≡ ending_answer e (taken + n)
+ran_to : (a : Result Filtered Refusal) (e : Ending) (n taken room : ℕ) (ks ts hs : List ℕ) → filter_answer a ≡ ending_answer e (taken + n)
     → RanTo e taken room ks ts hs (filtered_part a taken room ks ts hs) n
 unfolding part_steps
 ran_to a e n taken room ks ts hs q =
@@ -130,7 +131,7 @@ ran_to a e n taken room ks ts hs q =
       ends = λ t w. ends-ending e room (taken + n) (sym more ∙ t) w;
     }
 
-refused_as : (a : Filtered) (f : Fault) (boxes left : List ℕ) (taken room : ℕ) (ks ts hs : List ℕ) → filter_answer a ≡ refused_by f → left ≡ boxes
+refused_as : (a : Result Filtered Refusal) (f : Fault) (boxes left : List ℕ) (taken room : ℕ) (ks ts hs : List ℕ) → filter_answer a ≡ refused_by f → left ≡ boxes
     → RefusedAs f boxes (filtered_part a taken room ks ts hs) left
 unfolding part_steps steps_from
 refused_as a f boxes left taken room ks ts hs q l =
@@ -179,7 +180,7 @@ module _ (cells : ℕ) (l : cells ≤ part_size) where
         rw (lent-fault P boxes blank blank blank cells inside inside inside, e)
         (ap (λ (n : ℕ). logged_from taken (run P boxes n) (take cells blank) (take cells blank) (take cells blank)) (sym lent_length))
 
-    module _ (a : Filtered) (left ks ts hs : List ℕ) (is : filter_end (filter_answer a) left ks ts hs ≡ core) where
+    module _ (a : Result Filtered Refusal) (left ks ts hs : List ℕ) (is : filter_end (filter_answer a) left ks ts hs ≡ core) where
       pub count-inside : taken ≤ count_of taken (filter_answer a)
       unfolding logged_from
       count-inside = go (input_fault P boxes) refl

@@ -6,13 +6,15 @@ ghost use Rattle.std.specs.Prelude.{◌≡◌, ◌++◌, ◌+◌, ◌≤◌, ◌
 ghost use Rattle.units.specs.Cells.{written};
 ghost use Rattle.plan.specs.Faults.{input_fault};
 ghost use Rattle.plan.specs.Lent.{plan_in};
+ghost use Rattle.plan.specs.Refusals.{answer_of};
 ghost use Rattle.steps.specs.Claim.{CheckedHolds, FilterHolds};
 ghost use Rattle.steps.specs.Entry.{check_answer, filter_answer};
 ghost use Rattle.step_log.specs.Entry.{check_steps, steps_end, filter_steps};
 ghost use Rattle.step_log.specs.Inner.Parts.{no_step, part_size, part_steps, Sized};
 
 use part::Part;
-use steps::{Filtered, LogChecked, Step};
+use plan::{Plan, Refusal};
+use steps::{Accepted, Filtered, Step};
 
 mod part;
 
@@ -61,11 +63,7 @@ fn put_part(log: &mut [Step], from: usize, steps: Part)
 }
 
 // The log checker. Accepted or refused by 11, 12 or 13, the boxes become those at the log's end; any other refusal changes nothing.
-pub fn check_log(
-    plan: &Plan,
-    boxes: &mut [u16],
-    log: &[Step],
-) -> Result<Accepted, Refusal>
+pub fn check_log(plan: &Plan, boxes: &mut [u16], log: &[Step]) -> Result<Accepted, Refusal>
     ensures answer { let P = plan_in plan.now in
         let e = check_steps P boxes.old log.now in
         (answer_of result ≡ check_answer e) × (boxes.new ≡ e.boxes) }
@@ -76,13 +74,7 @@ pub fn check_log(
     let mut said = false;
     loop {
         let steps = part_at(log, from);
-        let checked = part::check_part(
-            plan,
-            boxes,
-            from,
-            said,
-            steps,
-        );
+        let checked = part::check_part(plan, boxes, from, said, steps);
         if !checked.more {
             return checked.answer;
         }
@@ -92,11 +84,7 @@ pub fn check_log(
 }
 
 // The filter, with the log lent as its room. A refused plan changes nothing; log cells past the count are untouched.
-pub fn filter(
-    plan: &Plan,
-    boxes: &mut [u16],
-    log: &mut [Step],
-) -> Result<Filtered, Refusal>
+pub fn filter(plan: &Plan, boxes: &mut [u16], log: &mut [Step]) -> Result<Filtered, Refusal>
     ensures answer { let P = plan_in plan.now in
         steps_end (filter_answer result) boxes.new log.new ≡ filter_steps P boxes.old log.old }
     ensures holds { let P = plan_in plan.now in
@@ -105,12 +93,7 @@ pub fn filter(
     let room = log.len();
     let mut taken = 0;
     loop {
-        let filtered = part::filter_part(
-            plan,
-            boxes,
-            taken,
-            room,
-        );
+        let filtered = part::filter_part(plan, boxes, taken, room);
         let steps = filtered.steps;
         put_part(log, taken, steps);
         if !filtered.more {

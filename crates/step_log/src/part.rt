@@ -4,7 +4,8 @@ ghost use Rattle.plan.specs.Lent.{plan_in};
 ghost use Rattle.steps.specs.Entry.{step_at, count_of, filter_answer};
 ghost use Rattle.step_log.specs.Inner.Parts.{part_size, part_steps, Sized, checked_part, check_steps_from, CheckedAs, does_go_on, filtered_part, FilteredAs};
 
-use steps::{Filtered, LogChecked, Step};
+use plan::{Plan, Refusal};
+use steps::{Accepted, Ending, Filtered, Step};
 
 // The kinds, the tasks and the hours of its steps stand in the first cells, as many as the count.
 #[derive(Clone, Copy)]
@@ -24,7 +25,7 @@ impl Part {
 // whether the last of them said impossible.
 #[derive(Clone, Copy)]
 pub struct PartChecked {
-    pub answer: LogChecked,
+    pub answer: Result<Accepted, Refusal>,
     pub more: bool,
     pub steps: usize,
     pub impossible: bool,
@@ -34,7 +35,7 @@ pub struct PartChecked {
 #[derive(Clone, Copy)]
 pub struct PartFiltered {
     pub steps: Part,
-    pub answer: Filtered,
+    pub answer: Result<Filtered, Refusal>,
     pub more: bool,
     pub taken: usize,
 }
@@ -87,21 +88,21 @@ pub fn step_of(part: Part, k: usize) -> Step
 }
 
 // There may be more where all steps of a full part are accepted.
-fn checked_part(answer: LogChecked, count: usize) -> PartChecked
+fn checked_part(answer: Result<Accepted, Refusal>, count: usize) -> PartChecked
     ensures { result ≡ checked_part answer count }
 {
     match answer {
-        LogChecked::Refused(_) => PartChecked {
+        Err(_) => PartChecked {
             answer,
             more: false,
             steps: 0,
             impossible: false,
         },
-        LogChecked::Accepted { steps, impossible } => PartChecked {
+        Ok(accepted) => PartChecked {
             answer,
             more: Part::SIZE <= count,
-            steps,
-            impossible,
+            steps: accepted.steps,
+            impossible: accepted.impossible,
         },
     }
 }
@@ -135,32 +136,31 @@ pub fn check_part(
 }
 
 // The steps taken by an answer, of which so many before; a refusal takes none.
-fn count_of(answer: Filtered, taken: usize) -> usize
+fn count_of(answer: Result<Filtered, Refusal>, taken: usize) -> usize
     ensures { result ≡ count_of taken (filter_answer answer) }
 {
     match answer {
-        Filtered::Refused(_) => taken,
-        Filtered::NoRoom(count) => count,
-        Filtered::Settled(count) => count,
-        Filtered::Impossible(count) => count,
+        Err(_) => taken,
+        Ok(filtered) => filtered.count,
     }
 }
 
 // Whether the run goes on after an answer: it stopped for room, and there is room in all.
-fn goes_on(answer: Filtered, room: usize) -> bool
+fn goes_on(answer: Result<Filtered, Refusal>, room: usize) -> bool
     ensures { result ≡ does_go_on room (filter_answer answer) }
 {
     match answer {
-        Filtered::Refused(_) => false,
-        Filtered::NoRoom(count) => count < room,
-        Filtered::Settled(_) => false,
-        Filtered::Impossible(_) => false,
+        Err(_) => false,
+        Ok(filtered) => match filtered.ending {
+            Ending::NoRoom => filtered.count < room,
+            Ending::Settled | Ending::Impossible => false,
+        },
     }
 }
 
 // What the run comes to with a part, from how it ended there, after so many steps and with room for so many in all.
 fn filtered_part(
-    answer: Filtered,
+    answer: Result<Filtered, Refusal>,
     taken: usize,
     room: usize,
     kinds: [u8; Part::SIZE],
@@ -185,12 +185,7 @@ fn filtered_part(
 }
 
 // The filter over one part, after so many steps and with room for so many in all, on the boxes that those steps left.
-pub fn filter_part(
-    plan: &Plan,
-    boxes: &mut [u16],
-    taken: usize,
-    room: usize,
-) -> PartFiltered
+pub fn filter_part(plan: &Plan, boxes: &mut [u16], taken: usize, room: usize) -> PartFiltered
     requires { taken ≤ room }
     ensures { let P = plan_in plan.now in
         FilteredAs P boxes.old taken room result boxes.new }

@@ -1,12 +1,12 @@
 use Prim.Native.Nat.{◌-◌}
 use lib.ListN.{length}
-use Rattle.plan.specs.Plan.{plan}
+use Rattle.plan.specs.Lent.{plan_in}
 use Rattle.step_log.proofs.Checking.{Going}
 use Rattle.step_log.proofs.check_log.Given as goal
 
 abbrev pub invariant-loop-checked : goal.invariant-loop-checked
 invariant-loop-checked l =
-    Going (plan l.hours l.capacities l.calendars l.task_calendars l.work_times l.heights)
+    Going (plan_in l.plan)
     l.initial.boxes l.log l.from l.said l.boxes
 
 abbrev pub decreases-loop-checked : goal.decreases-loop-checked

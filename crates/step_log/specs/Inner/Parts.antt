@@ -1,19 +1,20 @@
 -- A part of a log: the steps that the core is called with at a time, and what the log checker and the filter come to with them. No public contract
 -- names a part.
 use Rattle.std.specs.Prelude.{Bool, true, false, ◌≡◌, List, [], ℕ, ◌+◌, ◌-◌, ◌≤◌, ◌<◌, min, leb, ltb, length}
-use Rattle.std.specs.Prelude.{None, Some}
+use Rattle.std.specs.Prelude.{None, Some, Result, Ok, Err}
 use Rattle.units.specs.Choice.{on_option}
 use Rattle.plan.specs.Plan.{Plan}
 use Rattle.plan.specs.declared.Fault.{Fault}
 use Rattle.plan.specs.Faults.{input_fault}
 use Rattle.steps.specs.declared.Step.{Step}
-use Rattle.steps.specs.declared.LogChecked.{LogChecked}
-use Rattle.steps.specs.declared.LogChecked.TheVariants as checked
+use Rattle.steps.specs.declared.Accepted.{Accepted}
+use Rattle.plan.specs.declared.Refusal.{Refusal}
+use Rattle.plan.specs.Refusals.{answer_of}
 use Rattle.steps.specs.declared.Filtered.{Filtered}
 use Rattle.steps.specs.Steps as steps
 use Rattle.steps.specs.Log.{LogEnd, log_end, replay_from}
 use Rattle.steps.specs.Filter.{Run, no_room, count, run}
-use Rattle.steps.specs.Entry.{steps_from, check_answer, log_answer, FilterAnswer, refused_by}
+use Rattle.steps.specs.Entry.{steps_from, check_answer, FilterAnswer, refused_by}
 use Rattle.steps.specs.Entry.{count_of, no_room_for, settled_after, impossible_after, ending_answer, filter_answer}
 use Rattle.step_log.specs.declared.part.Part.{Part}
 use Rattle.step_log.specs.declared.part.PartChecked.{PartChecked}
@@ -36,9 +37,9 @@ pub record Sized (p : Part) : Type 0 where
 
 -- ---- the log checker
 
-abbrev pub checked_part : LogChecked → ℕ → PartChecked
-checked_part (checked.Refused r) count = record { answer = checked.Refused r; more = false; steps = 0; impossible = false }
-checked_part (checked.Accepted k said) count = record { answer = checked.Accepted k said; more = leb part_size count; steps = k; impossible = said }
+abbrev pub checked_part : Result Accepted Refusal → ℕ → PartChecked
+checked_part (Err r) count = record { answer = Err r; more = false; steps = 0; impossible = false }
+checked_part (Ok a) count = record { answer = Ok a; more = leb part_size count; steps = a.steps; impossible = a.impossible }
 
 -- the end of a log from step number k on, or a refusal that changes nothing
 unfoldable pub check_steps_from : Plan → ℕ → Bool → List ℕ → List Step → LogEnd
@@ -46,7 +47,7 @@ check_steps_from P k said boxes steps = on_option (input_fault P boxes) (replay_
 
 -- What the log checker comes to with a part of so many steps, whose end this is.
 pub record CheckedAs (e : LogEnd) (count : ℕ) (r : PartChecked) (left : List ℕ) : Type 0 where
-  pub answers : log_answer r.answer ≡ check_answer e
+  pub answers : answer_of r.answer ≡ check_answer e
   pub leaves : left ≡ e.boxes
   -- there may be more only where all steps of a full part are accepted
   pub goes_on : r.more ≡ true → (part_size ≤ count) × (e.refusal ≡ None) × (r.steps ≡ e.steps) × (r.impossible ≡ e.impossible)
@@ -61,7 +62,7 @@ does_go_on room (no_room_for f n) = ltb n room
 does_go_on room (settled_after n) = false
 does_go_on room (impossible_after n) = false
 
-abbrev pub filtered_part : Filtered → ℕ → ℕ → List ℕ → List ℕ → List ℕ → PartFiltered
+abbrev pub filtered_part : Result Filtered Refusal → ℕ → ℕ → List ℕ → List ℕ → List ℕ → PartFiltered
 filtered_part answer taken room kinds tasks hours =
     record {
       steps = record { kinds = kinds; tasks = tasks; hours = hours; count = count_of taken (filter_answer answer) - taken };
