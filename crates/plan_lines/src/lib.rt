@@ -63,7 +63,7 @@ const SHORT: usize = 2;
 
 const LONG: usize = SHORT + Bounds::NUMBERS;
 
-// The most numbers of a line that can be needed.
+// The most numbers of a line that can be needed. Their count goes beside the cells that keep them, since a line may have more.
 const MOST_NUMBERS: usize = MOST_ROOMS + LONG;
 
 // Before the first line.
