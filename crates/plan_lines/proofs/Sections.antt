@@ -110,10 +110,6 @@ module _ (task : ℕ) (numbers cells : List ℕ) where
   unfolding with_heights
   heights-next room e = rw (add-one, e)
 
-  pub heights-all : (room rooms : ℕ) {cells' : List ℕ} → cells' ≡ with_heights task numbers room cells → room ≡ rooms
-      → cells' ≡ with_heights task numbers rooms cells
-  heights-all room rooms e q = rw q at e
-
 module _ (task : ℕ) (numbers cells : List ℕ) (size : length cells ≡ store_size) (l : task < most_tasks) where
   abbrev after : ℕ → List ℕ
   after k = with_heights task numbers k cells

@@ -1,11 +1,9 @@
 // A plan text read line by line. What it holds is stored as far as there is room; what it counts goes on.
 #![tactic(auto)]
 
-ghost use Rattle.std.specs.Prelude.{true, List, ◌∷◌, [], ◌++◌, ◌≡◌, ℕ, ◌+◌, ◌-◌, ◌*◌, ◌≤◌, ◌<◌, leb, eqb, length, get_or, drop};
-ghost use Rattle.units.specs.Choice.{◌and◌};
+ghost use Rattle.std.specs.Prelude.{true, List, ◌∷◌, [], ◌++◌, ◌≡◌, ℕ, ◌+◌, ◌-◌, ◌*◌, ◌≤◌, ◌<◌, length, get_or, drop};
 ghost use Rattle.units.specs.Cells.{written_at};
 ghost use Rattle.units.specs.Limits.{most_rooms, most_tasks, box_numbers};
-ghost use Rattle.text.specs.Fields.{lf, parts};
 ghost use Rattle.plan_format.specs.Records.{plan_record, cal_record, task_record};
 ghost use Rattle.plan_format.specs.Text.{Read, most_bytes, comes, is_task_line, with_record, with_line, read_text};
 ghost use Rattle.plan_format.specs.Reading.{box_of, most_symbols};
@@ -63,7 +61,7 @@ const SHORT: usize = 2;
 
 const LONG: usize = SHORT + Bounds::NUMBERS;
 
-// The most numbers of a line that can be needed.
+// The most numbers of a line that can be needed. Their count goes beside the cells that keep them, since a line may have more.
 const MOST_NUMBERS: usize = MOST_ROOMS + LONG;
 
 // Before the first line.

@@ -3,7 +3,7 @@ use native.Mathlib.Omega.{arith}
 use Prim.Native.Nat.{◌+◌, ◌-◌}
 use Rattle.std.proofs.lemmas.Grind.{common_steps}
 use lib.ListN.{length-set, get_or, take, drop}
-use Rattle.plan_lines.proofs.Sections.{heights-none, heights-next, heights-all}
+use Rattle.plan_lines.proofs.Sections.{heights-none, heights-next}
 use Rattle.plan_lines.proofs.store_heights.Goals as goal
 
 pub loop-room-preserved : goal.loop-room-preserved
@@ -15,6 +15,3 @@ loop-room-preserved c =
 
 pub loop-room-init : goal.loop-room-init
 loop-room-init c = (omega arith, refl, heights-none _ _ _)
-
-pub returns : goal.returns
-returns c = heights-all _ _ _ _ _ c.loop-room.invariant.2 (omega arith)

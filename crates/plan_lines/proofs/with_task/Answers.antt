@@ -1,4 +1,3 @@
-use mathlib.Core.Path.{sym, ◌∙◌}
 use Rattle.plan_lines.proofs.Following.{task-broken, task-not, task-next}
 use Rattle.plan_lines.proofs.with_task.Goals.{then-not-may_come-via-then-not-may_come, then-not-may_come-via-else-not-may_come+then-not-is_task_line}
 use Rattle.plan_lines.proofs.with_task.Goals as goal
@@ -11,9 +10,6 @@ returns-then-not-may_come c =
       | then-not-may_come-via-else-not-may_come+then-not-is_task_line w ↦
           task-not held ns c.may_come.ensures begin.counted w.is_task_line.ensures _ _ w.if-not-is_task_line.true
     ]
-
-pub store_task-requires : goal.store_task-requires
-store_task-requires c = (c.requires.2, c.requires.1, sym c.is_task_line.ensures ∙ c.if-not-is_task_line.false)
 
 pub returns : goal.returns
 returns c =
