@@ -1,26 +1,28 @@
 // The listing that the program prints.
 #![tactic(auto)]
 
-ghost use Rattle.std.specs.Prelude.{◌≡◌, [], ◌∷◌, ◌++◌, ◌+◌, ◌*◌, ◌≤◌, ◌<◌, length};
+ghost use Rattle.std.specs.Prelude.{◌≡◌, ◌+◌, ◌*◌, ◌≤◌, ◌<◌, length};
 ghost use Rattle.units.specs.Limits.{most_tasks, box_numbers};
 ghost use Rattle.units.specs.Cells.{written};
 ghost use Rattle.plan.specs.Refusals.{fault_of};
 ghost use Rattle.steps.specs.Entry.{filter_answer};
-ghost use Rattle.text.specs.Lines.{line_of};
 ghost use Rattle.text.specs.Putting.{Put};
+ghost use Rattle.listing.specs.Inner.Endings.{word_of};
 ghost use Rattle.listing.specs.Listing.{task_lines, task_line, refused_line, listing};
 
-use plan::{Refusal, bounds_at, fault_of};
-use steps::Filtered;
+use plan::{Fault, Refusal, bounds_at};
+use steps::{Ending, Filtered};
 use text::put::put_line;
 
 // Bytes that hold every listing: a first line of at most 35, and a line of at most 47 for each task.
 pub const ROOM: usize = 4096;
 
 // The line of task i, 47 bytes at most.
+#[tactic(auto, using(crate::proofs::Lines::widths))]
 fn put_task(out: &mut [u8], at: usize, boxes: &[u16], i: usize) -> usize
     requires { (at + 47 ≤ length out.old) × (i < most_tasks) × (box_numbers * i + box_numbers ≤ length boxes.now) }
-    ensures { Put (task_line boxes.now i) at out.old result out.new × (result ≤ at + 47) }
+    ensures put { Put (task_line boxes.now i) at out.old result out.new }
+    ensures short { result ≤ at + 47 }
 {
     let b = bounds_at(boxes, i);
     let numbers = [
@@ -41,6 +43,7 @@ fn put_tasks(out: &mut [u8], at: usize, boxes: &[u16], tasks: usize) -> usize
     ensures { Put (task_lines boxes.now tasks) at out.old result out.new }
 {
     let mut end = at;
+    // By number, which is printed; where a task's box lies is said in `bounds_at` alone.
     for i in 0..tasks {
         end = put_task(out, end, boxes, i);
     }
@@ -48,33 +51,42 @@ fn put_tasks(out: &mut [u8], at: usize, boxes: &[u16], tasks: usize) -> usize
 }
 
 // The one line of a refusal, 35 bytes at most; the bytes past it are untouched.
-pub fn list_refusal(r: Refusal, out: &mut [u8; ROOM]) -> usize
-    ensures { let L = refused_line (fault_of r) in (result ≡ length L) × (out.new ≡ written L out.old) }
+#[tactic(auto, using(crate::proofs::Lines::widths))]
+pub fn list_refusal(refusal: Refusal, out: &mut [u8; ROOM]) -> usize
+    ensures { let L = refused_line (fault_of refusal) in (result ≡ length L) × (out.new ≡ written L out.old) }
 {
-    let fault = fault_of(r);
-    let numbers = [fault.0 as usize, fault.1];
-    put_line(out, 0, b"refused", &numbers)
+    let fault = Fault::from(refusal);
+    put_line(out, 0, b"refused", &[fault.number as usize, fault.place])
 }
 
-// The first line with the count, then the tasks.
-fn list_tasks(word: &[u8], n: usize, boxes: &[u16], tasks: usize, out: &mut [u8; ROOM]) -> usize
-    requires { (length word.now ≤ 10) × (tasks ≤ most_tasks) × (box_numbers * tasks ≤ length boxes.now) }
-    ensures { Put (line_of word.now (n ∷ []) ++ task_lines boxes.now tasks) 0 out.old result out.new }
+// The word that opens the listing of a run.
+fn ending_word(ending: Ending) -> &'static [u8]
+    ensures { (result.now ≡ word_of ending) × (length result.now ≤ 10) }
 {
-    let numbers = [n];
-    let first = put_line(out, 0, word, &numbers);
-    put_tasks(out, first, boxes, tasks)
+    match ending {
+        Ending::Settled => b"settled",
+        Ending::Impossible => b"impossible",
+        Ending::NoRoom => b"room",
+    }
 }
 
-// What a run of the filter answered, and the boxes that it left; the bytes past the listing are untouched.
-pub fn list_run(answer: Filtered, boxes: &[u16], tasks: usize, out: &mut [u8; ROOM]) -> usize
+// What a run of the filter answered, and the boxes that it left: a first line with the count, then the tasks; or the line of a refusal. The bytes
+// past the listing are untouched.
+#[tactic(auto, using(crate::proofs::Lines::widths), unfolding(crate::specs::Listing::listing))]
+pub fn list_run(
+    answer: Result<Filtered, Refusal>,
+    boxes: &[u16],
+    tasks: usize,
+    out: &mut [u8; ROOM],
+) -> usize
     requires { (tasks ≤ most_tasks) × (box_numbers * tasks ≤ length boxes.now) }
     ensures { let L = listing (filter_answer answer) boxes.now tasks in (result ≡ length L) × (out.new ≡ written L out.old) }
 {
     match answer {
-        Filtered::Refused(r) => list_refusal(r, out),
-        Filtered::NoRoom(n) => list_tasks(b"room", n, boxes, tasks, out),
-        Filtered::Settled(n) => list_tasks(b"settled", n, boxes, tasks, out),
-        Filtered::Impossible(n) => list_tasks(b"impossible", n, boxes, tasks, out),
+        Err(refusal) => list_refusal(refusal, out),
+        Ok(run) => {
+            let first = put_line(out, 0, ending_word(run.ending), &[run.count]);
+            put_tasks(out, first, boxes, tasks)
+        }
     }
 }

@@ -1,133 +1,88 @@
 // Plan text: writing a plan.
 #![tactic(auto)]
 
-ghost use Rattle.std.specs.Prelude.{true, [], ◌∷◌, ◌++◌, ◌≡◌, ℕ, ◌+◌, ◌*◌, ◌≤◌, ◌<◌, length, get_or, take};
-ghost use Rattle.std.specs.Prelude.{None};
-ghost use Rattle.units.specs.Limits.{most_calendars, most_rooms, most_tasks, box_numbers};
+ghost use Rattle.std.specs.Prelude.{◌∷◌, ◌≡◌, ℕ, ◌+◌, ◌*◌, ◌≤◌, ◌<◌, length, take};
+ghost use Rattle.units.specs.Limits.{most_calendars, most_rooms};
 ghost use Rattle.text.specs.Lines.{ended};
 ghost use Rattle.text.specs.Putting.{Put};
-ghost use Rattle.plan.specs.Plan.{shifts, calendar_count};
+ghost use Rattle.plan.specs.Plan.{room_count, task_count, calendar_count};
 ghost use Rattle.plan.specs.Boxes.{box_cells};
-ghost use Rattle.plan.specs.Refusals.{answered};
-ghost use Rattle.plan.specs.Faults.{one_for_each_task, input_fault};
-ghost use Rattle.plan.specs.Lent.{plan_of, old_plan};
+ghost use Rattle.plan.specs.Refusals.{answered, answer_of};
+ghost use Rattle.plan.specs.Passed.{Passed};
+ghost use Rattle.plan.specs.Lent.{shifts_in, plan_in};
 ghost use Rattle.plan_format.specs.Records.{cal_record, record_line};
-ghost use Rattle.plan_format.specs.Text.{text_of};
-ghost use Rattle.plan_format.specs.Writing.{cal_records, heights_at, task_numbers, task_records, text_of_plan, write_end, write_plan, ReadsBack};
-ghost use Rattle.plan_writing.specs.Entry.{writing_answer};
+ghost use Rattle.plan_format.specs.Writing.{text_of_plan, write_end, write_plan, ReadsBack};
+ghost use Rattle.plan_writing.specs.Inner.Sections.{calendars_text, numbers_at, tasks_text};
 
-use plan::{Refusal, Tested, bounds_at, calendar_at, calendar_count, height_at, room_part};
+use plan::{Plan, Refusal, Shifts, bounds_at};
 use text::LF;
 use text::lengths::line_length;
-use text::put::{put_byte, put_bytes, put_line};
-use units::{Bounds, Duration, RoomNumber};
-
-// What writing a plan answers: a refusal, or the length of its text.
-#[derive(Clone, Copy)]
-pub enum PlanWriting {
-    Refused(Refusal),
-    Written(usize),
-}
+use text::put::{put_all, put_byte, put_line};
+use units::{Bounds, MOST_ROOMS};
 
 // How many numbers a line has at most: of the plan H and a capacity for each room, of a task its calendar, its work time, a height in each room and
 // six bounds.
-const PLAN_NUMBERS: usize = 1 + RoomNumber::MOST;
+const PLAN_NUMBERS: usize = 1 + MOST_ROOMS;
 
-const TASK_NUMBERS: usize = 2 + RoomNumber::MOST + Bounds::NUMBERS;
+const TASK_NUMBERS: usize = 2 + MOST_ROOMS + Bounds::NUMBERS;
 
-// The numbers of the plan line, as many as there are rooms and one.
-fn plan_numbers(hours: Duration, capacities: &[u16]) -> [usize; PLAN_NUMBERS]
-    requires { length capacities.now ≤ most_rooms }
-    ensures { take (length capacities.now + 1) result ≡ hours.0 ∷ capacities.now }
+// The numbers of the plan line, in the memory lent.
+fn plan_numbers<'a>(plan: &Plan, numbers: &'a mut [usize; PLAN_NUMBERS]) -> &'a [usize]
+    requires { room_count (plan_in plan.now) ≤ most_rooms }
+    ensures { let P = plan_in plan.now in result.now ≡ P.shifts.hours ∷ P.capacities }
 {
-    let mut numbers = [0; PLAN_NUMBERS];
-    numbers[0] = hours.0 as usize;
-    for room in 0..capacities.len() {
-        numbers[room + 1] = capacities[room] as usize;
+    numbers[0] = plan.shifts.hours.0 as usize;
+    for (room, capacity) in plan.capacities.iter().enumerate() {
+        numbers[room + 1] = *capacity as usize;
     }
-    numbers
+    &numbers[..plan.rooms() + 1]
 }
 
-// The numbers of the line of task i up to its bounds: calendar, work time, and the height in each room.
-fn height_numbers(
-    capacities: &[u16],
-    task_calendars: &[u16],
-    work_times: &[u16],
-    heights: &[u16],
-    i: usize,
-) -> [usize; TASK_NUMBERS]
-    requires { let tasks = length task_calendars.now in
-        (length capacities.now ≤ most_rooms)
-        × (length work_times.now ≡ tasks)
-        × (length heights.now ≡ length capacities.now * tasks)
-        × (i < tasks) }
-    ensures { let rooms = length capacities.now in
-        take (rooms + 2) result
-        ≡ get_or task_calendars.now i 0 ∷ get_or work_times.now i 0 ∷ heights_at rooms (length task_calendars.now) heights.now i }
+// The six bounds, as the numbers of a line.
+fn bound_numbers(b: Bounds) -> [usize; Bounds::NUMBERS]
+    ensures { result ≡ box_cells b }
 {
-    let mut numbers = [0; TASK_NUMBERS];
-    numbers[0] = task_calendars[i] as usize;
-    numbers[1] = work_times[i] as usize;
-    for room in 0..capacities.len() {
-        let height = height_at(room_part(heights, task_calendars.len(), room), i);
-        numbers[room + 2] = height.0 as usize;
-    }
-    numbers
+    [
+        b.earliest.0 as usize,
+        b.latest.0 as usize,
+        b.shortest.0 as usize,
+        b.longest.0 as usize,
+        b.fewest.0 as usize,
+        b.most.0 as usize,
+    ]
 }
 
-// The first so many numbers, and six bounds after them.
-fn with_bounds(first: [usize; TASK_NUMBERS], count: usize, b: Bounds) -> [usize; TASK_NUMBERS]
-    requires { count + box_numbers ≤ length first }
-    ensures { take (count + box_numbers) result ≡ take count first ++ box_cells b }
-{
-    let mut numbers = first;
-    numbers[count] = b.earliest.0 as usize;
-    numbers[count + 1] = b.latest.0 as usize;
-    numbers[count + 2] = b.shortest.0 as usize;
-    numbers[count + 3] = b.longest.0 as usize;
-    numbers[count + 4] = b.fewest.0 as usize;
-    numbers[count + 5] = b.most.0 as usize;
-    numbers
-}
-
-// The numbers of the line of task i, as many as there are rooms and eight.
-fn task_numbers(
-    capacities: &[u16],
-    task_calendars: &[u16],
-    work_times: &[u16],
-    heights: &[u16],
+// The numbers of the line of task i, in the memory lent: calendar, work time, the height in each room, and the bounds.
+fn task_numbers<'a>(
+    plan: &Plan,
     boxes: &[u16],
     i: usize,
-) -> [usize; TASK_NUMBERS]
-    requires { (one_for_each_task capacities.now task_calendars.now work_times.now heights.now boxes.now ≡ true)
-        × (length capacities.now ≤ most_rooms)
-        × (i < length task_calendars.now) }
-    ensures { let rooms = length capacities.now in
-        take (rooms + 8) result ≡ task_numbers rooms task_calendars.now work_times.now heights.now boxes.now i }
+    numbers: &'a mut [usize; TASK_NUMBERS],
+) -> &'a [usize]
+    requires { let P = plan_in plan.now in Passed P boxes.now × (i < task_count P) }
+    ensures { result.now ≡ numbers_at (plan_in plan.now) boxes.now i }
 {
-    let first = height_numbers(capacities, task_calendars, work_times, heights, i);
-    with_bounds(first, capacities.len() + 2, bounds_at(boxes, i))
+    numbers[0] = plan.shifts.task_calendars[i] as usize;
+    numbers[1] = plan.shifts.work_times[i] as usize;
+    for room in 0..plan.rooms() {
+        numbers[room + 2] = plan.heights_of(room)[i] as usize;
+    }
+    let bounds = bound_numbers(bounds_at(boxes, i));
+    let end = put_all(numbers, plan.rooms() + 2, &bounds);
+    &numbers[..end]
 }
 
 // How many bytes the tasks' lines have, 350 a line at most.
-fn tasks_length(
-    capacities: &[u16],
-    task_calendars: &[u16],
-    work_times: &[u16],
-    heights: &[u16],
-    boxes: &[u16],
-) -> usize
-    requires { (one_for_each_task capacities.now task_calendars.now work_times.now heights.now boxes.now ≡ true)
-        × (length capacities.now ≤ most_rooms)
-        × (length task_calendars.now ≤ most_tasks) }
-    ensures { let rooms = length capacities.now in
-        let records = task_records rooms task_calendars.now work_times.now heights.now boxes.now (length task_calendars.now) in
-        (result ≡ length (text_of records)) × (result ≤ 350 * most_tasks) }
+#[tactic(auto, using(crate::proofs::Sections::tasks_counted))]
+fn tasks_length(plan: &Plan, boxes: &[u16]) -> usize
+    requires { Passed (plan_in plan.now) boxes.now }
+    ensures { let P = plan_in plan.now in
+        (result ≡ length (tasks_text P boxes.now (task_count P))) × (result ≤ 350 * task_count P) }
 {
+    let mut numbers = [0; TASK_NUMBERS];
     let mut bytes = 0;
-    for i in 0..task_calendars.len() {
-        let numbers = task_numbers(capacities, task_calendars, work_times, heights, boxes, i);
-        bytes += line_length(b"task", &numbers[..capacities.len() + 8]);
+    for i in 0..plan.tasks() {
+        bytes += line_length(b"task", task_numbers(plan, boxes, i, &mut numbers));
     }
     bytes
 }
@@ -136,186 +91,87 @@ fn tasks_length(
 const CALENDAR_FRAME: usize = 5;
 
 // How many bytes the plan's text has.
-fn text_length(
-    hours: Duration,
-    capacities: &[u16],
-    calendars: &[u8],
-    task_calendars: &[u16],
-    work_times: &[u16],
-    heights: &[u16],
-    boxes: &[u16],
-) -> usize
-    requires { input_fault (plan_of hours.0 capacities calendars task_calendars work_times heights) boxes.now ≡ None }
-    ensures { let P = old_plan hours.0 capacities calendars task_calendars work_times heights in
-        result ≡ length (text_of_plan P boxes.now) }
+#[tactic(auto, using(crate::proofs::Sections::sections_counted))]
+fn text_length(plan: &Plan, boxes: &[u16]) -> usize
+    requires { Passed (plan_in plan.now) boxes.now }
+    ensures { result ≡ length (text_of_plan (plan_in plan.now) boxes.now) }
 {
-    let numbers = plan_numbers(hours, capacities);
-    let first = line_length(b"plan", &numbers[..capacities.len() + 1]);
-    let symbols = calendars.len() + CALENDAR_FRAME * calendar_count(calendars, hours);
-    first + symbols + tasks_length(capacities, task_calendars, work_times, heights, boxes)
+    let mut numbers = [0; PLAN_NUMBERS];
+    let first = line_length(b"plan", plan_numbers(plan, &mut numbers));
+    let symbols = plan.shifts.calendars.len() + CALENDAR_FRAME * plan.shifts.calendar_count();
+    first + symbols + tasks_length(plan, boxes)
 }
 
 // The line of a calendar.
+#[tactic(auto, using(crate::proofs::Sections::calendar_counted))]
 fn put_calendar(out: &mut [u8], at: usize, calendar: &[u8]) -> usize
     requires { at + length (ended (record_line (cal_record calendar.now))) ≤ length out.old }
     ensures { Put (ended (record_line (cal_record calendar.now))) at out.old result out.new }
 {
-    let symbols = put_bytes(out, at, b"cal\t");
-    let end = put_bytes(out, symbols, calendar);
+    let symbols = put_all(out, at, b"cal\t");
+    let end = put_all(out, symbols, calendar);
     put_byte(out, end, LF)
 }
 
-// The lines of the calendars; no task is looked at.
-fn put_calendars(out: &mut [u8], at: usize, calendars: &[u8], hours: Duration) -> usize
-    requires { let S = shifts hours.0 calendars.now [] [] in
-        (1 ≤ hours.0)
+// The lines of the calendars.
+fn put_calendars(out: &mut [u8], at: usize, shifts: &Shifts) -> usize
+    requires { let S = shifts_in shifts.now in
+        (1 ≤ S.hours)
         × (calendar_count S ≤ most_calendars)
-        × (at + length (text_of (cal_records S (calendar_count S))) ≤ length out.old) }
-    ensures { let S = shifts hours.0 calendars.now [] [] in
-        Put (text_of (cal_records S (calendar_count S))) at out.old result out.new }
+        × (at + length (calendars_text S (calendar_count S)) ≤ length out.old) }
+    ensures { let S = shifts_in shifts.now in
+        Put (calendars_text S (calendar_count S)) at out.old result out.new }
 {
     let mut end = at;
-    for k in 0..calendar_count(calendars, hours) {
-        let calendar = calendar_at(calendars, hours, k as u16);
-        end = put_calendar(out, end, calendar);
+    // By number, as the plan's own method finds them: chunks of the symbols would say here again how the calendars lie.
+    for k in 0..shifts.calendar_count() {
+        end = put_calendar(out, end, shifts.calendar_at(k as u16));
     }
     end
 }
 
 // The lines of the tasks.
-fn put_tasks(
-    out: &mut [u8],
-    at: usize,
-    capacities: &[u16],
-    task_calendars: &[u16],
-    work_times: &[u16],
-    heights: &[u16],
-    boxes: &[u16],
-) -> usize
-    requires { let rooms = length capacities.now in
-        let records = task_records rooms task_calendars.now work_times.now heights.now boxes.now (length task_calendars.now) in
-        (one_for_each_task capacities.now task_calendars.now work_times.now heights.now boxes.now ≡ true)
-        × (rooms ≤ most_rooms)
-        × (length task_calendars.now ≤ most_tasks)
-        × (at + length (text_of records) ≤ length out.old) }
-    ensures { let rooms = length capacities.now in
-        let records = task_records rooms task_calendars.now work_times.now heights.now boxes.now (length task_calendars.now) in
-        Put (text_of records) at out.old result out.new }
+fn put_tasks(out: &mut [u8], at: usize, plan: &Plan, boxes: &[u16]) -> usize
+    requires { let P = plan_in plan.now in
+        Passed P boxes.now × (at + length (tasks_text P boxes.now (task_count P)) ≤ length out.old) }
+    ensures { let P = plan_in plan.now in
+        Put (tasks_text P boxes.now (task_count P)) at out.old result out.new }
 {
+    let mut numbers = [0; TASK_NUMBERS];
     let mut end = at;
-    for i in 0..task_calendars.len() {
-        let numbers = task_numbers(capacities, task_calendars, work_times, heights, boxes, i);
-        end = put_line(out, end, b"task", &numbers[..capacities.len() + 8]);
+    for i in 0..plan.tasks() {
+        end = put_line(
+            out,
+            end,
+            b"task",
+            task_numbers(plan, boxes, i, &mut numbers),
+        );
     }
     end
 }
 
 // The plan's text: the plan line, the calendars' lines, the tasks' lines.
-fn put_text(
-    hours: Duration,
-    capacities: &[u16],
-    calendars: &[u8],
-    task_calendars: &[u16],
-    work_times: &[u16],
-    heights: &[u16],
-    boxes: &[u16],
-    out: &mut [u8],
-) -> usize
-    requires { let P = plan_of hours.0 capacities calendars task_calendars work_times heights in
-        (input_fault P boxes.now ≡ None) × (length (text_of_plan P boxes.now) ≤ length out.old) }
-    ensures { let P = old_plan hours.0 capacities calendars task_calendars work_times heights in
-        Put (text_of_plan P boxes.now) 0 out.old result out.new }
+#[tactic(auto, using(crate::proofs::Sections::sections_length))]
+fn put_text(plan: &Plan, boxes: &[u16], out: &mut [u8]) -> usize
+    requires { let P = plan_in plan.now in Passed P boxes.now × (length (text_of_plan P boxes.now) ≤ length out.old) }
+    ensures { Put (text_of_plan (plan_in plan.now) boxes.now) 0 out.old result out.new }
 {
-    let numbers = plan_numbers(hours, capacities);
-    let first = put_line(out, 0, b"plan", &numbers[..capacities.len() + 1]);
-    let middle = put_calendars(out, first, calendars, hours);
-    put_tasks(
-        out,
-        middle,
-        capacities,
-        task_calendars,
-        work_times,
-        heights,
-        boxes,
-    )
+    let mut numbers = [0; PLAN_NUMBERS];
+    let first = put_line(out, 0, b"plan", plan_numbers(plan, &mut numbers));
+    let middle = put_calendars(out, first, &plan.shifts);
+    put_tasks(out, middle, plan, boxes)
 }
 
-// Writes a plan that passes the tests, if there is room for its text; else no byte is written.
-fn write_passed(
-    hours: Duration,
-    capacities: &[u16],
-    calendars: &[u8],
-    task_calendars: &[u16],
-    work_times: &[u16],
-    heights: &[u16],
-    boxes: &[u16],
-    out: &mut [u8],
-) -> PlanWriting
-    requires { input_fault (plan_of hours.0 capacities calendars task_calendars work_times heights) boxes.now ≡ None }
-    ensures { let P = old_plan hours.0 capacities calendars task_calendars work_times heights in
-        write_end (writing_answer result) out.new ≡ write_plan P boxes.now out.old }
+// Writes a plan as text, every task line with all its bounds, and answers how long the text is. The memory lent stays as it is until the plan has
+// passed every test and its text is known to fit; the bytes past the text are untouched.
+#[tactic(auto, using(crate::proofs::Sections::writes))]
+pub fn write_plan(plan: &Plan, boxes: &[u16], out: &mut [u8]) -> Result<usize, Refusal>
+    ensures answer { write_end (answer_of result) out.new ≡ write_plan (plan_in plan.now) boxes.now out.old }
+    ensures back { (n : ℕ) → answer_of result ≡ answered n → ReadsBack (plan_in plan.now) boxes.now (take n out.new) }
 {
-    let length = text_length(
-        hours,
-        capacities,
-        calendars,
-        task_calendars,
-        work_times,
-        heights,
-        boxes,
-    );
-    if out.len() < length {
-        return PlanWriting::Refused(Refusal::OutputSize);
+    input::test_input(plan, boxes)?;
+    if out.len() < text_length(plan, boxes) {
+        return Err(Refusal::OutputSize);
     }
-    PlanWriting::Written(put_text(
-        hours,
-        capacities,
-        calendars,
-        task_calendars,
-        work_times,
-        heights,
-        boxes,
-        out,
-    ))
-}
-
-// Writes a plan as text, every task line with all its bounds. The memory lent stays as it is until the plan has passed every test and its text is
-// known to fit; the bytes past the text are untouched.
-pub fn write_plan(
-    hours: u16,
-    capacities: &[u16],
-    calendars: &[u8],
-    task_calendars: &[u16],
-    work_times: &[u16],
-    heights: &[u16],
-    boxes: &[u16],
-    out: &mut [u8],
-) -> PlanWriting
-    ensures answer { let P = old_plan hours capacities calendars task_calendars work_times heights in
-        write_end (writing_answer result) out.new ≡ write_plan P boxes.now out.old }
-    ensures back { let P = old_plan hours capacities calendars task_calendars work_times heights in
-        ((n : ℕ) → writing_answer result ≡ answered n → ReadsBack P boxes.now (take n out.new)) }
-{
-    let tested = input::test_input(
-        hours,
-        capacities,
-        calendars,
-        task_calendars,
-        work_times,
-        heights,
-        boxes,
-    );
-    if let Tested::Refused(refusal) = tested {
-        return PlanWriting::Refused(refusal);
-    }
-    write_passed(
-        Duration(hours),
-        capacities,
-        calendars,
-        task_calendars,
-        work_times,
-        heights,
-        boxes,
-        out,
-    )
+    Ok(put_text(plan, boxes, out))
 }

@@ -30,8 +30,7 @@ use Rattle.steps.proofs.Searches.{Rightly, next-rightly}
 use Rattle.steps.proofs.Runs.{run_settled, run-full, run-stops, run-moves, resumed}
 use Rattle.steps.proofs.Entry.{one_each}
 use Rattle.turns.specs.declared.turn.Turn.{Turn}
-use Rattle.turns.specs.declared.turn.Turn.TheVariants as turn
-use Rattle.turns.specs.Inner.Kept.{Keeping, on_judged, admitted_of, turn_of}
+use Rattle.turns.specs.Inner.Kept.{Keeping, on_judged, admitted_of, turn, turn_of}
 use Rattle.propagation.specs.Inner.Fitting.{Fitting}
 use Rattle.propagation.proofs.Keeping.{may-move, keeps-moved}
 
@@ -192,11 +191,11 @@ unfolding admitted_of on_judged
 admitted-moves boxes x e = rw e
 
 module _ {P : Plan} {opening kinds₀ tasks₀ hours₀ : List ℕ} {count : ℕ} {boxes kinds tasks hours : List ℕ} {fits : List (Option Window)}
-    (at : Filtering P opening kinds₀ tasks₀ hours₀ count boxes kinds tasks hours fits) {r : Turn} (is : turn_of boxes r ≡ next P boxes) (n : ℕ) where
-  pub settles : r ≡ turn.Settled → Ends P n opening kinds₀ tasks₀ hours₀ (filter_end (settled_after (n + count)) boxes kinds tasks hours)
+    (at : Filtering P opening kinds₀ tasks₀ hours₀ count boxes kinds tasks hours fits) {r : Option Turn} (is : turn_of boxes r ≡ next P boxes) (n : ℕ) where
+  pub settles : r ≡ None → Ends P n opening kinds₀ tasks₀ hours₀ (filter_end (settled_after (n + count)) boxes kinds tasks hours)
   settles e = ends-settled P opening kinds₀ tasks₀ hours₀ count boxes kinds tasks hours at.taken n (sym is ∙ ap (turn_of boxes) e)
 
-  module _ {x : Step} {j : Judged} (found : r ≡ turn.At x j) where
+  module _ {x : Step} {j : Judged} (found : r ≡ Some (turn x j)) where
     next-is : next P boxes ≡ Some (admitted_of boxes x j)
     next-is = sym is ∙ ap (turn_of boxes) found
 

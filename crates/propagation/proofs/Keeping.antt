@@ -77,7 +77,7 @@ module _ (P : Plan) (boxes : List ℕ) (fits : List (Option Window)) (k : Keepin
           full = length-set fits i _ ∙ k.full;
         }
       where
-        new : Fit
+        new : (Option Window)
         new = fit_at P.shifts (with_bounds boxes i b) i
 
         go : (j : ℕ) → j < task_count P → Dec (j ≡ i) → get_or (set fits i new) j None ≡ fit_at P.shifts (with_bounds boxes i b) j

@@ -24,7 +24,8 @@ use Rattle.steps.specs.Load.{fit_at}
 use Rattle.steps.specs.Steps.{judge, unknown, not_admitted, moved, on_judgement}
 use Rattle.steps.specs.Steps as judged
 use Rattle.steps.specs.Log.{LogEnd, log_end, replay_by, replay_from}
-use Rattle.steps.specs.Entry.{step_at, steps_from, steps_in, one_for_each_step, Accepted, check_answer}
+use Rattle.steps.specs.declared.Accepted.{Accepted}
+use Rattle.steps.specs.Entry.{step_at, steps_from, steps_in, one_for_each_step, check_answer}
 use Rattle.steps.proofs.Entry.{one_each}
 use Rattle.turns.specs.Inner.Kept.{Keeping, judge_by}
 use Rattle.turns.proofs.Keeping.{judges-unknown, judges-not, judges-impossible, judges-moved, moved-there}

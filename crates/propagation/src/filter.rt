@@ -11,7 +11,6 @@ use crate::{entry, kept};
 use plan::{Plan, Refusal};
 use steps::{Ending, Filtered, Judged};
 use turns::turn;
-use turns::turn::Turn;
 
 // The run on a plan that passed its tests, after so many steps taken before. The answers of the calendar rule are kept, and only the moved
 // task's is worked out anew.
@@ -33,25 +32,30 @@ fn run_filter(
 {
     let mut fits = kept::all_fits(&plan.shifts, boxes);
     let mut count: usize = 0;
-    let ending = loop {
-        let Some(Turn { step, judged }) = turn::next_turn(plan, boxes, &fits) else {
-            break Ending::Settled;
+    loop {
+        let Some(next) = turn::next_turn(plan, boxes, &fits) else {
+            return Filtered {
+                ending: Ending::Settled,
+                count: taken + count,
+            };
         };
         if log_kinds.len() <= count {
-            break Ending::NoRoom;
+            return Filtered {
+                ending: Ending::NoRoom,
+                count: taken + count,
+            };
         }
-        log_kinds[count] = step.kind;
-        log_tasks[count] = step.task;
-        log_hours[count] = step.hour;
+        log_kinds[count] = next.step.kind;
+        log_tasks[count] = next.step.task;
+        log_hours[count] = next.step.hour;
         count += 1;
-        let Judged::Moved { task, bounds } = judged else {
-            break Ending::Impossible;
+        let Judged::Moved { task, bounds } = next.judged else {
+            return Filtered {
+                ending: Ending::Impossible,
+                count: taken + count,
+            };
         };
         kept::move_bounds(&plan.shifts, boxes, &mut fits, task, bounds);
-    };
-    Filtered {
-        ending,
-        count: taken + count,
     }
 }
 
@@ -70,9 +74,7 @@ pub fn filter_from(
         ≡ filter_from P boxes.old log_kinds.old log_tasks.old log_hours.old taken }
 {
     entry::test_entry(plan, boxes, log_kinds, log_tasks, log_hours)?;
-    Ok(run_filter(
-        plan, boxes, log_kinds, log_tasks, log_hours, taken,
-    ))
+    Ok(run_filter(plan, boxes, log_kinds, log_tasks, log_hours, taken))
 }
 
 // The filter, with the log lent as its room. A refused plan changes nothing; log cells past the count are untouched.
@@ -90,12 +92,5 @@ pub fn filter(
         let steps = steps_from log_kinds.new log_tasks.new log_hours.new 0 in
         FilterHolds P boxes.old (check_records P boxes.old) (length log_kinds.old) (filter_answer result) boxes.new steps }
 {
-    filter_from(
-        plan,
-        boxes,
-        log_kinds,
-        log_tasks,
-        log_hours,
-        0,
-    )
+    filter_from(plan, boxes, log_kinds, log_tasks, log_hours, 0)
 }

@@ -82,15 +82,7 @@ pub fn check_from(
         (answer_of result ≡ check_answer e) × (boxes.new ≡ e.boxes) }
 {
     entry::test_entry(plan, boxes, log_kinds, log_tasks, log_hours)?;
-    replay_log(
-        plan,
-        boxes,
-        log_kinds,
-        log_tasks,
-        log_hours,
-        from,
-        said,
-    )
+    replay_log(plan, boxes, log_kinds, log_tasks, log_hours, from, said)
 }
 
 // The log checker. Accepted or refused by 11, 12 or 13, the boxes become those at the log's end; any other refusal changes nothing.
@@ -109,13 +101,5 @@ pub fn check_log(
         let steps = steps_in log_kinds.now log_tasks.now log_hours.now in
         CheckedHolds P boxes.old refusal steps (answer_of result) boxes.new }
 {
-    check_from(
-        plan,
-        boxes,
-        log_kinds,
-        log_tasks,
-        log_hours,
-        0,
-        false,
-    )
+    check_from(plan, boxes, log_kinds, log_tasks, log_hours, 0, false)
 }

@@ -1,5 +1,4 @@
 use mathlib.Core.Path.{sym, ◌∙◌}
-use borrow.Author.Tests.{not-false}
 use Rattle.steps.proofs.Entry.{other-tasks, other-steps, right-size}
 use Rattle.propagation.proofs.entry.test_entry.Goals as goal
 
@@ -16,5 +15,4 @@ pub returns : goal.returns
 returns c =
     c.test_plan.ensures
     ∙ sym
-    (right-size _ _ _ _ _ (sym c.has_one_for_each_task.ensures ∙ not-false _
-    c.if-not-has_one_for_each_task.false-raw) (sym c.has_one_for_each_step.ensures ∙ c.if-not-has_one_for_each_step.false))
+    (right-size _ _ _ _ _ (sym c.has_one_for_each_task.ensures ∙ c.if-not-has_one_for_each_task.false) (sym c.has_one_for_each_step.ensures ∙ c.if-not-has_one_for_each_step.false))

@@ -1,18 +1,30 @@
-use mathlib.Core.Path.{sym}
+use mathlib.Core.Path.{◌≡◌, refl, sym, ap, ◌∙◌}
+use Rattle.std.specs.Prelude.{Result}
+use Rattle.std.specs.Result.{IsErrAnd}
+use Rattle.std.proofs.lemmas.Result.{err_from_is_err_and}
+use Rattle.plan.specs.declared.Refusal.{Refusal}
+use Rattle.plan.specs.Refusals.{fault_of}
+use Rattle.steps.specs.declared.Filtered.{Filtered}
+use Rattle.steps.specs.Entry.{FilterAnswer, refused_by, filter_answer, filter_end}
 use Rattle.steps.proofs.Entry.{passes, filter-refuses, filter_runs}
 use Rattle.propagation.proofs.filter.filter_from.Goals as goal
 
-pub returns-in-Refused : goal.returns-in-Refused
-returns-in-Refused c =
-    filter-refuses _ _ _ _ _ _ _ (sym c.in-Refused.ensures)
+-- the refusal that is handed on is the answer
+told : (d : Refusal) (r : Result Filtered Refusal) → IsErrAnd r (λ e. e ≡ d) → filter_answer r ≡ refused_by (fault_of d)
+told d r h = let p = err_from_is_err_and r h in rw (p.1, p.2) refl
+
+pub returns-in_err-test_entry : goal.returns-in_err-test_entry
+returns-in_err-test_entry c =
+    ap (λ (a : FilterAnswer). filter_end a c.args.boxes.now c.args.log_kinds.now c.args.log_tasks.now c.args.log_hours.now)
+    (told _ _ c.from_residual.ensures.1)
+    ∙ filter-refuses _ _ _ _ _ _ _ (sym c.in_err-test_entry.ensures)
 
 pub run_filter-requires : goal.run_filter-requires
 run_filter-requires c =
     record {
-      passed = passes _ _ _ _ _ (sym c.in_default.ensures);
+      passed = passes _ _ _ _ _ (sym c.in_ok-test_entry.ensures);
       count_fits = c.requires;
     }
 
 pub returns : goal.returns
-returns c =
-    filter_runs _ _ _ _ _ _ (sym c.in_default.ensures) _ c.run_filter.ensures
+returns c = filter_runs _ _ _ _ _ _ (sym c.in_ok-test_entry.ensures) _ c.run_filter.ensures

@@ -59,9 +59,9 @@ loop-k-preserved-in-Impossible c = (
       c.judge_step-judged.ensures c.in-Impossible.is,
 )
 
-pub move_bounds-next-requires : goal.move_bounds-next-requires
+pub move_bounds-requires : goal.move_bounds-requires
 unfolding step_at
-move_bounds-next-requires c =
+move_bounds-requires c =
     replay-may-move c.loop-k.invariant.2 (below c.loop-k-test.true c.loop-k.invariant.1) c.if-impossible.false c.judge_step-judged.ensures
     c.in-Moved.is
 
@@ -72,7 +72,7 @@ loop-k-preserved c = (
   c.loop-k.invariant.1,
   replay-moves c.loop-k.invariant.2 (below c.loop-k-test.true c.loop-k.invariant.1) c.if-impossible.false c.judge_step-judged.ensures
       c.in-Moved.is
-      c.move_bounds-next.ensures,
+      c.move_bounds.ensures,
 )
 
 pub overflow_add-result-2 : goal.overflow_add-result-2
