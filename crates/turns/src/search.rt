@@ -45,12 +45,14 @@ fn room_overload(room: u16, loads: &[u16], capacity: Height) -> Option<Step>
     requires { length loads.now ≤ most_hours }
     ensures { result ≡ room_overload room loads.now capacity.0 }
 {
-    let hour = loads.iter().position(|load| Height(*load) > capacity)?;
-    Some(Step {
-        kind: StepKind::Overload.letter(),
-        task: room,
-        hour: hour as u16,
-    })
+    loads
+        .iter()
+        .position(|load| Height(*load) > capacity)
+        .map(|hour| Step {
+            kind: StepKind::Overload.letter(),
+            task: room,
+            hour: hour as u16,
+        })
 }
 
 // The first O, by room, then hour.

@@ -3,14 +3,6 @@ use Rattle.units.proofs.Heights.{number_of}
 use Rattle.turns.proofs.Loading.{raised-none, raised-next, raised_all}
 use Rattle.turns.proofs.load.add_part.Goals as goal
 
-pub loop-t-init : goal.loop-t-init
-loop-t-init c = raised-none _ _ _ _
-
-pub plus-requires : goal.plus-requires
-plus-requires c =
-    let t = c.loop-t.t in
-    omega (arith, c.requires t (omega (arith, c.loop-t-test.true, c.min-end.ensures)), c.loop-t.invariant.rest t (omega arith))
-
 pub loop-t-preserved : goal.loop-t-preserved
 loop-t-preserved c =
     raised-next _ (number_of c.plus.ensures) c.loop-t-test.true (omega (arith, c.loop-t-test.true, c.min-end.ensures)) c.loop-t.invariant

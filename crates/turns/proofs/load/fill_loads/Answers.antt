@@ -3,9 +3,6 @@ use Rattle.plan.specs.Plan.{heights_of}
 use Rattle.turns.proofs.Loading.{rooms-none, room-zero, rooms-next, rooms-all}
 use Rattle.turns.proofs.load.fill_loads.Goals as goal
 
-pub loop-room-init : goal.loop-room-init
-loop-room-init c = rooms-none c.requires.1
-
 pub fill_room-requires : goal.fill_room-requires
 unfolding heights_of
 fill_room-requires c = (

@@ -16,15 +16,17 @@ loop-fit-init c = sym (load-none _ _ _)
 pub plus-sum-requires : goal.plus-sum-requires
 plus-sum-requires c =
     let small = c.requires.small in
-    let turn = zip_turn c.args.fits.now c.args.heights.now c.loop-fit.yielded c.into_iter-fit-iterator.result c.loop-fit.fit-iterator c.next.new.self
-    c.next.result (search rules) (search rules) c.loop-fit.yielded_by _ c.in-Some.is c.next.ensures.steps in
+    let turn =
+    zip_turn c.args.fits.now c.args.heights.now _ c.into_iter-fit-iterator.result c.loop-fit.fit-iterator c.next.new.self _
+    (search rules) (search rules) c.loop-fit.yielded_by _ c.in-Some.is c.next.ensures.steps in
     omega (arith, small (length c.loop-fit.yielded), c.requires.few, load-small _ _ _ small _ _ c.loop-fit.invariant, turn.1, turn.3 0)
 
 pub loop-fit-preserved-then-is_some_and : goal.loop-fit-preserved-then-is_some_and
 unfolding must_run
 loop-fit-preserved-then-is_some_and c =
-    let turn = zip_turn c.args.fits.now c.args.heights.now c.loop-fit.yielded c.into_iter-fit-iterator.result c.loop-fit.fit-iterator c.next.new.self
-    c.next.result (search rules) (search rules) c.loop-fit.yielded_by _ c.in-Some.is c.next.ensures.steps in
+    let turn =
+    zip_turn c.args.fits.now c.args.heights.now _ c.into_iter-fit-iterator.result c.loop-fit.fit-iterator c.next.new.self _
+    (search rules) (search rules) c.loop-fit.yielded_by _ c.in-Some.is c.next.ensures.steps in
     let runs : c.is_some_and.result ≡ must_run c.in-Some.fit.now c.args.t.0 = search rules in
     rw length-append (number_of c.plus-sum.ensures ∙ ap (λ (n : ℕ). c.loop-fit.sum.0 + n) (turn.3 0)
     ∙ load_adds _ _ _ _ c.loop-fit.invariant (rw (← turn.2 None) (sym runs ∙ c.if-is_some_and.true)))
@@ -32,14 +34,16 @@ loop-fit-preserved-then-is_some_and c =
 pub loop-fit-preserved : goal.loop-fit-preserved
 unfolding must_run
 loop-fit-preserved c =
-    let turn = zip_turn c.args.fits.now c.args.heights.now c.loop-fit.yielded c.into_iter-fit-iterator.result c.loop-fit.fit-iterator c.next.new.self
-    c.next.result (search rules) (search rules) c.loop-fit.yielded_by _ c.in-Some.is c.next.ensures.steps in
+    let turn =
+    zip_turn c.args.fits.now c.args.heights.now _ c.into_iter-fit-iterator.result c.loop-fit.fit-iterator c.next.new.self _
+    (search rules) (search rules) c.loop-fit.yielded_by _ c.in-Some.is c.next.ensures.steps in
     let runs : c.is_some_and.result ≡ must_run c.in-Some.fit.now c.args.t.0 = search rules in
     rw length-append (load_skips _ _ _ _ c.loop-fit.invariant (rw (← turn.2 None) (sym runs ∙ c.if-is_some_and.false)))
 
 pub returns : goal.returns
 returns c =
-    let all = zip_end c.args.fits.now c.args.heights.now c.loop-fit.yielded c.into_iter-fit-iterator.result c.loop-fit.fit-iterator c.next.new.self
-    c.next.result (search rules) (search rules) c.loop-fit.yielded_by c.in-None.is c.next.ensures.steps in
+    let all =
+    zip_end c.args.fits.now c.args.heights.now _ c.into_iter-fit-iterator.result c.loop-fit.fit-iterator c.next.new.self _
+    (search rules) (search rules) c.loop-fit.yielded_by c.in-None.is c.next.ensures.steps in
     let e : length c.loop-fit.yielded ≡ length c.args.heights.now = omega (arith, all, c.requires.few) in
     c.loop-fit.invariant ∙ rw e (load-all _ _ _)

@@ -46,4 +46,6 @@ returns-then-is_crowded c =
     c.min-end.ensures c.loop-t.auto.t c.loop-t-test.true c.outer-test.true (c.is_crowded.ensures _ c.requires.1) in
     let below : c.loop-t.t < c.args.plan.now.shifts.hours.0 = omega (arith, c.loop-t-test.true, c.min-end.ensures) in
     rw c.letter.ensures
-    (sym (unfound-hit c.outer.invariant.1 c.outer-test.true (first-hit _ _ _ _ below c.loop-t.invariant.1 (tested ∙ some-if _ _ c.if-is_crowded.true))))
+    (sym
+    (unfound-hit c.outer.invariant.1 c.outer-test.true
+    (first-hit _ _ _ _ below c.loop-t.invariant.1 (tested ∙ some-if _ _ c.if-is_crowded.true))))

@@ -17,12 +17,14 @@ room_overload-requires c =
 pub returns-in-Some : goal.returns-in-Some
 unfolding first_overload
 returns-in-Some c =
-    let room = c.room_overload.ensures ∙ ap (λ l. room_overload c.loop-room.room l (get_or c.args.capacities.now c.loop-room.room 0)) c.room_part-in_room.ensures in
+    let capacity = get_or c.args.capacities.now c.loop-room.room 0 in
+    let room = c.room_overload.ensures ∙ ap (λ l. room_overload c.loop-room.room l capacity) c.room_part-in_room.ensures in
     sym (unfound-hit c.loop-room.invariant c.loop-room-test.true (sym room ∙ c.in-Some.is))
 
 pub loop-room-preserved : goal.loop-room-preserved
 loop-room-preserved c =
-    let room = c.room_overload.ensures ∙ ap (λ l. room_overload c.loop-room.room l (get_or c.args.capacities.now c.loop-room.room 0)) c.room_part-in_room.ensures in
+    let capacity = get_or c.args.capacities.now c.loop-room.room 0 in
+    let room = c.room_overload.ensures ∙ ap (λ l. room_overload c.loop-room.room l capacity) c.room_part-in_room.ensures in
     unfound-next c.loop-room.invariant c.loop-room-test.true (sym room ∙ c.in_default.is)
 
 pub returns : goal.returns

@@ -10,15 +10,6 @@ use Rattle.turns.specs.Inner.Finding.{room_overload}
 use Rattle.turns.proofs.Searching.{first-position}
 use Rattle.turns.proofs.search.room_overload.Goals as goal
 
-pub returns-in_err-hour : goal.returns-in_err-hour
-unfolding room_overload
-returns-in_err-hour c =
-    let capacity = c.args.capacity.0 in
-    let found = IsFirst-from_position _ _ c.position.result (λ x. ltb capacity x ≡ true) (λ x. ltb capacity x ≡ false) c.position.ensures.ran
-    (YieldsList-from_slice c.args.loads.now c.iter.ensures.rest)
-    (λ x q k. sym (gt-cmp _ _) ∙ search rules) (λ x q k. (search rules, sym (gt-cmp _ _) ∙ search rules)) in
-    c.from_residual.ensures ∙ sym (first-position (ltb capacity) (step letter_o c.args.room) _ _ found ∙ ap (option_map _) c.in_err-hour.was)
-
 pub returns : goal.returns
 unfolding room_overload
 returns c =
@@ -26,5 +17,5 @@ returns c =
     let found = IsFirst-from_position _ _ c.position.result (λ x. ltb capacity x ≡ true) (λ x. ltb capacity x ≡ false) c.position.ensures.ran
     (YieldsList-from_slice c.args.loads.now c.iter.ensures.rest)
     (λ x q k. sym (gt-cmp _ _) ∙ search rules) (λ x q k. (search rules, sym (gt-cmp _ _) ∙ search rules)) in
-    rw c.letter.ensures
-    (sym (first-position (ltb capacity) (step letter_o c.args.room) _ _ found ∙ ap (option_map _) c.in_ok-hour.was))
+    let made : c.map.result ≡ option_map (step letter_o c.args.room) c.position.result = search rules in
+    made ∙ sym (first-position (ltb capacity) (step letter_o c.args.room) _ _ found)
