@@ -1,32 +1,39 @@
 -- Laws of what reading a plan leaves, from what the code keeps of its text. Assumes nothing.
-use mathlib.Core.Path.{◌≡◌, sym, ap, ◌∙◌}
+use mathlib.Core.Path.{◌≡◌, refl, sym, ap, ◌∙◌}
 use mathlib.Core.Bool.{true}
-use Rattle.std.specs.Prelude.{None}
+use Rattle.std.specs.Prelude.{None, Result, Ok, Err}
+use Rattle.std.specs.Result.{IsErrAnd}
+use Rattle.std.proofs.lemmas.Result.{err_from_is_err_and}
 use mathlib.Core.List.{List}
 use Prim.Native.Nat.{ℕ}
 use Rattle.units.specs.Cells.{written}
 use Rattle.plan.specs.Plan.{Plan}
-use Rattle.plan.specs.Refusals.{fault, Answer, refused, answered}
+use Rattle.plan.specs.declared.Refusal.{Refusal}
+use Rattle.plan.specs.Refusals.{fault_of, Answer, refused, answered}
 use Rattle.plan_lines.specs.declared.Scan.{Scan}
-use Rattle.plan_lines.specs.declared.Scanned.{Scanned}
-use Rattle.plan_lines.specs.declared.Scanned.TheVariants.{Malformed, Whole}
 use Rattle.plan_format.specs.Text.{Read, most_bytes}
 use Rattle.plan_format.specs.Reading.{is_enough, read_fault, end_with, stored, read_tested}
 use Rattle.plan_format.proofs.Readings.{not-refused}
 use Rattle.plan_lines.specs.Inner.Scanning.{calendars_at, work_times_at, capacities_at, section, stored_boxes, Holds, Scans}
 use Rattle.plan_lines.proofs.Following.{plan-held, boxes-held}
+use Rattle.plan_text.specs.declared.PlanRead as Told
+use Rattle.plan_text.specs.Entry.{reading_answer}
 use Rattle.plan_text.specs.Inner.Gathering.{Gathered}
 use Rattle.plan_text.proofs.Judging.{read-passed}
 
+-- a refusal that is handed on
+pub refused-reading : (d : Refusal) (r : Result Told.PlanRead Refusal) → IsErrAnd r (λ e. e ≡ d) → reading_answer r ≡ refused (fault_of d)
+refused-reading d r h = let p = err_from_is_err_and r h in rw (p.1, p.2) refl
+
 -- what a whole text comes to, once it is known which
 module _ (a : Answer Read) (symbols cells : List ℕ) where
-  pub scans-malformed : (x : Scanned) (line : ℕ) → x ≡ Malformed line → Scans a x symbols cells → a ≡ refused (fault 1 line)
+  pub scans-refused : (refusal : Refusal) → Scans a (Err refusal) symbols cells → a ≡ refused (fault_of refusal)
   unfolding Scans
-  scans-malformed x line e f = rw e at f
+  scans-refused refusal f = f
 
-  pub scans-whole : (x : Scanned) (s : Scan) → x ≡ Whole s → Scans a x symbols cells → (r : Read) × (a ≡ answered r) × Holds r s most_bytes symbols cells
+  pub scans-whole : (s : Scan) → Scans a (Ok s) symbols cells → (r : Read) × (a ≡ answered r) × Holds r s most_bytes symbols cells
   unfolding Scans
-  scans-whole x s e f = rw e at f
+  scans-whole s f = f
 
 -- the plan of a text that no test refuses, as it is stored and as it is copied into the memory lent
 module _ (rs cs ts ws ks bs : List ℕ) where

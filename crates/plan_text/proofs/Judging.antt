@@ -10,12 +10,12 @@ use lib.ListN.{length, length-append}
 use borrow.Author.Tests.{eqb-true, eq-eqb, le-leb, lt-leb}
 use Rattle.units.specs.Choice.{◌or_else◌, first_of}
 use Rattle.units.specs.Limits.{most_hours, most_calendars, most_rooms, most_tasks}
-use Rattle.units.specs.Limits.{is_plan_length, is_calendar_count, is_room_count, is_task_count, is_capacity}
+use Rattle.units.specs.Limits.{is_plan_length, is_calendar_count, is_room_count, is_task_count}
 use Rattle.units.specs.Lists.{list_to}
 use Rattle.units.proofs.Choices.{and_both, and_left, and_right, not_left, not_right, neither, else-none, else-some}
 use Rattle.units.proofs.Lists.{list_length}
 use Rattle.units.proofs.Ranges.{is_within, to-most}
-use Rattle.plan.specs.Plan.{Plan, plan, room_count, task_count}
+use Rattle.plan.specs.Plan.{Plan, plan, task_count}
 use Rattle.plan.specs.declared.Fault.{Fault}
 use Rattle.plan.specs.Refusals.{fault}
 use Rattle.plan.specs.Faults.{one_for_each_task, calendars_fault, capacity_fault, counts_fault, tasks_fault, plan_fault}
@@ -76,7 +76,7 @@ module _ (P : Plan) (boxes : List ℕ) where
 
   too_many : most_tasks < task_count P
       → plan_fault P boxes ≡ (plan_fault (plan P.shifts.hours (0 ∷ []) P.shifts.calendars [] [] []) [] or_else Some (fault 5 0))
-  too_many h = by-counts _ (unfold counts_fault is_task_count in (refuse _ 5 0 _ (lt-leb (task_count P) most_tasks h)))
+  too_many h = by-counts _ (unfold counts_fault in (refuse _ 5 0 _ (lt-leb (task_count P) most_tasks h)))
 
   no-rooms : is_task_count (task_count P) ≡ true → is_room_count (length P.capacities) ≡ false
       → plan_fault P boxes ≡ (plan_fault (plan P.shifts.hours (0 ∷ []) P.shifts.calendars [] [] []) [] or_else Some (fault 17 0))

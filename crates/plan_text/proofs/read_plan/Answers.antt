@@ -2,7 +2,7 @@ use mathlib.Core.Path.{sym, ◌∙◌}
 use native.Mathlib.Omega.{arith}
 use lib.Seq.{length-take-le}
 use Rattle.plan_format.proofs.Readings.{read-malformed, read_whole}
-use Rattle.plan_text.proofs.Entry.{scans-malformed, scans-whole}
+use Rattle.plan_text.proofs.Entry.{refused-reading, scans-refused, scans-whole}
 use Rattle.plan_text.proofs.read_plan.Goals as goal
 
 pub slice_bounds-gathered-end : goal.slice_bounds-gathered-end
@@ -11,8 +11,8 @@ slice_bounds-gathered-end c =
 
 pub keep_plan-requires : goal.keep_plan-requires
 keep_plan-requires c =
-    let (r, e, held) = scans-whole _ _ _ _ _ c.in-Whole.is c.read_text-scanned.ensures in (
-      record { text = r; held = held; sized = record { of_symbols = c.read_text-scanned.auto.symbols; of_cells = c.read_text-scanned.auto.cells } },
+    let (r, e, held) = scans-whole _ _ _ _ c.in_ok-scan.ensures in (
+      record { text = r; held = held; sized = record { of_symbols = c.read_text.auto.symbols; of_cells = c.read_text.auto.cells } },
       c.gather_heights-count.ensures.1,
       omega (
         arith,
@@ -22,16 +22,16 @@ keep_plan-requires c =
       ),
     )
 
-pub returns-in-Malformed : goal.returns-in-Malformed
-returns-in-Malformed c =
-    read-malformed _ _ _ _ _ _ _ _ (scans-malformed _ _ _ _ _ c.in-Malformed.is c.read_text-scanned.ensures)
+pub returns-in_err-scan : goal.returns-in_err-scan
+returns-in_err-scan c =
+    rw (refused-reading _ _ c.from_residual.ensures.1) (read-malformed _ _ _ _ _ _ _ _ (scans-refused _ _ _ _ c.in_err-scan.ensures))
 
-pub returns-in-Whole : goal.returns-in-Whole
-returns-in-Whole c =
-    let (r, e, held) = scans-whole _ _ _ _ _ c.in-Whole.is c.read_text-scanned.ensures in
+pub returns : goal.returns
+returns c =
+    let (r, e, held) = scans-whole _ _ _ _ c.in_ok-scan.ensures in
     c.keep_plan.ensures r held ∙ read_whole _ _ _ _ _ _ _ r e
 
-pub slice_bounds-keep_plan-end-in-Whole-2 : goal.slice_bounds-keep_plan-end-in-Whole-2
-slice_bounds-keep_plan-end-in-Whole-2 c =
+pub slice_bounds-keep_plan-end-3 : goal.slice_bounds-keep_plan-end-3
+slice_bounds-keep_plan-end-3 c =
     sym (length-take-le c.gather_heights-count.result c.gather_heights-count.new.heights
     (omega (arith, c.gather_heights-count.ensures.0, c.gather_heights-count.auto.heights)))
