@@ -1,58 +1,97 @@
 -- Laws of what reading a plan leaves, from what the code keeps of its text. Assumes nothing.
-use mathlib.Core.Path.{◌≡◌, sym, ap, ◌∙◌}
+use mathlib.Core.Path.{◌≡◌, refl, sym, ap, ◌∙◌}
 use mathlib.Core.Bool.{true}
-use Rattle.std.specs.Prelude.{None}
+use Rattle.std.specs.Prelude.{None, Result, Ok, Err}
+use Rattle.std.specs.Result.{IsErrAnd}
+use Rattle.std.proofs.lemmas.Result.{err_from_is_err_and}
 use mathlib.Core.List.{List}
-use Prim.Native.Nat.{ℕ}
+use Prim.Native.Nat.{ℕ, ◌*◌, ◌≤◌}
+use native.Mathlib.Nat.{mul-le-mul}
+use native.Mathlib.Omega.{arith}
+use lib.ListN.{length}
 use Rattle.units.specs.Cells.{written}
-use Rattle.plan.specs.Plan.{Plan}
-use Rattle.plan.specs.Refusals.{fault, Answer, refused, answered}
+use Rattle.units.specs.Limits.{most_hours, most_calendars, most_rooms, most_tasks}
+use Rattle.plan.specs.Plan.{Plan, room_count, task_count, calendar_count}
+use Rattle.plan.specs.Passed.{Passed}
+use Rattle.plan.specs.declared.Refusal.{Refusal}
+use Rattle.plan.specs.Refusals.{fault_of, Answer, refused, answered}
 use Rattle.plan_lines.specs.declared.Scan.{Scan}
-use Rattle.plan_lines.specs.declared.Scanned.{Scanned}
-use Rattle.plan_lines.specs.declared.Scanned.TheVariants.{Malformed, Whole}
 use Rattle.plan_format.specs.Text.{Read, most_bytes}
-use Rattle.plan_format.specs.Reading.{is_enough, read_fault, end_with, stored, read_tested}
-use Rattle.plan_format.proofs.Readings.{not-refused}
-use Rattle.plan_lines.specs.Inner.Scanning.{calendars_at, work_times_at, capacities_at, section, stored_boxes, Holds, Scans}
+use Rattle.plan_format.specs.Reading.{most_symbols, most_heights, is_enough, read_fault, end_with, stored, read_tested}
+use Rattle.plan_format.proofs.Readings.{enough, not-refused}
+use Rattle.plan_lines.specs.Inner.Scanning.{section, stored_plan, stored_boxes, Holds, Scans}
 use Rattle.plan_lines.proofs.Following.{plan-held, boxes-held}
-use Rattle.plan_text.specs.Inner.Gathering.{Gathered}
+use Rattle.plan_text.specs.declared.PlanRead as Told
+use Rattle.plan_text.specs.Entry.{reading_answer}
 use Rattle.plan_text.proofs.Judging.{read-passed}
+use Rattle.plan_text.proofs.Judging.{read-passed}
+
+-- a refusal that is handed on
+pub refused-reading : (d : Refusal) (r : Result Told.PlanRead Refusal) → IsErrAnd r (λ e. e ≡ d) → reading_answer r ≡ refused (fault_of d)
+refused-reading d r h = let p = err_from_is_err_and r h in rw (p.1, p.2) refl
 
 -- what a whole text comes to, once it is known which
 module _ (a : Answer Read) (symbols cells : List ℕ) where
-  pub scans-malformed : (x : Scanned) (line : ℕ) → x ≡ Malformed line → Scans a x symbols cells → a ≡ refused (fault 1 line)
+  pub scans-refused : (refusal : Refusal) → Scans a (Err refusal) symbols cells → a ≡ refused (fault_of refusal)
   unfolding Scans
-  scans-malformed x line e f = rw e at f
+  scans-refused refusal f = f
 
-  pub scans-whole : (x : Scanned) (s : Scan) → x ≡ Whole s → Scans a x symbols cells → (r : Read) × (a ≡ answered r) × Holds r s most_bytes symbols cells
+  pub scans-whole : (s : Scan) → Scans a (Ok s) symbols cells → (r : Read) × (a ≡ answered r) × Holds r s most_bytes symbols cells
   unfolding Scans
-  scans-whole x s e f = rw e at f
+  scans-whole s f = f
 
--- the plan of a text that no test refuses, as it is stored and as it is copied into the memory lent
 module _ (rs cs ts ws ks bs : List ℕ) where
-  module _ {r : Read} {s : Scan} {n : ℕ} {symbols cells : List ℕ} (held : Holds r s n symbols cells) (heights : List ℕ)
-      (gathered : Gathered s.rooms s.tasks cells heights)
-    where
-      pub passed : {rs' cs' ts' ws' ks' bs' : List ℕ} → is_enough rs cs ts ws ks bs ≡ true → None ≡ read_fault true r
-          → (rs' ≡ written (section capacities_at s.rooms cells) rs)
-          × (cs' ≡ written (section 0 s.symbols symbols) cs)
-          × (ts' ≡ written (section calendars_at s.tasks cells) ts)
-          × (ws' ≡ written (section work_times_at s.tasks cells) ws)
-          × (ks' ≡ written heights ks)
-          × (bs' ≡ written (stored_boxes s.tasks cells) bs)
-          → end_with (answered (record { hours = s.hours; rooms = s.rooms; calendars = s.calendars; tasks = s.tasks })) rs' cs' ts' ws' ks' bs'
-          ≡ read_tested rs cs ts ws ks bs r
-      unfolding stored Gathered
-      passed e q left =
-          let few = read-passed held q in
-          let P = plan-held held few.symbols_few few.tasks_few few.rooms_few in
-          let H = ap (λ (l : List ℕ). written l ks) (gathered few.rooms_few few.tasks_few) in
-          (λ k. end_with
-          (answered (record { hours = held.hours k; rooms = held.rooms k; calendars = held.calendars k; tasks = held.tasks k }))
-          ((left.0 ∙ ap (λ (p : Plan). written p.capacities rs) P) k)
-          ((left.1 ∙ ap (λ (p : Plan). written p.shifts.calendars cs) P) k)
-          ((left.2 ∙ ap (λ (p : Plan). written p.shifts.task_calendars ts) P) k)
-          ((left.3 ∙ ap (λ (p : Plan). written p.shifts.work_times ws) P) k)
-          ((left.4 ∙ H ∙ ap (λ (p : Plan). written p.heights ks) P) k)
-          ((left.5 ∙ ap (λ (l : List ℕ). written l bs) (boxes-held held few.symbols_few few.tasks_few few.rooms_few)) k))
-          ∙ not-refused rs cs ts ws ks bs r (rw e (sym q))
+  -- memory that is enough has room for a plan that passes
+  pub record HasRoom (P : Plan) (own : List ℕ) : Type 0 where
+    pub capacities : length P.capacities ≤ length rs
+    pub calendars : length P.shifts.calendars ≤ length cs
+    pub task_calendars : length P.shifts.task_calendars ≤ length ts
+    pub work_times : length P.shifts.work_times ≤ length ws
+    pub heights : length P.heights ≤ length ks
+    pub boxes : length own ≤ length bs
+
+  pub has-room : (P : Plan) (own : List ℕ) → Passed P own → is_enough rs cs ts ws ks bs ≡ true → HasRoom P own
+  has-room P own p e =
+      let room = enough _ _ _ _ _ _ e in
+      let symbols : calendar_count P.shifts * P.shifts.hours ≤ most_symbols =
+      mul-le-mul {n₁ = calendar_count P.shifts} {m₁ = P.shifts.hours} {n₂ = most_calendars} {m₂ = most_hours} p.calendars p.hours
+      in
+      let heights : room_count P * task_count P ≤ most_heights =
+      mul-le-mul {n₁ = room_count P} {m₁ = task_count P} {n₂ = most_rooms} {m₂ = most_tasks} p.rooms p.tasks
+      in
+      record {
+        capacities = omega (arith, p.rooms, room.capacities);
+        calendars = omega (arith, p.whole, symbols, room.calendars);
+        task_calendars = omega (arith, p.tasks, room.task_calendars);
+        work_times = omega (arith, p.tasks, p.work_times, room.work_times);
+        heights = omega (arith, p.heights, heights, room.heights);
+        boxes = omega (arith, p.tasks, p.boxes, room.boxes);
+      }
+
+  -- the plan of a text that no test refuses, as it is copied into the memory lent
+  module _ {r : Read} {s : Scan} {n : ℕ} {symbols cells : List ℕ} (held : Holds r s n symbols cells) where
+    pub kept : {P : Plan} {boxes rs' cs' ts' ws' ks' bs' : List ℕ} → P ≡ stored_plan s.hours s.rooms s.tasks (section 0 s.symbols symbols) cells
+        → boxes ≡ stored_boxes s.tasks cells
+        → is_enough rs cs ts ws ks bs ≡ true → None ≡ read_fault true r
+        → (rs' ≡ written P.capacities rs)
+        × (cs' ≡ written P.shifts.calendars cs)
+        × (ts' ≡ written P.shifts.task_calendars ts)
+        × (ws' ≡ written P.shifts.work_times ws)
+        × (ks' ≡ written P.heights ks)
+        × (bs' ≡ written boxes bs)
+        → end_with (answered (record { hours = s.hours; rooms = s.rooms; calendars = s.calendars; tasks = s.tasks })) rs' cs' ts' ws' ks' bs'
+        ≡ read_tested rs cs ts ws ks bs r
+    unfolding stored
+    kept p b e q left =
+        let few = read-passed held q in
+        let own = p ∙ plan-held held few.symbols_few few.tasks_few few.rooms_few in
+        let own_boxes = b ∙ boxes-held held few.symbols_few few.tasks_few few.rooms_few in
+        (λ k. end_with
+        (answered (record { hours = held.hours k; rooms = held.rooms k; calendars = held.calendars k; tasks = held.tasks k }))
+        ((left.0 ∙ ap (λ (p : Plan). written p.capacities rs) own) k)
+        ((left.1 ∙ ap (λ (p : Plan). written p.shifts.calendars cs) own) k)
+        ((left.2 ∙ ap (λ (p : Plan). written p.shifts.task_calendars ts) own) k)
+        ((left.3 ∙ ap (λ (p : Plan). written p.shifts.work_times ws) own) k)
+        ((left.4 ∙ ap (λ (p : Plan). written p.heights ks) own) k)
+        ((left.5 ∙ ap (λ (l : List ℕ). written l bs) own_boxes) k))
+        ∙ not-refused rs cs ts ws ks bs r (rw e (sym q))

@@ -4,16 +4,15 @@ use mathlib.Core.List.{List, ◌++◌}
 use Prim.Native.Nat.{ℕ, ◌+◌, ◌-◌, ◌*◌, ◌≤◌}
 use native.Mathlib.Omega.{arith}
 use lib.ListN.{length, take, drop}
-use Rattle.units.specs.Limits.{most_rooms, most_tasks}
+use Rattle.units.specs.Limits.{most_tasks}
 use Rattle.units.specs.Lists.{list_to}
 use Rattle.units.proofs.Cells.{written-front}
 use Rattle.units.proofs.Lists.{list-next}
 use Rattle.text.specs.Putting.{Put}
-use Rattle.plan_format.specs.Reading.{joined, most_heights}
+use Rattle.plan_format.specs.Reading.{joined}
 use Rattle.plan_format.proofs.Joined.{joined-more}
 use Rattle.plan_lines.specs.Inner.Scanning.{room_at, section, stored_heights}
 use Rattle.plan_lines.proofs.Sections.{section-part, part_length}
-use Rattle.plan_text.specs.Inner.Gathering.{Gathered}
 
 -- those of the first rooms, up to a place
 pub record GatheredTo (tasks : ℕ) (cells heights : List ℕ) (end room : ℕ) : Type 0 where
@@ -44,7 +43,6 @@ module _ (tasks : ℕ) (cells heights : List ℕ) where
       }
 
   -- all rooms
-  pub gathered-all : (end room rooms : ℕ) → GatheredTo tasks cells heights end room → room ≡ rooms → rooms ≤ most_rooms
-      → (end ≤ most_heights) × Gathered rooms tasks cells (take end heights)
-  unfolding Gathered
-  gathered-all end room rooms at e few = (omega (arith, at.few), λ m l. at.are ∙ ap (λ (k : ℕ). stored_heights k tasks cells) e)
+  pub gathered-all : (end room rooms : ℕ) → GatheredTo tasks cells heights end room → room ≡ rooms
+      → take end heights ≡ stored_heights rooms tasks cells
+  gathered-all end room rooms at e = at.are ∙ ap (λ (k : ℕ). stored_heights k tasks cells) e

@@ -1,7 +1,9 @@
 -- Laws of the tests of a plan that was read, from what is stored of it. Assumes nothing.
 use mathlib.Core.Path.{◌≡◌, refl, sym, ap, ap₂, ◌∙◌}
 use mathlib.Core.Bool.{true, false}
-use Rattle.std.specs.Prelude.{Option, None, Some}
+use Rattle.std.specs.Prelude.{Option, None, Some, Result, Ok, Err}
+use Rattle.std.specs.Option.{unwrap_or}
+use Rattle.std.specs.Result.{result_err}
 use mathlib.Core.List.{List, [], ◌∷◌}
 use Prim.Native.Nat.{ℕ, ◌*◌, ◌≤◌, ◌<◌}
 use native.Mathlib.Nat.{suc-mul, mul-le-mul}
@@ -10,17 +12,19 @@ use lib.ListN.{length, length-append}
 use borrow.Author.Tests.{eqb-true, eq-eqb, le-leb, lt-leb}
 use Rattle.units.specs.Choice.{◌or_else◌, first_of}
 use Rattle.units.specs.Limits.{most_hours, most_calendars, most_rooms, most_tasks}
-use Rattle.units.specs.Limits.{is_plan_length, is_calendar_count, is_room_count, is_task_count, is_capacity}
+use Rattle.units.specs.Limits.{is_plan_length, is_calendar_count, is_room_count, is_task_count}
 use Rattle.units.specs.Lists.{list_to}
 use Rattle.units.proofs.Choices.{and_both, and_left, and_right, not_left, not_right, neither, else-none, else-some}
 use Rattle.units.proofs.Lists.{list_length}
 use Rattle.units.proofs.Ranges.{is_within, to-most}
-use Rattle.plan.specs.Plan.{Plan, plan, room_count, task_count}
+use Rattle.plan.specs.Plan.{Plan, plan, task_count}
 use Rattle.plan.specs.declared.Fault.{Fault}
-use Rattle.plan.specs.Refusals.{fault}
-use Rattle.plan.specs.Faults.{one_for_each_task, calendars_fault, capacity_fault, counts_fault, tasks_fault, plan_fault}
+use Rattle.plan.specs.declared.Refusal.{Refusal}
+use Rattle.plan.specs.Refusals.{fault, fault_of, tested_fault}
+use Rattle.plan.specs.Faults.{one_for_each_task, is_right_size, calendars_fault, capacity_fault, counts_fault, tasks_fault, plan_fault}
+use Rattle.plan.specs.Passed.{Passed}
 use Rattle.plan.proofs.Refusals.{unless-true, unless-none, unless-false, go_on, refuse}
-use Rattle.plan.proofs.Passed.{counts-passed}
+use Rattle.plan.proofs.Passed.{counts-passed, passed}
 use Rattle.plan_lines.specs.declared.Scan.{Scan}
 use Rattle.plan_format.specs.Text.{Read}
 use Rattle.plan_format.specs.Reading.{joined, plan_in, boxes_in, all_of, most_symbols, line_fault, read_fault}
@@ -55,6 +59,11 @@ module _ (a x y : Option Fault) where
       go (Some f) = unfold ◌or_else◌ in refl
       go None = unfold ◌or_else◌ in refl
 
+-- the refusal of tests, or else another
+pub first-refusal : (r : Result Unit Refusal) (d : Refusal) → Some (fault_of (unwrap_or (result_err r) d)) ≡ (tested_fault r or_else Some (fault_of d))
+first-refusal (Ok u) d = sym (else-none _ _ refl)
+first-refusal (Err e) d = sym (else-some _ _ _ refl)
+
 -- a plan of one room and no task: its memory is of the right size, and it is refused by its calendars alone
 pub no-task-each : one_for_each_task (0 ∷ []) [] [] [] [] ≡ true
 unfolding one_for_each_task
@@ -76,7 +85,7 @@ module _ (P : Plan) (boxes : List ℕ) where
 
   too_many : most_tasks < task_count P
       → plan_fault P boxes ≡ (plan_fault (plan P.shifts.hours (0 ∷ []) P.shifts.calendars [] [] []) [] or_else Some (fault 5 0))
-  too_many h = by-counts _ (unfold counts_fault is_task_count in (refuse _ 5 0 _ (lt-leb (task_count P) most_tasks h)))
+  too_many h = by-counts _ (unfold counts_fault in (refuse _ 5 0 _ (lt-leb (task_count P) most_tasks h)))
 
   no-rooms : is_task_count (task_count P) ≡ true → is_room_count (length P.capacities) ≡ false
       → plan_fault P boxes ≡ (plan_fault (plan P.shifts.hours (0 ∷ []) P.shifts.calendars [] [] []) [] or_else Some (fault 17 0))
@@ -92,14 +101,14 @@ module _ (rooms n : ℕ) (cells : List ℕ) (few : rooms ≤ most_rooms) (l : n 
       joined_length n (list_to parts rooms) (all_list n parts rooms (λ room h. section-length (room_at room) n cells (omega arith)))
       ∙ ap (λ (k : ℕ). k * n) (list_length parts rooms)
 
-  pub parts-each : (heights : List ℕ) → heights ≡ stored_heights rooms n cells
-      → one_for_each_task (section capacities_at rooms cells) (section calendars_at n cells) (section work_times_at n cells) heights (stored_boxes n cells) ≡ true
+  pub parts-each : (hours : ℕ) (symbols : List ℕ)
+      → is_right_size (stored_plan hours rooms n symbols cells) (stored_boxes n cells) ≡ true
   unfolding one_for_each_task
-  parts-each heights e =
+  parts-each hours symbols =
       let t = section-length calendars_at n cells (omega arith) in
       let b = section-length boxes_at (6 * n) cells (omega arith) in
       and_both _ _ (eq-eqb _ _ (section-length work_times_at n cells (omega arith) ∙ sym t))
-      (and_both _ _ (eq-eqb _ _ (ap length e ∙ heights-size ∙ ap₂ ◌*◌ (sym (section-length capacities_at rooms cells (omega arith))) (sym t)))
+      (and_both _ _ (eq-eqb _ _ (heights-size ∙ ap₂ ◌*◌ (sym (section-length capacities_at rooms cells (omega arith))) (sym t)))
       (eq-eqb _ _ (b ∙ ap (λ (k : ℕ). 6 * k) (sym t))))
 
 module _ {r : Read} {s : Scan} {n : ℕ} {symbols cells : List ℕ} (held : Holds r s n symbols cells) where
@@ -192,3 +201,12 @@ module _ {r : Read} {s : Scan} {n : ℕ} {symbols cells : List ℕ} (held : Hold
         tasks_few = omega (arith, task-count held, counts.tasks);
         rooms_few = omega (arith, held.rooms, counts.rooms);
       }
+
+  -- what is stored of a text that no test refuses is a plan that passes
+  pub stored-passed : length cells ≡ store_size → None ≡ read_fault true r
+      → Passed (stored_plan s.hours s.rooms s.tasks (section 0 s.symbols symbols) cells) (stored_boxes s.tasks cells)
+  unfolding read_fault
+  stored-passed size e =
+      let few = read-passed e in
+      let lines = sym (neither _ _ (neither _ _ (sym e)).1).0 in
+      passed _ _ (parts-each s.rooms s.tasks cells few.rooms_few few.tasks_few size s.hours (section 0 s.symbols symbols)) (read-plan lines few.tasks_few few.rooms_few ∙ sym e)

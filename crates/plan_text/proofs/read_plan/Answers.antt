@@ -1,37 +1,45 @@
-use mathlib.Core.Path.{sym, ◌∙◌}
-use native.Mathlib.Omega.{arith}
-use lib.Seq.{length-take-le}
-use Rattle.plan_format.proofs.Readings.{read-malformed, read_whole}
-use Rattle.plan_text.proofs.Entry.{scans-malformed, scans-whole}
+use mathlib.Core.Path.{refl, sym, ◌∙◌}
+use Rattle.plan_format.proofs.Readings.{read-malformed, read_whole, too_small, not-passed}
+use Rattle.plan_text.proofs.Judging.{read-passed, stored-passed}
+use Rattle.plan_text.proofs.Entry.{refused-reading, scans-refused, scans-whole, kept}
 use Rattle.plan_text.proofs.read_plan.Goals as goal
 
-pub slice_bounds-gathered-end : goal.slice_bounds-gathered-end
-slice_bounds-gathered-end c =
-    omega (arith, c.gather_heights-count.ensures.0, c.gather_heights-count.auto.heights)
+pub returns-in_err-scan : goal.returns-in_err-scan
+returns-in_err-scan c =
+    rw (refused-reading _ _ c.from_residual.ensures.1) (read-malformed _ _ _ _ _ _ _ _ (scans-refused _ _ _ _ c.in_err-scan.ensures))
 
-pub keep_plan-requires : goal.keep_plan-requires
-keep_plan-requires c =
-    let (r, e, held) = scans-whole _ _ _ _ _ c.in-Whole.is c.read_text-scanned.ensures in (
-      record { text = r; held = held; sized = record { of_symbols = c.read_text-scanned.auto.symbols; of_cells = c.read_text-scanned.auto.cells } },
-      c.gather_heights-count.ensures.1,
-      omega (
-        arith,
-        c.gather_heights-count.ensures.0,
-        (length-take-le c.gather_heights-count.result c.gather_heights-count.new.heights
-            (omega (arith, c.gather_heights-count.ensures.0, c.gather_heights-count.auto.heights))),
-      ),
+pub returns-then-not-is_enough : goal.returns-then-not-is_enough
+returns-then-not-is_enough c =
+    let (r, e, held) = scans-whole _ _ _ _ c.in_ok-scan.ensures in
+    too_small _ _ _ _ _ _ r (sym c.is_enough.ensures ∙ c.if-not-is_enough.true) ∙ read_whole _ _ _ _ _ _ _ r e
+
+pub tested_plan-requires : goal.tested_plan-requires
+tested_plan-requires c =
+    let (r, e, held) = scans-whole _ _ _ _ c.in_ok-scan.ensures in
+    (record { text = r; held = held; sized = record { of_symbols = c.read_text.auto.symbols; of_cells = c.read_text.auto.cells } }, refl)
+
+pub returns-in_err-plan : goal.returns-in_err-plan
+returns-in_err-plan c =
+    let (r, e, held) = scans-whole _ _ _ _ c.in_ok-scan.ensures in
+    rw (refused-reading _ _ c.from_residual-in_err-plan.ensures.1)
+    (not-passed _ _ _ _ _ _ r _ (sym c.is_enough.ensures ∙ c.if-not-is_enough.false) (c.in_err-plan.ensures.tests r held)
+    ∙ read_whole _ _ _ _ _ _ _ r e)
+
+pub stored_boxes-requires : goal.stored_boxes-requires
+stored_boxes-requires c =
+    let (r, e, held) = scans-whole _ _ _ _ c.in_ok-scan.ensures in
+    ((read-passed held (c.in_ok-plan.ensures.tests r held)).tasks_few, c.read_text.auto.cells)
+
+pub store_plan-requires : goal.store_plan-requires
+store_plan-requires c =
+    let (r, e, held) = scans-whole _ _ _ _ c.in_ok-scan.ensures in (
+      rw (c.in_ok-plan.ensures.plan, c.stored_boxes.ensures) (stored-passed held c.read_text.auto.cells (c.in_ok-plan.ensures.tests r held)),
+      sym c.is_enough.ensures ∙ c.if-not-is_enough.false,
     )
 
-pub returns-in-Malformed : goal.returns-in-Malformed
-returns-in-Malformed c =
-    read-malformed _ _ _ _ _ _ _ _ (scans-malformed _ _ _ _ _ c.in-Malformed.is c.read_text-scanned.ensures)
-
-pub returns-in-Whole : goal.returns-in-Whole
-returns-in-Whole c =
-    let (r, e, held) = scans-whole _ _ _ _ _ c.in-Whole.is c.read_text-scanned.ensures in
-    c.keep_plan.ensures r held ∙ read_whole _ _ _ _ _ _ _ r e
-
-pub slice_bounds-keep_plan-end-in-Whole-2 : goal.slice_bounds-keep_plan-end-in-Whole-2
-slice_bounds-keep_plan-end-in-Whole-2 c =
-    sym (length-take-le c.gather_heights-count.result c.gather_heights-count.new.heights
-    (omega (arith, c.gather_heights-count.ensures.0, c.gather_heights-count.auto.heights)))
+pub returns : goal.returns
+returns c =
+    let (r, e, held) = scans-whole _ _ _ _ c.in_ok-scan.ensures in
+    kept _ _ _ _ _ _ held c.in_ok-plan.ensures.plan c.stored_boxes.ensures (sym c.is_enough.ensures ∙ c.if-not-is_enough.false)
+    (c.in_ok-plan.ensures.tests r held) c.store_plan.ensures
+    ∙ read_whole _ _ _ _ _ _ _ r e

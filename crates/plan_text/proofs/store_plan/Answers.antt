@@ -1,30 +1,33 @@
+use mathlib.Core.Path.{◌∙◌}
 use native.Mathlib.Omega.{arith}
-use Rattle.plan_format.proofs.Readings.{enough}
+use Rattle.units.proofs.Cells.{written_start}
+use Rattle.plan_text.proofs.Entry.{has-room}
 use Rattle.plan_text.proofs.store_plan.Goals as goal
 
-pub store_shifts-requires : goal.store_shifts-requires
-store_shifts-requires c =
-    let room = enough _ _ _ _ _ _ c.requires.5 in (
-      c.requires.1,
-      c.requires.2,
-      omega (arith, c.requires.3, room.calendars),
-      omega (arith, c.requires.1, room.task_calendars),
-      omega (arith, c.requires.1, room.work_times),
-    )
+pub put_all-requires : goal.put_all-requires
+put_all-requires c = omega (arith, (has-room _ _ _ _ _ _ _ _ c.requires.0 c.requires.1).capacities)
 
-pub store_rooms-requires : goal.store_rooms-requires
-store_rooms-requires c =
-    let room = enough _ _ _ _ _ _ c.requires.5 in (
-      c.requires.0,
-      c.requires.1,
-      c.requires.2,
-      omega (arith, c.requires.0, room.capacities),
-      omega (arith, c.requires.4, room.heights),
-      omega (arith, c.requires.1, room.boxes),
-    )
+pub put_all-requires-2 : goal.put_all-requires-2
+put_all-requires-2 c = omega (arith, (has-room _ _ _ _ _ _ _ _ c.requires.0 c.requires.1).calendars)
+
+pub put_all-requires-3 : goal.put_all-requires-3
+put_all-requires-3 c = omega (arith, (has-room _ _ _ _ _ _ _ _ c.requires.0 c.requires.1).task_calendars)
+
+pub put_all-requires-4 : goal.put_all-requires-4
+put_all-requires-4 c = omega (arith, (has-room _ _ _ _ _ _ _ _ c.requires.0 c.requires.1).work_times)
+
+pub put_all-requires-5 : goal.put_all-requires-5
+put_all-requires-5 c = omega (arith, (has-room _ _ _ _ _ _ _ _ c.requires.0 c.requires.1).heights)
+
+pub put_all-requires-6 : goal.put_all-requires-6
+put_all-requires-6 c = omega (arith, (has-room _ _ _ _ _ _ _ _ c.requires.0 c.requires.1).boxes)
 
 pub returns : goal.returns
-returns c =
-    let shifts_left = c.store_shifts.ensures in
-    let rooms-left = c.store_rooms.ensures in
-    (rooms-left.0, shifts_left.0, shifts_left.1, shifts_left.2, rooms-left.1, rooms-left.2)
+returns c = (
+  c.put_all.ensures.cells_left ∙ written_start _ _,
+  c.put_all-2.ensures.cells_left ∙ written_start _ _,
+  c.put_all-3.ensures.cells_left ∙ written_start _ _,
+  c.put_all-4.ensures.cells_left ∙ written_start _ _,
+  c.put_all-5.ensures.cells_left ∙ written_start _ _,
+  c.put_all-6.ensures.cells_left ∙ written_start _ _,
+)

@@ -1,26 +1,28 @@
-use mathlib.Core.Path.{sym, ◌∙◌}
-use borrow.Author.Tests.{not-true, not-false}
-use Rattle.units.proofs.Choices.{if_none, if_some}
+use mathlib.Core.Path.{sym, ap, ◌∙◌}
+use Rattle.std.specs.Prelude.{Some}
+use Rattle.plan.specs.Refusals.{fault_of}
+use Rattle.plan.proofs.Refusals.{handed-on, none-there, one-there}
 use Rattle.plan_text.proofs.Judging.{no-hours, no-calendars, uneven, lines-pass}
 use Rattle.plan_text.proofs.test_lines.Goals as goal
+use Rattle.plan_text.proofs.test_lines.Goals.{else-is_count-via-then-is_count+else-scan, else-is_count-via-else-is_count}
 
-pub returns-in_default : goal.returns-in_default
-returns-in_default c = λ r symbols cells held. no-hours held (if_none _ _ (sym c.in_default.ensures))
-
-pub returns-then-not-is_count : goal.returns-then-not-is_count
-returns-then-not-is_count c =
+pub returns-in_err-ok_or : goal.returns-in_err-ok_or
+returns-in_err-ok_or c =
     λ r symbols cells held.
-    let hours = if_some _ _ _ (sym c.in-Within.ensures) in
-    no-calendars held hours.0 (sym c.is_count.ensures ∙ c.if-not-is_count.true)
+    let none = none-there _ _ _ c.of_plan.ensures c.in_err-ok_or.ensures.value in
+    handed-on _ _ c.from_residual.ensures.1 ∙ ap (λ r. Some (fault_of r)) none.1 ∙ no-hours held none.0
 
-pub returns-then-not-scan : goal.returns-then-not-scan
-returns-then-not-scan c =
+pub returns-then-scan : goal.returns-then-scan
+returns-then-scan c =
     λ r symbols cells held.
-    let hours = if_some _ _ _ (sym c.in-Within.ensures) in
-    uneven held hours.0 (not-true _ c.if-not-scan.true)
+    let one = one-there _ _ _ c.of_plan.ensures c.in_ok-ok_or.ensures.value in
+    lines-pass held one.0 (sym c.is_count.ensures ∙ c.if-is_count.true) c.if-scan.true
 
-pub returns : goal.returns
-returns c =
+pub returns-else-is_count : goal.returns-else-is_count
+returns-else-is_count c =
     λ r symbols cells held.
-    let hours = if_some _ _ _ (sym c.in-Within.ensures) in
-    lines-pass held hours.0 (sym c.is_count.ensures ∙ c.if-not-is_count.false) (not-false _ c.if-not-scan.false)
+    let one = one-there _ _ _ c.of_plan.ensures c.in_ok-ok_or.ensures.value in
+    elim c.else-is_count.branch [
+      | else-is_count-via-then-is_count+else-scan w ↦ uneven held one.0 w.if-scan.false
+      | else-is_count-via-else-is_count w ↦ no-calendars held one.0 (sym c.is_count.ensures ∙ w.if-is_count.false)
+    ]
