@@ -67,8 +67,10 @@ pub fn rule_numbers(answer: Result<Option<Witnessed>, Refusal>) -> [u64; 29]
 {
     match answer {
         Err(refusal) => refused(refusal),
-        Ok(None) => [0u64; 29],
-        Ok(Some(found)) => window_numbers(found),
+        Ok(found) => match found {
+            None => [0u64; 29],
+            Some(window) => window_numbers(window),
+        },
     }
 }
 

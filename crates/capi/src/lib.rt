@@ -48,12 +48,15 @@ pub extern "C" fn shimlantern_check_schedule(
     ensures { let P = plan hours capacities.now calendars.now task_calendars.now work_times.now heights.now in
         answer.new ≡ schedule_numbers (check_schedule P boxes.now schedule.now) }
 {
-    let plan = Plan::new(hours, capacities, calendars, task_calendars, work_times, heights);
-    let checked = schedule::check_schedule(
-        &plan,
-        boxes,
-        schedule,
+    let plan = Plan::new(
+        hours,
+        capacities,
+        calendars,
+        task_calendars,
+        work_times,
+        heights,
     );
+    let checked = schedule::check_schedule(&plan, boxes, schedule);
     *answer = answers::schedule_numbers(checked);
 }
 
@@ -76,14 +79,15 @@ pub extern "C" fn shimlantern_check_log(
         let e = check_log P boxes.old log_kinds.now log_tasks.now log_hours.now in
         (answer.new ≡ log_numbers (check_answer e)) × (boxes.new ≡ e.boxes) }
 {
-    let plan = Plan::new(hours, capacities, calendars, task_calendars, work_times, heights);
-    let checked = propagation::replay::check_log(
-        &plan,
-        boxes,
-        log_kinds,
-        log_tasks,
-        log_hours,
+    let plan = Plan::new(
+        hours,
+        capacities,
+        calendars,
+        task_calendars,
+        work_times,
+        heights,
     );
+    let checked = propagation::replay::check_log(&plan, boxes, log_kinds, log_tasks, log_hours);
     *answer = answers::log_numbers(checked);
 }
 
@@ -107,14 +111,15 @@ pub extern "C" fn shimlantern_filter(
         (answer.new ≡ filter_numbers e.answer)
         × (filter_end e.answer boxes.new log_kinds.new log_tasks.new log_hours.new ≡ e) }
 {
-    let plan = Plan::new(hours, capacities, calendars, task_calendars, work_times, heights);
-    let filtered = propagation::filter::filter(
-        &plan,
-        boxes,
-        log_kinds,
-        log_tasks,
-        log_hours,
+    let plan = Plan::new(
+        hours,
+        capacities,
+        calendars,
+        task_calendars,
+        work_times,
+        heights,
     );
+    let filtered = propagation::filter::filter(&plan, boxes, log_kinds, log_tasks, log_hours);
     *answer = answers::filter_numbers(filtered);
 }
 
@@ -163,12 +168,15 @@ pub extern "C" fn shimlantern_write_plan(
         let e = write_plan P boxes.now out.old in
         (answer.new ≡ write_numbers e.answer) × (out.new ≡ e.out) }
 {
-    let plan = Plan::new(hours, capacities, calendars, task_calendars, work_times, heights);
-    let writing = plan_writing::write_plan(
-        &plan,
-        boxes,
-        out,
+    let plan = Plan::new(
+        hours,
+        capacities,
+        calendars,
+        task_calendars,
+        work_times,
+        heights,
     );
+    let writing = plan_writing::write_plan(&plan, boxes, out);
     *answer = answers::write_numbers(writing);
 }
 

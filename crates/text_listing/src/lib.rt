@@ -55,12 +55,14 @@ pub fn list_text(text: &[u8], out: &mut [u8; ROOM]) -> usize
     );
     match reading {
         Err(refusal) => list_refusal(refusal, out),
-        Ok(PlanRead {
-            hours,
-            rooms,
-            calendars,
-            tasks,
-        }) => {
+        Ok(
+            PlanRead {
+                hours,
+                rooms,
+                calendars,
+                tasks,
+            },
+        ) => {
             let all = first_symbol(calendars as u16, Duration(hours));
             let each = rooms * tasks;
             let cells = Bounds::NUMBERS * tasks;
