@@ -4,7 +4,8 @@ use mathlib.Core.List.{List}
 use Prim.Native.Nat.{ℕ}
 use Rattle.plan.specs.Refusals.{Answer}
 use Rattle.steps.specs.Log.{LogEnd}
-use Rattle.steps.specs.Entry.{Accepted, check_answer, FilterAnswer, FilterEnd, filter_end}
+use Rattle.steps.specs.declared.Accepted.{Accepted}
+use Rattle.steps.specs.Entry.{check_answer, FilterAnswer, FilterEnd, filter_end}
 use Rattle.plan_format.specs.Reading.{PlanRead, ReadEnd, end_with}
 use Rattle.plan_format.specs.Writing.{WriteEnd, write_end}
 use Rattle.answers.specs.Numbers.{log_numbers, filter_numbers, read_numbers, write_numbers}

@@ -2,4 +2,4 @@ use Rattle.capi.proofs.Left.{left-text}
 use Rattle.capi.proofs.shimlantern_write_plan.Goals as goal
 
 pub returns : goal.returns
-returns c = left-text c.write_numbers.ensures c.write_plan-writing.ensures.answer
+returns c = rw (← c.new-plan.ensures) (left-text c.write_numbers.ensures c.write_plan-writing.ensures.answer)
