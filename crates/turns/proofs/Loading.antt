@@ -103,10 +103,6 @@ pub record Raised (first end raise : ℕ) (old new : List ℕ) (t : ℕ) : Type 
   pub passed : (u : ℕ) → first ≤ u → u < t → (u < end) × (get_or new u 0 ≡ get_or old u 0 + raise)
   pub rest : (u : ℕ) → t ≤ u → get_or new u 0 ≡ get_or old u 0
 
-pub raised-none : (first end raise : ℕ) (old : List ℕ) → Raised first end raise old old first
-raised-none first end raise old =
-    record { same = refl; from = omega arith; before = λ u l. refl; passed = λ u l m. absurd (omega arith); rest = λ u l. refl }
-
 pub raised-next : {first end raise : ℕ} {old new : List ℕ} {t : ℕ} (n : ℕ) → n ≡ get_or new t 0 + raise → t < end → t < length old
     → Raised first end raise old new t → Raised first end raise old (set new t n) (t + 1)
 raised-next {first} {end} {raise} {old} {new} {t} n is k l r =
@@ -215,10 +211,6 @@ pub record RoomsFilled (hours tasks : ℕ) (fits : List (Option Window)) (height
   pub same : length new ≡ length old
   pub load : (room : ℕ) → room < n → (t : ℕ) → t < hours → get_or new (room * hours + t) 0 ≡ load_of fits (room_part tasks heights room) t
   pub rest : (k : ℕ) → n * hours ≤ k → k < length old → get_or new k 0 ≡ 0
-
-pub rooms-none : {hours tasks : ℕ} {fits : List (Option Window)} {heights old : List ℕ} → ((k : ℕ) → k < length old → get_or old k 0 ≡ 0)
-    → RoomsFilled hours tasks fits heights old old 0
-rooms-none h = record { same = refl; load = λ room l. absurd (omega arith); rest = λ k m l. h k l }
 
 module _ {hours tasks rooms : ℕ} {fits : List (Option Window)} {heights old new : List ℕ} {n : ℕ} (r : RoomsFilled hours tasks fits heights old new n)
     (each : length old ≡ rooms * hours) (there : n < rooms) where

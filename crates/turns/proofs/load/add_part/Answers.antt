@@ -1,6 +1,6 @@
 use native.Mathlib.Omega.{arith}
 use Rattle.units.proofs.Heights.{number_of}
-use Rattle.turns.proofs.Loading.{raised-none, raised-next, raised_all}
+use Rattle.turns.proofs.Loading.{raised-next, raised_all}
 use Rattle.turns.proofs.load.add_part.Goals as goal
 
 pub loop-t-preserved : goal.loop-t-preserved

@@ -1,6 +1,6 @@
 use native.Mathlib.Omega.{arith}
 use Rattle.plan.specs.Plan.{heights_of}
-use Rattle.turns.proofs.Loading.{rooms-none, room-zero, rooms-next, rooms-all}
+use Rattle.turns.proofs.Loading.{room-zero, rooms-next, rooms-all}
 use Rattle.turns.proofs.load.fill_loads.Goals as goal
 
 pub fill_room-requires : goal.fill_room-requires
