@@ -209,4 +209,5 @@ module _ {r : Read} {s : Scan} {n : ℕ} {symbols cells : List ℕ} (held : Hold
   stored-passed size e =
       let few = read-passed e in
       let lines = sym (neither _ _ (neither _ _ (sym e)).1).0 in
-      passed _ _ (parts-each s.rooms s.tasks cells few.rooms_few few.tasks_few size s.hours (section 0 s.symbols symbols)) (read-plan lines few.tasks_few few.rooms_few ∙ sym e)
+      passed _ _ (parts-each s.rooms s.tasks cells few.rooms_few few.tasks_few size s.hours (section 0 s.symbols symbols))
+      (read-plan lines few.tasks_few few.rooms_few ∙ sym e)

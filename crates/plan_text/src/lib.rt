@@ -1,19 +1,18 @@
 // Plan text: reading a plan.
 #![tactic(auto)]
 
-ghost use Rattle.std.specs.Prelude.{true, List, [], ◌∷◌, ◌≡◌, ℕ, ◌*◌, ◌≤◌, length, take};
-ghost use Rattle.std.specs.Prelude.{IfOk, Some};
+ghost use Rattle.std.specs.Prelude.{true, List, [], ◌∷◌, ◌≡◌, ℕ, ◌≤◌, length, IfOk, Some};
 ghost use Rattle.units.specs.Cells.{written};
 ghost use Rattle.units.specs.Choice.{◌or_else◌};
-ghost use Rattle.units.specs.Limits.{most_rooms, most_tasks, box_numbers};
+ghost use Rattle.units.specs.Limits.{most_rooms, most_tasks};
 ghost use Rattle.plan.specs.Plan.{plan};
 ghost use Rattle.plan.specs.Refusals.{fault_of, tested_fault};
 ghost use Rattle.plan.specs.Faults.{plan_fault};
 ghost use Rattle.plan.specs.Lent.{plan_in};
 ghost use Rattle.plan.specs.Passed.{Passed};
 ghost use Rattle.plan_format.specs.Text.{Read, most_bytes};
-ghost use Rattle.plan_format.specs.Reading.{most_symbols, most_heights, is_enough, line_fault, read_fault, end_with, read_tested, read_plan};
-ghost use Rattle.plan_lines.specs.Inner.Scanning.{calendars_at, work_times_at, capacities_at, store_size, section, stored_heights, stored_plan, stored_boxes};
+ghost use Rattle.plan_format.specs.Reading.{most_heights, is_enough, line_fault, read_fault, end_with, read_plan};
+ghost use Rattle.plan_lines.specs.Inner.Scanning.{store_size, section, stored_heights, stored_plan, stored_boxes};
 ghost use Rattle.plan_lines.specs.Inner.Scanning.{Holds, Stored};
 ghost use Rattle.plan_text.specs.Entry.{reading_answer};
 
@@ -47,6 +46,7 @@ pub const MOST_HEIGHTS: usize = MOST_ROOMS * Bounds::MOST;
 pub const MOST_BOUNDS: usize = Bounds::NUMBERS * Bounds::MOST;
 
 // Whether this memory is enough for the most that a plan can hold.
+// The lent slices stay parameters here and in `store_plan`: both would open a struct of them at once, so that it is no plainer.
 #[tactic(auto, unfolding(plan_format::specs::Reading::is_enough))]
 fn is_enough(
     capacities: &[u16],
@@ -89,9 +89,8 @@ fn gather_heights<'a>(
     ensures { result.now ≡ stored_heights rooms tasks cells.now }
 {
     let mut end = 0;
-    for room in 0..rooms {
-        let from = HEIGHTS + Bounds::MOST * room;
-        end = put_all(heights, end, &cells[from..from + tasks]);
+    for room in cells[HEIGHTS..HEIGHTS + Bounds::MOST * rooms].chunks(Bounds::MOST) {
+        end = put_all(heights, end, &room[..tasks]);
     }
     &heights[..end]
 }

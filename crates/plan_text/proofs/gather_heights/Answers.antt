@@ -1,24 +1,40 @@
-use mathlib.Core.Path.{refl, ◌∙◌}
+use mathlib.Core.Path.{sym, ◌∙◌}
 use native.Mathlib.Omega.{arith}
-use Rattle.plan_lines.specs.Inner.Scanning.{room_at}
-use Rattle.plan_lines.proofs.Sections.{part_length}
-use Rattle.plan_text.proofs.Gathering.{gathered_none, gathered-more, gathered-all}
+use lib.ListN.{length-append}
+use lib.Seq.{length-take-le}
+use Rattle.plan_text.proofs.Gathering.{gathered_none, gathered-more, gathered-all, own-length, has-place}
 use Rattle.plan_text.proofs.gather_heights.Goals as goal
+
+pub loop-room-init : goal.loop-room-init
+loop-room-init c =
+    rw c.into_iter-room-iterator.ensures.into_iter_gives
+    (c.chunks-room-items.ensures.size, rw c.chunks-room-items.ensures.rest (gathered_none _ _ _ _))
+
+pub slice_bounds-put_all-end : goal.slice_bounds-put_all-end
+slice_bounds-put_all-end c =
+    let (parts, each, some) = c.in-Some.ensures.steps.1 in
+    let whole = own-length _ _ _ c.requires.0 c.requires.1 c.requires.2 c.loop-room.invariant.1 _ _ _ c.loop-room.invariant.0 parts each some in
+    sym (length-take-le _ _ (omega (arith, whole)))
 
 pub put_all-end-requires : goal.put_all-end-requires
 put_all-end-requires c =
-    omega (arith, part_length (room_at c.loop-room.room) c.args.tasks c.args.cells.now (omega arith), c.loop-room.invariant.2.few)
+    let (parts, each, some) = c.in-Some.ensures.steps.1 in
+    has-place _ _ _ c.requires.0 c.requires.1 c.requires.2 c.loop-room.invariant.1 _ _ _ c.loop-room.invariant.0 parts each some
+    (c.loop-room.auto.heights ∙ c.requires.3)
 
 pub loop-room-preserved : goal.loop-room-preserved
-loop-room-preserved c = (
-  omega arith,
-  c.put_all-end.auto.out ∙ c.loop-room.invariant.1,
-  gathered-more _ _ _ _ _ _ _ c.loop-room.invariant.2 c.requires.1 (omega (arith, c.loop-room.invariant.2.few)) (omega arith)
-      c.put_all-end.ensures,
-)
+loop-room-preserved c =
+    let (parts, each, some) = c.in-Some.ensures.steps.1 in (
+      c.in-Some.ensures.steps.0 ∙ c.loop-room.invariant.0,
+      rw (length-append c.loop-room.yielded _)
+          (gathered-more _ _ _ c.requires.0 c.requires.1 c.requires.2 c.loop-room.invariant.1 _ _ _ c.loop-room.invariant.0 parts each some
+          _ _ (omega (arith, c.loop-room.invariant.1.few)) c.put_all-end.ensures),
+    )
 
-pub loop-room-init : goal.loop-room-init
-loop-room-init c = (omega arith, refl, gathered_none _ _ _)
+pub slice_bounds-result-end : goal.slice_bounds-result-end
+slice_bounds-result-end c =
+    sym (length-take-le c.loop-room.end c.loop-room.heights (omega (arith, c.loop-room.invariant.1.few, c.loop-room.invariant.1.rooms_done)))
 
 pub returns : goal.returns
-returns c = gathered-all _ _ _ _ _ _ c.loop-room.invariant.2 (omega arith)
+returns c =
+    gathered-all _ _ _ c.requires.0 c.requires.1 c.requires.2 c.loop-room.invariant.1 c.in-None.ensures.steps.1.0

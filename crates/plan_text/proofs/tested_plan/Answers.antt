@@ -44,7 +44,8 @@ pub test_plan-requires : goal.test_plan-requires
 test_plan-requires c =
     let rooms = to-most 1 most_rooms _ (sym c.is_count-2.ensures ∙ c.if-not-is_count-2.false) in
     let few = leb-true _ _ (sym c.is_count.ensures ∙ c.if-not-is_count.false) in
-    ap₂ is_right_size c.stored_plan-plan.ensures c.stored_boxes.ensures ∙ parts-each _ _ _ rooms few c.requires.0.sized.of_cells c.args.scan.hours (section 0 c.args.scan.symbols c.args.symbols.now)
+    ap₂ is_right_size c.stored_plan-plan.ensures c.stored_boxes.ensures
+    ∙ parts-each _ _ _ rooms few c.requires.0.sized.of_cells c.args.scan.hours (section 0 c.args.scan.symbols c.args.symbols.now)
 
 pub returns-in_err-test_plan-clause-tests : goal.returns-in_err-test_plan-clause-tests
 returns-in_err-test_plan-clause-tests c =
