@@ -11,7 +11,7 @@ use Rattle.units.specs.Choice.{on_option}
 use Rattle.units.specs.Limits.{most_hours, most_calendars, most_rooms, most_tasks}
 use Rattle.units.proofs.Choices.{and_left, neither}
 use Rattle.units.proofs.Ranges.{to-most}
-use Rattle.plan.specs.Plan.{task_count, first_symbol}
+use Rattle.plan.specs.Plan.{first_symbol}
 use Rattle.plan.specs.declared.Fault.{Fault}
 use Rattle.plan.specs.Refusals.{Answer, refused, answered, on_answer}
 use Rattle.plan.specs.Faults.{plan_fault}

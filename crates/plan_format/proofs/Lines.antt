@@ -6,7 +6,7 @@ use Prim.Native.Nat.{ℕ, suc, ◌≤◌}
 use native.Mathlib.Omega.{arith}
 use lib.ListN.{length}
 use borrow.Author.Tests.{le-leb}
-use Rattle.units.specs.Choice.{◌and◌, on_option}
+use Rattle.units.specs.Choice.{on_option}
 use Rattle.text.specs.Words.{word_plan, word_cal, word_task}
 use Rattle.text.specs.Fields.{tab, lf, first_at, same}
 use Rattle.text.specs.Numbers.{most_number}

@@ -10,7 +10,7 @@ use lib.Dec.{eqb}
 use lib.ListN.{length, get_or}
 use lib.Seq.{take_all}
 use borrow.Author.Tests.{le-leb, eq-eqb, eqb-true, ne_eqb}
-use Rattle.units.specs.Choice.{◌and◌, on_option}
+use Rattle.units.specs.Choice.{on_option}
 use Rattle.units.specs.Limits.{within}
 use Rattle.units.specs.Lists.{list_to}
 use Rattle.units.proofs.Choices.{if-case, if-all}

@@ -6,7 +6,7 @@ use mathlib.Core.List.{List, [], ◌∷◌, ◌++◌, append_assoc}
 use Prim.Native.Nat.{ℕ, zero, suc, ◌+◌, ◌≤◌, ◌<◌}
 use native.Mathlib.Omega.{arith}
 use borrow.Author.Tests.{le-leb}
-use Rattle.units.specs.Choice.{◌and◌, on_option}
+use Rattle.units.specs.Choice.{on_option}
 use Rattle.units.specs.Lists.{list_to}
 use Rattle.units.proofs.Choices.{None≢Some}
 use Rattle.plan.specs.Refusals.{fault, refused, answered}

@@ -15,7 +15,7 @@ use Rattle.units.specs.Lists.{list_to}
 use Rattle.units.proofs.Choices.{and_both}
 use Rattle.units.proofs.Lists.{list_length, list_at, list-map, list-eq, list-take, list-cells}
 use Rattle.units.proofs.Ranges.{is_within}
-use Rattle.plan.specs.Plan.{Plan, plan, room_count, task_count, calendar_count, first_symbol, calendar_at, work_time_of, capacity_of, room_part, heights_of, height_of}
+use Rattle.plan.specs.Plan.{Plan, plan, room_count, task_count, calendar_count, first_symbol, calendar_at, room_part, heights_of, height_of}
 use Rattle.plan.specs.Boxes.{bounds_at, box_cells}
 use Rattle.plan.specs.Passed.{Passed}
 use Rattle.plan.proofs.Passed.{room-length, calendar-hours}

@@ -12,8 +12,8 @@ use borrow.Author.Tests.{lt-leb, le-leb, leb-true, ne_eqb, eqb-true, eqb-false}
 use Rattle.std.specs.Option.{MatchOption, option_map}
 use Rattle.std.specs.List.{list_any}
 use denote.Ref.{Bor}
-use Rattle.units.specs.Choice.{◌and◌, some_if, on_option}
-use Rattle.units.proofs.Choices.{and_both, not_left, not_right, none-if, some-if, if_some, None≢Some, if-false, if-all}
+use Rattle.units.specs.Choice.{some_if, on_option}
+use Rattle.units.proofs.Choices.{and_both, not_left, none-if, some-if, if_some, None≢Some, if-false, if-all}
 use Rattle.text.specs.Words.{word_plan, word_cal, word_task}
 use Rattle.text.specs.Fields.{tab, parts, first_at, same}
 use Rattle.text.specs.Numbers.{numbers_of}

@@ -7,7 +7,7 @@ use mathlib.Core.List.{List}
 use Prim.Native.Nat.{ℕ, ◌+◌, ◌<◌}
 use native.Mathlib.Decide.{ℕ_discrete}
 use native.Mathlib.Omega.{arith}
-use lib.ListN.{length, get_or, take, drop, set, length-take, length-drop}
+use lib.ListN.{length, get_or, set, length-take, length-drop}
 use lib.Seq.{get_or-set_same, get_or-set_other}
 use Rattle.units.specs.Limits.{duration}
 use Rattle.units.specs.declared.Bounds.{Bounds}

@@ -12,7 +12,6 @@ use lib.Dec.{leb, eqb}
 use borrow.Author.Tests.{lt-leb, le-leb, eqb-true, eqb-false}
 use Rattle.std.specs.Char.{is_ascii_digit}
 use Rattle.text.proofs.Words.{and_is}
-use Rattle.units.specs.Choice.{◌and◌}
 use Rattle.units.specs.Limits.{within}
 use Rattle.units.proofs.Choices.{not_left, not_right, none-if, some-if, and_both}
 use Rattle.text.specs.Numbers.{is_digits, decimal, is_plain, is_number, most_number, number_of}

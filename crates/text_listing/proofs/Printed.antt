@@ -1,14 +1,14 @@
 -- The week that 01 prints: its text gives its listing, by computation. Assumes nothing.
 use mathlib.Core.Path.{◌≡◌, refl}
-use Rattle.units.specs.Choice.{◌and◌, some_if, on_option, ◌or_else◌, some_of, first_of}
+use Rattle.units.specs.Choice.{on_option, ◌or_else◌, some_of, first_of}
 use Rattle.units.specs.Sums.{sum_to, sum_where, count_where}
-use Rattle.units.specs.Limits.{within, is_plan_length, is_hour, is_work_time, is_height, is_capacity, is_calendar_count, is_calendar_number}
-use Rattle.units.specs.Limits.{is_room_count, is_room_number, is_task_count, is_overtime, is_range, is_box, with_earliest, with_latest}
+use Rattle.units.specs.Limits.{within}
+use Rattle.units.specs.Limits.{is_range, is_box, with_earliest, with_latest}
 use Rattle.units.specs.Extremes.{least, greatest}
 use Rattle.units.specs.Cells.{written}
 use Rattle.units.specs.Lists.{list_to}
-use Rattle.plan.specs.Plan.{room_count, task_count, calendar_count, first_symbol, calendar_at, calendar_of, work_time_of}
-use Rattle.plan.specs.Plan.{capacity_of, room_part, heights_of, height_of, heights_where}
+use Rattle.plan.specs.Plan.{first_symbol, calendar_at, calendar_of}
+use Rattle.plan.specs.Plan.{room_part, heights_of, height_of, heights_where}
 use Rattle.plan.specs.Boxes.{bounds_at, with_bounds}
 use Rattle.plan.specs.HourKinds.{is_symbol, is_kind, hours_of}
 use Rattle.plan.specs.Refusals.{unless, on_answer}

@@ -12,7 +12,7 @@ use lib.Dec.{leb, ltb}
 use lib.ListN.{length, get_or}
 use borrow.Author.Tests.{ltb-true}
 use Rattle.units.specs.Choice.{◌and◌, on_option}
-use Rattle.units.specs.Limits.{is_room_number, with_earliest, with_latest}
+use Rattle.units.specs.Limits.{with_earliest, with_latest}
 use Rattle.units.specs.declared.Bounds.{Bounds}
 use Rattle.units.proofs.Choices.{and_left, if-true, if-false, if-case, if-all, if-ap, some-eq}
 use Rattle.units.proofs.Summing.{where-eq, where-split}

@@ -8,7 +8,6 @@ use Prim.Native.Nat.{ℕ}
 use native.Mathlib.Omega.{arith}
 use Rattle.units.specs.Choice.{on_option}
 use Rattle.units.proofs.Choices.{option-case, None≢Some}
-use Rattle.units.specs.declared.Bounds.{Bounds}
 use Rattle.plan.specs.Plan.{Plan, room_count, task_count}
 use Rattle.plan.specs.Boxes.{with_bounds}
 use Rattle.steps.specs.declared.Step.{Step}

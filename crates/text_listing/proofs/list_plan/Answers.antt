@@ -1,5 +1,4 @@
 use Rattle.text_listing.proofs.Programs.{put_as, plan-listed}
-use Rattle.plan.specs.Plan.{task_count}
 use Rattle.text_listing.specs.Program.{zeros}
 use Rattle.text_listing.proofs.list_plan.Goals as goal
 

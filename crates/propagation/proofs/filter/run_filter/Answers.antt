@@ -4,7 +4,6 @@ use Rattle.std.specs.Prelude.{Some}
 use Rattle.steps.specs.declared.Judged.{Judged}
 use Rattle.steps.specs.Entry.{ending_answer}
 use Rattle.turns.specs.Inner.Kept.{turn}
-use Rattle.plan.specs.Plan.{room_count, task_count}
 use Rattle.propagation.proofs.Fits.{fitting}
 use Rattle.propagation.proofs.Keeping.{ready}
 use Rattle.propagation.proofs.Filtering.{filter-opens, settles, fills, stops_at, filter-may-move, goes_on}

@@ -1,4 +1,3 @@
-use mathlib.Core.Path.{ap}
 use native.Mathlib.Omega.{arith}
 use Rattle.plan.proofs.Boxes.{length-with}
 use Rattle.propagation.proofs.kept.move_bounds.Goals as goal

@@ -1,5 +1,4 @@
 use native.Mathlib.Omega.{arith}
-use Rattle.units.specs.Choice.{◌and◌}
 use Rattle.stretches.specs.Inner.Stretches.{may_end}
 use Rattle.stretches.proofs.reach.may_end.Goals as goal
 

@@ -1,6 +1,5 @@
 use native.Mathlib.Omega.{arith}
 use Rattle.std.proofs.lemmas.Bool.Decides.{nat_tests}
-use Rattle.units.specs.Choice.{◌and◌}
 use Rattle.stretches.specs.Inner.Stretches.{may_last}
 use Rattle.stretches.proofs.Stretches.{work-next, work-le}
 use Rattle.stretches.proofs.reach.may_last.Goals as goal

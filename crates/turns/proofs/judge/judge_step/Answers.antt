@@ -1,9 +1,9 @@
-use mathlib.Core.Path.{◌≡◌, sym, ap, ◌∙◌}
+use mathlib.Core.Path.{◌≡◌, sym, ap}
 use native.Mathlib.Omega.{arith}
 use Rattle.std.specs.Prelude.{Some}
 use Rattle.plan.specs.Plan.{heights_of}
 use Rattle.plan.proofs.Passed.{room_in}
-use Rattle.steps.specs.Steps.{Kind, kind_c, kind_o, kind_l, kind_u, kind_in}
+use Rattle.steps.specs.Steps.{kind_in}
 use Rattle.steps.specs.declared.StepKind.{StepKind}
 use Rattle.turns.proofs.Judging.{there-C, there-O, there-L, there-U, by-nameless, by-absent, by-C, by-O, by-L, by-U}
 use Rattle.turns.proofs.judge.judge_step.Goals as goal

@@ -1,4 +1,4 @@
-use mathlib.Core.Path.{sym, ap, ◌∙◌}
+use mathlib.Core.Path.{ap, ◌∙◌}
 use Rattle.turns.specs.Inner.Kept.{turn_of}
 use Rattle.turns.proofs.Keeping.{moved-there}
 use Rattle.turns.proofs.Turning.{turn-settles, turn-found, judged-of}
