@@ -13,7 +13,7 @@ ghost use Rattle.calendar.specs.Entry.{calendar_rule};
 ghost use Rattle.calendar.specs.Inner.Ready.{HasCounts, RuleReady, Reaches};
 ghost use Rattle.calendar.specs.Inner.Windows.{with_triples};
 
-use plan::{HourKind, Plan, Refusal, is_kind};
+use plan::{HourKind, Plan, Refusal};
 use stretches::{Counts, Stretch, count_hours, one_if, reach};
 use units::{Bounds, Duration, Hour};
 
@@ -62,11 +62,11 @@ fn overtime_ends(calendar: &[u8], s: usize, e: u16) -> u16
     requires { (1 ≤ e) × (s + e ≤ length calendar.now) }
     ensures { result ≡ overtime_ends calendar.now s e }
 {
-    let first = one_if(calendar, s, HourKind::Overtime);
+    let first = one_if(calendar, s, HourKind::Overtime as u8);
     if e == 1 {
         return first;
     }
-    first + one_if(calendar, s + (e as usize) - 1, HourKind::Overtime)
+    first + one_if(calendar, s + (e as usize) - 1, HourKind::Overtime as u8)
 }
 
 // Whether a triple within the calendar is valid, from the counts of its hours.
@@ -77,10 +77,10 @@ fn is_valid_by(calendar: &[u8], work_time: Duration, t: Triple, n: Counts) -> bo
     let s = t.start.0 as usize;
     let e = t.elapsed.0;
     let o = t.overtime.0;
-    if is_kind(calendar, s, HourKind::Closed) {
+    if HourKind::Closed.is_at(calendar, s) {
         return false;
     }
-    if is_kind(calendar, s + (e as usize) - 1, HourKind::Closed) {
+    if HourKind::Closed.is_at(calendar, s + (e as usize) - 1) {
         return false;
     }
     if work_time.0 < o {
@@ -126,7 +126,7 @@ fn with_start(
     requires { Reaches calendar.now work_time.0 b s.0 shortest longest }
     ensures { result ≡ with_triples found (starting calendar.now work_time.0 b s.0) }
 {
-    if is_kind(calendar, s.0 as usize, HourKind::Closed) {
+    if HourKind::Closed.is_at(calendar, s.0 as usize) {
         return found;
     }
     if longest.last.0 < shortest.hours.0 {

@@ -10,7 +10,7 @@ ghost use Rattle.plan.specs.Faults.{is_right_size, is_calendars, symbol_fault, c
 ghost use Rattle.plan.specs.Lent.{shifts_in, plan_in};
 ghost use Rattle.input.specs.Inner.Ready.{TasksReady, HeightsReady};
 
-use plan::{HourKind, Plan, Refusal, Shifts, bounds_at, is_kind};
+use plan::{HourKind, Plan, Refusal, Shifts, bounds_at};
 use units::{Bounds, CalendarNumber, Duration, Height, RoomNumber};
 
 // Whether the fields and the boxes number one for each task, the heights in each room.
@@ -40,9 +40,9 @@ fn is_symbol(calendars: &[u8], k: usize) -> bool
     requires { k < length calendars.now }
     ensures { result ≡ is_symbol calendars.now k }
 {
-    is_kind(calendars, k, HourKind::Regular)
-        || is_kind(calendars, k, HourKind::Closed)
-        || is_kind(calendars, k, HourKind::Overtime)
+    HourKind::Regular.is_at(calendars, k)
+        || HourKind::Closed.is_at(calendars, k)
+        || HourKind::Overtime.is_at(calendars, k)
 }
 
 // 4, at the first symbol other than r, c, o.

@@ -260,13 +260,23 @@ pub enum HourKind {
     Overtime = b'o' as isize,
 }
 
-// Whether an hour of a calendar is of the kind. Nothing else reads a symbol.
+impl HourKind {
+    // Whether an hour of a calendar is of the kind.
+    pub fn is_at(self, calendar: &[u8], t: usize) -> bool
+        requires { t < length calendar.now }
+        ensures { result ≡ is_kind (symbol_of self) calendar.now t }
+    {
+        is_kind(calendar, t, self as u8)
+    }
+}
+
+// Whether the symbol of an hour is the one asked for. Nothing else reads a symbol.
 #[tactic(auto, unfolding(crate::specs::HourKinds::is_kind))]
-pub fn is_kind(calendar: &[u8], t: usize, kind: HourKind) -> bool
+pub fn is_kind(calendar: &[u8], t: usize, kind: u8) -> bool
     requires { t < length calendar.now }
-    ensures { result ≡ is_kind (symbol_of kind) calendar.now t }
+    ensures { result ≡ is_kind kind calendar.now t }
 {
-    calendar[t] == kind as u8
+    calendar[t] == kind
 }
 
 // Where a calendar begins, if that is within a limit: H added once for each calendar before it. The second way out is never taken. Without it the
@@ -276,14 +286,12 @@ fn first_within(limit: usize, number: u16, hours: u16) -> usize
     ensures { result ≡ first_symbol hours number }
 {
     let step = hours as usize;
-    let mut first: usize = 0;
-    let mut k: u16 = 0;
-    while k < number {
+    let mut first = 0;
+    for _ in 0..number {
         if limit - first < step {
             break;
         }
         first += step;
-        k += 1;
     }
     first
 }

@@ -155,16 +155,6 @@ module _ (log : List Step) (from : ℕ) (p : Part) where
   unfolding put_in steps_from
   none-put = sym (take-append-drop from log)
 
-  pub put-length : (k : ℕ) → from + k ≤ length log → length (put_in log from p k) ≡ length log
-  unfolding put_in
-  put-length k l =
-      let s = steps_from p.kinds p.tasks p.hours 0 k in
-      let first = length-take-le from log (omega arith) in
-      let both = length-append s (drop k (drop from log)) in
-      let number = steps-length p.kinds p.tasks p.hours 0 k in
-      length-append (take from log) (s ++ drop k (drop from log))
-      ∙ (omega (arith, first, both, number, length-drop k (drop from log), length-drop from log))
-
   pub one-put : (k : ℕ) (new : List Step) → from + k < length log
       → new ≡ set (put_in log from p k) (from + k) (step_at p.kinds p.tasks p.hours k) → new ≡ put_in log from p (k + 1)
   unfolding put_in

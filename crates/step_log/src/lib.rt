@@ -18,20 +18,6 @@ use steps::{Accepted, Filtered, Step};
 
 mod part;
 
-fn step_at(log: &[Step], i: usize) -> Step
-    requires { i < length log.now }
-    ensures { result ≡ get_or log.now i no_step }
-{
-    log[i]
-}
-
-fn put_step(log: &mut [Step], i: usize, x: Step)
-    requires { i < length log.old }
-    ensures { log.new ≡ set log.old i x }
-{
-    log[i] = x;
-}
-
 // The steps from one on, as many as a part holds or the log has.
 fn part_at(log: &[Step], from: usize) -> Part
     requires { from ≤ length log.now }
@@ -39,11 +25,8 @@ fn part_at(log: &[Step], from: usize) -> Part
 {
     let end = part::part_end(from, log.len());
     let mut steps = part::no_steps();
-    let mut i = from;
-    while i < end {
-        let x = step_at(log, i);
-        steps = part::with_step(steps, x);
-        i += 1;
+    for i in from..end {
+        steps = part::with_step(steps, log[i]);
     }
     steps
 }
@@ -53,12 +36,8 @@ fn put_part(log: &mut [Step], from: usize, steps: Part)
     requires { (from + steps.count ≤ length log.old) × (steps.count ≤ part_size) }
     ensures { log.new ≡ (take from log.old ++ written (part_steps steps) (drop from log.old)) }
 {
-    let count = steps.count;
-    let mut k = 0;
-    while k < count {
-        let x = part::step_of(steps, k);
-        put_step(log, from + k, x);
-        k += 1;
+    for k in 0..steps.count {
+        log[from + k] = part::step_of(steps, k);
     }
 }
 

@@ -45,10 +45,7 @@ pub fn part_end(from: usize, length: usize) -> usize
     requires { from ≤ length }
     ensures { result ≡ from + min part_size (length - from) }
 {
-    if length - from < Part::SIZE {
-        return length;
-    }
-    from + Part::SIZE
+    from + Part::SIZE.min(length - from)
 }
 
 pub fn no_steps() -> Part

@@ -6,7 +6,7 @@ pub mod reach;
 ghost use Rattle.std.specs.Prelude.{◌≡◌, ◌≤◌, ◌<◌, length};
 ghost use Rattle.units.specs.Limits.{most_hours};
 ghost use Rattle.units.specs.Sums.{one_if};
-ghost use Rattle.plan.specs.HourKinds.{is_kind, symbol_of};
+ghost use Rattle.plan.specs.HourKinds.{is_kind};
 ghost use Rattle.stretches.specs.Inner.Stretches.{Inside, counts_of, with_hour};
 
 use plan::{HourKind, is_kind};
@@ -47,9 +47,9 @@ impl Stretch {
 }
 
 // 1 for an hour of the kind.
-pub fn one_if(calendar: &[u8], t: usize, kind: HourKind) -> u16
+pub fn one_if(calendar: &[u8], t: usize, kind: u8) -> u16
     requires { t < length calendar.now }
-    ensures { (result ≡ one_if (is_kind (symbol_of kind) calendar.now t)) × (result ≤ 1) }
+    ensures { (result ≡ one_if (is_kind kind calendar.now t)) × (result ≤ 1) }
 {
     u16::from(is_kind(calendar, t, kind))
 }
@@ -60,8 +60,8 @@ fn with_hour(n: Counts, calendar: &[u8], t: usize) -> Counts
     ensures { result ≡ with_hour n calendar.now t }
 {
     Counts {
-        regular: n.regular + one_if(calendar, t, HourKind::Regular),
-        overtime: n.overtime + one_if(calendar, t, HourKind::Overtime),
+        regular: n.regular + one_if(calendar, t, HourKind::Regular as u8),
+        overtime: n.overtime + one_if(calendar, t, HourKind::Overtime as u8),
     }
 }
 

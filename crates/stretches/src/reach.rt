@@ -7,7 +7,7 @@ ghost use Rattle.stretches.specs.Inner.Stretches.{HasHour, IsStretch, HasRoom, w
 ghost use Rattle.stretches.specs.Inner.Stretches.{AnswersAs, shortest_at, longest_at, lengthened};
 
 use crate::{Counts, Stretch, one_if, with_hour};
-use plan::{HourKind, is_kind};
+use plan::HourKind;
 use units::{Bounds, Duration, Hour};
 
 // One hour less, where there is one.
@@ -23,8 +23,8 @@ fn without_hour(n: Counts, calendar: &[u8], t: usize) -> Counts
     ensures { result ≡ without_hour n calendar.now t }
 {
     Counts {
-        regular: n.regular - one_if(calendar, t, HourKind::Regular),
-        overtime: n.overtime - one_if(calendar, t, HourKind::Overtime),
+        regular: n.regular - one_if(calendar, t, HourKind::Regular as u8),
+        overtime: n.overtime - one_if(calendar, t, HourKind::Overtime as u8),
     }
 }
 
@@ -35,8 +35,8 @@ fn longer(calendar: &[u8], s: Hour, a: Stretch) -> Stretch
 {
     let next = (s.0 as usize) + (a.hours.0 as usize);
     let hours = Duration(a.hours.0 + 1);
-    let is_open = !is_kind(calendar, next, HourKind::Closed);
-    let is_regular = is_kind(calendar, next, HourKind::Regular);
+    let is_open = !HourKind::Closed.is_at(calendar, next);
+    let is_regular = HourKind::Regular.is_at(calendar, next);
     Stretch {
         hours,
         last: if is_open { hours } else { a.last },
@@ -81,7 +81,7 @@ fn worked_ends(calendar: &[u8], s: Hour, a: Stretch) -> u16
     if a.hours.0 < 1 {
         return 1;
     }
-    a.counts.regular - one_if(calendar, s.0 as usize, HourKind::Regular) + 2
+    a.counts.regular - one_if(calendar, s.0 as usize, HourKind::Regular as u8) + 2
 }
 
 // Whether a task may last one hour more than the stretch, by the tests that hold of a shorter stretch too.
@@ -91,7 +91,7 @@ fn may_last(calendar: &[u8], work_time: Duration, b: Bounds, s: Hour, a: Stretch
 {
     let next = (s.0 as usize) + (a.hours.0 as usize);
     let p = work_time.0;
-    let worked = a.counts.regular + one_if(calendar, next, HourKind::Regular);
+    let worked = a.counts.regular + one_if(calendar, next, HourKind::Regular as u8);
     a.hours < b.longest
         && worked <= p
         && b.fewest.0 <= p - worked

@@ -10,7 +10,6 @@ use plan::{Fault, Plan, Refusal, first_symbol};
 use plan_text::{MOST_BOUNDS, MOST_BYTES, MOST_HEIGHTS, MOST_SYMBOLS};
 use std::fs::File;
 use std::io;
-use std::io::Read;
 use std::rt::Files;
 use steps::{Accepted, Ending, Filtered, Step};
 use text::fields::end_of;
@@ -105,28 +104,13 @@ fn schedule_over_the_second_capacity(rt: &impl Print) -> io::Result<()> {
 // Memory for a plan text.
 const BYTES: usize = plan_text::TEXT_ROOM;
 
-// Reads until the input ends or the memory is full.
-fn read_full<R: Read>(input: &mut R, text: &mut [u8]) -> io::Result<usize>
-    ensures { IfOk result (λ n. n ≤ length text.new) }
-{
-    let mut n = 0;
-    while n < text.len() {
-        let more = input.read(&mut text[n..])?;
-        if more == 0 {
-            return Ok(n);
-        }
-        n += more;
-    }
-    Ok(n)
-}
-
 // Prints the name of a plan text of data/, and reads it.
 fn read_data(rt: &(impl Files + Print), name: &str, text: &mut [u8; BYTES]) -> io::Result<usize>
     ensures { IfOk result (λ n. n ≤ length text.new) }
 {
     println!(rt; "{name}")?;
     let mut file = File::open(rt, name)?;
-    read_full(&mut file, text)
+    text::source::read_input(&mut file, text)
 }
 
 // What the program prints for a plan text.

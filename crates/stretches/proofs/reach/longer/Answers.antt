@@ -12,8 +12,8 @@ with_hour-requires c =
 pub returns : goal.returns
 returns c =
     let known = c.requires in
-    let opens = sym c.is_kind-is_open.ensures in
-    let regular = sym c.is_kind-is_regular.ensures in
+    let opens = sym c.is_at-is_open.ensures in
+    let regular = sym c.is_at-is_regular.ensures in
     stretch-next known
     (elim c.if-is_open.branch [
       | then-is_open w ↦ goes_further known _ (ap not (opens ∙ w.if-is_open.true)) w.result-is

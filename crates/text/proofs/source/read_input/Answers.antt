@@ -1,6 +1,6 @@
 use Rattle.std.proofs.Common.{rules}
-use Rattle.shimlantern.proofs.Filled.{grown}
-use Rattle.shimlantern.proofs.read_input.Goals as goal
+use Rattle.text.proofs.Filled.{grown}
+use Rattle.text.proofs.source.read_input.Goals as goal
 
 pub loop-n-preserved : goal.loop-n-preserved
 loop-n-preserved g c =

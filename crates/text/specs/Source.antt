@@ -1,4 +1,4 @@
--- What reading standard input answers.
+-- What reading an input answers; 01 has no such term.
 use Rattle.std.specs.Prelude.{Result, List, ℕ, ◌≤◌, IfOk, length}
 
 -- the bytes that were read are within the memory

@@ -1,6 +1,6 @@
 use Rattle.std.proofs.Common.{length, take, ◌-◌, ◌≡◌, ◌≤◌}
 use Rattle.std.specs.Io.KnownBytes.{Consumes}
-use Rattle.shimlantern.proofs.read_input.Given as goal
+use Rattle.text.proofs.source.read_input.Given as goal
 
 -- what was read is the front of the memory
 abbrev pub invariant-loop-n : goal.invariant-loop-n
