@@ -129,7 +129,7 @@ fn with_start(
     if HourKind::Closed.is_at(calendar, s.0 as usize) {
         return found;
     }
-    if longest.last.0 < shortest.hours.0 {
+    if longest.last < shortest.hours {
         return found;
     }
     if !reach::may_end(work_time, b, shortest) {

@@ -84,7 +84,7 @@ fn wider(w: Window, v: Window) -> Window
     }
 }
 
-// Of two triples the second where it is better, else the first.
+// Of two triples the second where it is better, else the first. The flag is the answer of a comparison, another one for each bound.
 fn either(t: Triple, u: Triple, better: bool) -> Triple
     ensures { result ≡ (if better then u else t) }
 {

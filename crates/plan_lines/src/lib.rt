@@ -28,7 +28,7 @@ pub enum Section {
 }
 
 // What has been read of a text: the section reached, H, how many rooms, how many calendars, whether each calendar line has H symbols, how many
-// symbols and how many tasks.
+// symbols and how many tasks. That flag is a fact of all lines so far, and says of no field whether it holds.
 #[derive(Clone, Copy)]
 pub struct Scan {
     pub reached: Section,

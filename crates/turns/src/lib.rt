@@ -10,5 +10,5 @@ mod search;
 mod side;
 pub mod turn;
 
-// The answers of the calendar rule that are kept, one for each task.
+// The answers of the calendar rule that are kept, one for each task: an array of the most tasks, since memory is fixed.
 pub type Fits = [Option<Window>; Bounds::MOST];

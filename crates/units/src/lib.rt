@@ -126,7 +126,7 @@ impl Height {
         Height(self.0 + other.0)
     }
 
-    // The capacity of a room.
+    // The capacity of a room: the same line as `of_task` with another limit, which is no plainer as a parameter.
     pub fn of_plan(number: u16) -> Option<Height>
         ensures { result ≡ some_if (is_capacity number) (height number) }
     {
@@ -183,7 +183,7 @@ impl Bounds {
         are_in_order(fewest, most).then_some(b)
     }
 
-    // The box with another lower bound of S, where that is at most the upper.
+    // The box with another lower bound of S, where that is at most the upper. This and the next one stay two: a flag for the end would say no more.
     #[tactic(auto, unfolding(crate::specs::Limits::with_earliest))]
     pub fn starting_from(self, earliest: Hour) -> Option<Bounds>
         ensures { result ≡ some_if (leb earliest.0 self.latest.0) (with_earliest self earliest.0) }

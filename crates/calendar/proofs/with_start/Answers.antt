@@ -1,4 +1,5 @@
 use mathlib.Core.Path.{sym, ◌∙◌}
+use Rattle.units.proofs.Hours.{lt-cmp, before, not-before}
 use Rattle.calendar.proofs.Windows.{unmoved, with-window-of}
 use Rattle.calendar.proofs.Starts.{none-closed, none_between, none-ends, window-ready, window-is}
 use Rattle.calendar.proofs.with_start.Goals as goal
@@ -6,8 +7,8 @@ use Rattle.calendar.proofs.with_start.Goals as goal
 pub returns-then-is_at : goal.returns-then-is_at
 returns-then-is_at c = unmoved _ (none-closed _ _ _ _ (sym c.is_at.ensures ∙ c.if-is_at.true))
 
-pub returns-then-longest-shortest : goal.returns-then-longest-shortest
-returns-then-longest-shortest c = unmoved _ (none_between c.requires c.if-longest-shortest.true)
+pub returns-then-lt : goal.returns-then-lt
+returns-then-lt c = unmoved _ (none_between c.requires (before _ _ (c.lt.ensures ∙ lt-cmp _ _) c.if-lt.true))
 
 pub returns-then-not-may_end : goal.returns-then-not-may_end
 returns-then-not-may_end c =
@@ -18,17 +19,17 @@ pub window_from-window-requires : goal.window_from-window-requires
 window_from-window-requires c =
     let starts = sym c.is_at.ensures ∙ c.if-is_at.false in
     let ends = sym c.may_end.ensures ∙ c.if-not-may_end.false in
-    window-ready c.requires starts ends c.if-longest-shortest.false
+    window-ready c.requires starts ends (not-before _ _ (c.lt.ensures ∙ lt-cmp _ _) c.if-lt.false)
 
 pub witnesses_from-by-requires : goal.witnesses_from-by-requires
 witnesses_from-by-requires c =
     let starts = sym c.is_at.ensures ∙ c.if-is_at.false in
     let ends = sym c.may_end.ensures ∙ c.if-not-may_end.false in
-    window-ready c.requires starts ends c.if-longest-shortest.false
+    window-ready c.requires starts ends (not-before _ _ (c.lt.ensures ∙ lt-cmp _ _) c.if-lt.false)
 
 pub returns : goal.returns
 returns c =
     let starts = sym c.is_at.ensures ∙ c.if-is_at.false in
     let ends = sym c.may_end.ensures ∙ c.if-not-may_end.false in
-    let window = window-is c.requires starts ends c.if-longest-shortest.false in
+    let window = window-is c.requires starts ends (not-before _ _ (c.lt.ensures ∙ lt-cmp _ _) c.if-lt.false) in
     rw (c.with_window.ensures, c.window_from-window.ensures, c.witnesses_from-by.ensures) (sym (with-window-of _ _ _ _ window))
