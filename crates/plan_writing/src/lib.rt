@@ -38,7 +38,8 @@ fn plan_numbers<'a>(plan: &Plan, numbers: &'a mut [usize; PLAN_NUMBERS]) -> &'a 
     &numbers[..plan.rooms() + 1]
 }
 
-// The six bounds, as the numbers of a line.
+// The six bounds, as the numbers of a line. Lent memory, the listing and the C answer hold them too, each as numbers of another type and among
+// others: a method for all would have its answer converted at each, which is no plainer.
 fn bound_numbers(b: Bounds) -> [usize; Bounds::NUMBERS]
     ensures { result ≡ box_cells b }
 {

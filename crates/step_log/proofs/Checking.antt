@@ -1,13 +1,12 @@
 -- Laws of the log checker in parts: the core's answer for a part as the log's, and the loop over the parts. Assumes nothing.
 use mathlib.Core.Path.{◌≡◌, refl, sym, ap, ◌∙◌, subst}
-use mathlib.Core.Bool.{Bool, true, false, false≢true}
+use mathlib.Core.Bool.{Bool, false}
 use Rattle.std.specs.Prelude.{Option, None, Some, Result, Ok, Err}
 use mathlib.Core.List.{List, ◌++◌}
 use Prim.Native.Nat.{ℕ, ◌+◌, ◌-◌, ◌≤◌, ◌<◌, min}
 use native.Mathlib.Omega.{arith}
 use lib.ListN.{length, take, drop, take-append-drop, length-take, length-drop}
 use lib.Seq.{length-take-le, take_all, drop-drop}
-use borrow.Author.Tests.{leb-true, leb-false}
 use Rattle.units.specs.Choice.{on_option}
 use Rattle.units.proofs.Choices.{None≢Some}
 use Rattle.plan.specs.Plan.{Plan}
@@ -23,9 +22,8 @@ use Rattle.steps.specs.Entry.{entry_fault, check_answer}
 use Rattle.steps.specs.Inner.From.{check_from}
 use Rattle.steps.proofs.Contracts.{same-fault}
 use Rattle.step_log.specs.declared.part.Part.{Part}
-use Rattle.step_log.specs.declared.part.PartChecked.{PartChecked}
 use Rattle.step_log.specs.Entry.{check_steps}
-use Rattle.step_log.specs.Inner.Parts.{part_size, part_steps, Sized, checked_part, check_steps_from, CheckedAs}
+use Rattle.step_log.specs.Inner.Parts.{part_size, part_steps, Sized, check_steps_from, CheckedAs}
 use Rattle.step_log.proofs.Copying.{part_length, steps-lent}
 use Rattle.step_log.proofs.Passing.{replay-passes}
 use Rattle.step_log.proofs.Appending.{replay-append, goes_on, ends_there, replay-reaches}
@@ -33,7 +31,7 @@ use Rattle.step_log.proofs.Appending.{replay-append, goes_on, ends_there, replay
 -- ---- an answer and the end that it is of
 
 -- what a refusal and an acceptance say of the end
-pub refused_end : (e : LogEnd) (f : Fault) → refused f ≡ check_answer e → e.refusal ≡ Some f
+refused_end : (e : LogEnd) (f : Fault) → refused f ≡ check_answer e → e.refusal ≡ Some f
 unfolding check_answer answer_unless
 refused_end e f q = go e.refusal q
   where
@@ -41,18 +39,15 @@ refused_end e f q = go e.refusal q
     go None r = refused≢answered r
     go (Some g) r = cc
 
-pub accepted-end : (e : LogEnd) (k : ℕ) (said : Bool) → answered (record { steps = k; impossible = said }) ≡ check_answer e
-    → (e.refusal ≡ None) × (k ≡ e.steps) × (said ≡ e.impossible)
+accepted-end : (e : LogEnd) (a : Accepted) → answered a ≡ check_answer e → (e.refusal ≡ None) × (a.steps ≡ e.steps) × (a.impossible ≡ e.impossible)
 unfolding check_answer answer_unless
-accepted-end e k said q = go e.refusal q
+accepted-end e a q = go e.refusal q
   where
-    go : (o : Option Fault)
-        → ◌≡◌ {A = Answer Accepted} (answered (record { steps = k; impossible = said }))
-        (answer_unless o (record { steps = e.steps; impossible = e.impossible }))
-        → (o ≡ None) × (k ≡ e.steps) × (said ≡ e.impossible)
+    go : (o : Option Fault) → ◌≡◌ {A = Answer Accepted} (answered a) (answer_unless o (record { steps = e.steps; impossible = e.impossible }))
+        → (o ≡ None) × (a.steps ≡ e.steps) × (a.impossible ≡ e.impossible)
     go None r =
-        let z : ◌≡◌ {A = Accepted} (record { steps = k; impossible = said }) (record { steps = e.steps; impossible = e.impossible }) = cc in
-        (refl, ap (λ (a : Accepted). a.steps) z, ap (λ (a : Accepted). a.impossible) z)
+        let z : a ≡ record { steps = e.steps; impossible = e.impossible } = cc in
+        (refl, ap (λ (x : Accepted). x.steps) z, ap (λ (x : Accepted). x.impossible) z)
     go (Some g) r = refused≢answered (sym r)
 
 -- ---- the core's faults, lent the first cells of three arrays
@@ -75,32 +70,6 @@ module _ (P : Plan) (boxes : List ℕ) (k : ℕ) (said : Bool) (steps : List Ste
   unfolding check_steps_from on_option
   from-refused f e = rw e
 
--- what the loop needs of a part
-pub checked-as : (e : LogEnd) (count : ℕ) (a : Result Accepted Refusal) (left : List ℕ) → answer_of a ≡ check_answer e → left ≡ e.boxes
-    → CheckedAs e count (checked_part a count) left
-checked-as e count (Err r) left p q =
-    record {
-      answers = p;
-      leaves = q;
-      goes_on = λ m. absurd (false≢true m);
-      ends = λ m n. None≢Some (sym n ∙ refused_end e (fault_of r) p);
-    }
-checked-as e count (Ok a) left p q =
-    let (s, t, u) = accepted-end e a.steps a.impossible p in
-    record {
-      answers = p;
-      leaves = q;
-      goes_on = λ m. (leb-true part_size count m, s, t, u);
-      ends = λ m n. leb-false part_size count m;
-    }
-
-pub checked-ends : (a : Result Accepted Refusal) (r : Refusal) (count : ℕ) → a ≡ Err r
-    → ◌≡◌ {A = PartChecked} (record { answer = a; more = false; steps = 0; impossible = false }) (checked_part a count)
-checked-ends a r count e = rw e
-
-pub lent_length : {n : ℕ} (l : List ℕ) → n ≤ part_size → length l ≡ part_size → n ≡ length (take n l)
-lent_length {n} l a b = sym (length-take-le n l (omega arith))
-
 -- by the core, lent the first cells of the part's arrays
 module _ (P : Plan) (boxes : List ℕ) (from : ℕ) (said : Bool) (part : Part) (few : part.count ≤ part_size) (size : Sized part) where
   abbrev core : LogEnd
@@ -119,9 +88,9 @@ module _ (P : Plan) (boxes : List ℕ) (from : ℕ) (said : Bool) (part : Part) 
       )
 
   pub core-checked : (a : Result Accepted Refusal) (left : List ℕ) → (answer_of a ≡ check_answer core) × (left ≡ core.boxes)
-      → (r : PartChecked) → r ≡ checked_part a part.count → CheckedAs (check_steps_from P from said boxes (part_steps part)) part.count r left
-  core-checked a left (is, leaves) r q =
-      rw q (checked-as _ part.count a left (is ∙ ap check_answer core_is) (leaves ∙ ap (λ (x : LogEnd). x.boxes) core_is))
+      → CheckedAs (check_steps_from P from said boxes (part_steps part)) a left
+  core-checked a left (is, leaves) =
+      record { answers = is ∙ ap check_answer core_is; leaves = leaves ∙ ap (λ (x : LogEnd). x.boxes) core_is }
 
 -- ---- a log in parts
 
@@ -197,36 +166,45 @@ module _ (P : Plan) (opening : List ℕ) (log : List Step) (from : ℕ) (said : 
   abbrev part_end : LogEnd
   part_end = check_steps_from P from said boxes (part_steps steps)
 
-  module _ (r : PartChecked) (left : List ℕ) (c : CheckedAs part_end steps.count r left) where
-    pub part-goes-on : length left ≡ length boxes → r.more ≡ true → Going P opening log r.steps r.impossible left × (from < r.steps)
-    part-goes-on kept more =
-        let (full, accepted, number, said-is) = c.goes_on more in
-        let rest = part-accepted P from said boxes (part_steps steps) (drop part_size (drop from log)) accepted in
-        let at : r.steps ≡ from + part_size = omega (arith, number, rest.all, part_length steps, full, part-inside.0) in (
-          record {
-            inside = omega (arith, at, full, part-inside.1);
-            ends =
-                ap (λ (n : ℕ). check_steps_from P r.steps r.impossible left (drop n log)) at
-                ∙ ap (λ (l : List Step). check_steps_from P r.steps r.impossible left l) (sym (drop-drop part_size from log))
-                ∙ rw (number, said-is, c.leaves) rest.rest
-                ∙ ap (check_steps_from P from said boxes) parts
-                ∙ g.ends;
-            same = kept ∙ g.same;
-          },
-          omega (arith, at),
-        )
+  abbrev LogEnds : Answer Accepted → List ℕ → Type 0
+  LogEnds answer left = (answer ≡ check_answer (check_steps P opening log)) × (left ≡ (check_steps P opening log).boxes)
 
-    -- a part that is refused, or that the log ends with, is the log's end
-    last-part : r.more ≡ false → part_end ≡ check_steps P opening log
-    last-part more = go part_end.refusal refl
-      where
-        go : (o : Option Fault) → part_end.refusal ≡ o → part_end ≡ check_steps P opening log
-        go (Some f) e =
-            part-refused P from said boxes (part_steps steps) (drop part_size (drop from log)) f e ∙ ap (check_steps_from P from said boxes) parts ∙ g.ends
-        go None e =
-            let short : length (drop from log) ≤ part_size = rw (length-drop from log) (omega (arith, c.ends more e, count-is)) in
-            ap (check_steps_from P from said boxes) (is ∙ take_all part_size (drop from log) short) ∙ g.ends
+  module _ (left : List ℕ) where
+    -- a part's end that is the log's
+    ends-log : (answer : Result Accepted Refusal) → CheckedAs part_end answer left → part_end ≡ check_steps P opening log
+        → LogEnds (answer_of answer) left
+    ends-log answer c q = (c.answers ∙ ap check_answer q, c.leaves ∙ ap (λ (e : LogEnd). e.boxes) q)
 
-    pub part-ends : r.more ≡ false → (answer_of r.answer ≡ check_answer (check_steps P opening log)) × (left ≡ (check_steps P opening log).boxes)
-    part-ends more =
-        (c.answers ∙ ap check_answer (last-part more), c.leaves ∙ ap (λ (e : LogEnd). e.boxes) (last-part more))
+    -- a part that is refused is the log's end
+    pub part-refuses : (d : Refusal) → CheckedAs part_end (Err d) left → LogEnds (refused (fault_of d)) left
+    part-refuses d c =
+        ends-log (Err d) c
+        (part-refused P from said boxes (part_steps steps) (drop part_size (drop from log)) (fault_of d) (refused_end part_end (fault_of d) c.answers)
+        ∙ ap (check_steps_from P from said boxes) parts
+        ∙ g.ends)
+
+    module _ (a : Accepted) (c : CheckedAs part_end (Ok a) left) where
+      -- a part that is not full is the last one
+      pub part-ends : steps.count < part_size → LogEnds (answered a) left
+      part-ends few =
+          let short : length (drop from log) ≤ part_size = rw (length-drop from log) (omega (arith, few, count-is)) in
+          ends-log (Ok a) c (ap (check_steps_from P from said boxes) (is ∙ take_all part_size (drop from log) short) ∙ g.ends)
+
+      -- after a full part that is accepted the log goes on
+      pub part-goes-on : length left ≡ length boxes → part_size ≤ steps.count → Going P opening log a.steps a.impossible left × (from < a.steps)
+      part-goes-on kept full =
+          let (accepted, number, said-is) = accepted-end part_end a c.answers in
+          let rest = part-accepted P from said boxes (part_steps steps) (drop part_size (drop from log)) accepted in
+          let at : a.steps ≡ from + part_size = omega (arith, number, rest.all, part_length steps, full, part-inside.0) in (
+            record {
+              inside = omega (arith, at, full, part-inside.1);
+              ends =
+                  ap (λ (n : ℕ). check_steps_from P a.steps a.impossible left (drop n log)) at
+                  ∙ ap (λ (l : List Step). check_steps_from P a.steps a.impossible left l) (sym (drop-drop part_size from log))
+                  ∙ rw (number, said-is, c.leaves) rest.rest
+                  ∙ ap (check_steps_from P from said boxes) parts
+                  ∙ g.ends;
+              same = kept ∙ g.same;
+            },
+            omega (arith, at),
+          )

@@ -9,7 +9,7 @@ use native.Mathlib.Numerals.{add-one}
 use native.Mathlib.Omega.{arith}
 use lib.Dec.{leb}
 use lib.ListN.{length, get_or, set, take, drop, take-append-drop, length-append, length-drop, length-set}
-use lib.Seq.{get_or-set_same, get_or-set_other, get_or-take, get_or-drop, take-suc, drop-cons, set_at, length-take-le, take_all}
+use lib.Seq.{get_or-set_same, get_or-set_other, get_or-take, take-suc, drop-cons, set_at, length-take-le, take_all}
 use borrow.Author.Tests.{leb-true, leb-false}
 use Rattle.units.specs.Cells.{written}
 use Rattle.steps.specs.declared.Step.{Step}
@@ -97,41 +97,30 @@ sized-more p q n a b c k t h size =
 
 -- ---- out of a lent log
 
--- what is copied by the turn of step i
-pub record Copied (log : List Step) (from i : ℕ) (p : Part) : Type 0 where
-  pub order : from ≤ i
-  pub steps : part_steps p ≡ take (i - from) (drop from log)
-  pub number : p.count ≡ i - from
+-- what is copied of the steps by the turn of number i
+pub record Copied (l : List Step) (i : ℕ) (p : Part) : Type 0 where
+  pub steps : part_steps p ≡ take i l
+  pub number : p.count ≡ i
   pub sized : Sized p
 
+pub one-copied : (l : List Step) (i : ℕ) (p q : Part) → Copied l i p → i < length l
+    → part_steps q ≡ part_steps p ++ (get_or l i no_step ∷ []) → q.count ≡ p.count + 1 → Sized q → Copied l (i + 1) q
+one-copied l i p q c inside s n size =
+    record {
+      steps = s
+          ∙ ap (λ (m : List Step). m ++ (get_or l i no_step ∷ [])) c.steps
+          ∙ sym (take-suc l i no_step inside)
+          ∙ ap (λ (k : ℕ). take k l) (sym (add-one i));
+      number = omega (arith, n, c.number);
+      sized = size;
+    }
+
 module _ (log : List Step) (from : ℕ) where
-  pub none-copied : (p : Part) → part_steps p ≡ [] → p.count ≡ 0 → Sized p → Copied log from from p
-  none-copied p e n size =
-      let z : from - from ≡ 0 = omega arith in
-      record { order = omega arith; steps = rw z e; number = omega arith; sized = size }
-
-  pub one-copied : (i : ℕ) (p q : Part) (x : Step) → Copied log from i p → i < length log → x ≡ get_or log i no_step
-      → part_steps q ≡ part_steps p ++ (x ∷ []) → q.count ≡ p.count + 1 → Sized q → Copied log from (i + 1) q
-  one-copied i p q x c l e s n size =
-      let next : i + 1 - from ≡ suc (i - from) = omega (arith, c.order) in
-      let at : from + (i - from) ≡ i = omega (arith, c.order) in
-      let inside : i - from < length (drop from log) = rw (length-drop from log) (omega (arith, c.order)) in
-      record {
-        order = omega (arith, c.order);
-        steps = s
-            ∙ ap (λ (l : List Step). l ++ (x ∷ [])) c.steps
-            ∙ ap (λ (y : Step). take (i - from) (drop from log) ++ (y ∷ []))
-            (e ∙ ap (λ (k : ℕ). get_or log k no_step) (sym at) ∙ sym (get_or-drop from log (i - from) no_step))
-            ∙ sym (take-suc (drop from log) (i - from) no_step inside)
-            ∙ ap (λ (k : ℕ). take k (drop from log)) (sym next);
-        number = omega (arith, n, c.number, c.order);
-        sized = size;
-      }
-
-  pub all-copied : (i : ℕ) (p : Part) → Copied log from i p → i ≡ from + min part_size (length log - from) → part_steps p ≡ take part_size (drop from log)
-  all-copied i p c e =
-      let n : i - from ≡ min part_size (length (drop from log)) = rw (length-drop from log) (omega arith) in
-      c.steps ∙ ap (λ (k : ℕ). take k (drop from log)) n ∙ take_min (drop from log)
+  pub all-copied : (end i : ℕ) (p : Part) → Copied (take (end - from) (drop from log)) i p → length (take (end - from) (drop from log)) ≤ i
+      → end ≡ from + min part_size (length log - from) → part_steps p ≡ take part_size (drop from log)
+  all-copied end i p c all e =
+      let n : end - from ≡ min part_size (length (drop from log)) = rw (length-drop from log) (omega (arith, e)) in
+      c.steps ∙ take_all i (take (end - from) (drop from log)) all ∙ ap (λ (k : ℕ). take k (drop from log)) n ∙ take_min (drop from log)
     where
       take_min : (l : List Step) → take (min part_size (length l)) l ≡ take part_size l
       take_min l = go (leb part_size (length l)) refl

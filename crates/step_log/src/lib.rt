@@ -25,8 +25,8 @@ fn part_at(log: &[Step], from: usize) -> Part
 {
     let end = part::part_end(from, log.len());
     let mut steps = part::no_steps();
-    for i in from..end {
-        steps = part::with_step(steps, log[i]);
+    for x in &log[from..end] {
+        steps = part::with_step(steps, *x);
     }
     steps
 }
@@ -53,12 +53,13 @@ pub fn check_log(plan: &Plan, boxes: &mut [u16], log: &[Step]) -> Result<Accepte
     let mut said = false;
     loop {
         let steps = part_at(log, from);
-        let checked = part::check_part(plan, boxes, from, said, steps);
-        if !checked.more {
-            return checked.answer;
+        let accepted = part::check_part(plan, boxes, from, said, steps)?;
+        // A part that is not full is the last one.
+        if steps.count < Part::SIZE {
+            return Ok(accepted);
         }
-        from = checked.steps;
-        said = checked.impossible;
+        from = accepted.steps;
+        said = accepted.impossible;
     }
 }
 
@@ -72,12 +73,11 @@ pub fn filter(plan: &Plan, boxes: &mut [u16], log: &mut [Step]) -> Result<Filter
     let room = log.len();
     let mut taken = 0;
     loop {
-        let filtered = part::filter_part(plan, boxes, taken, room);
-        let steps = filtered.steps;
-        put_part(log, taken, steps);
-        if !filtered.more {
-            return filtered.answer;
+        let part = part::filter_part(plan, boxes, taken, room)?;
+        put_part(log, taken, part.steps);
+        if !part::goes_on(part.filtered, room) {
+            return Ok(part.filtered);
         }
-        taken = filtered.taken;
+        taken = part.filtered.count;
     }
 }

@@ -1,36 +1,41 @@
+use mathlib.Core.Path.{◌∙◌}
 use native.Mathlib.Omega.{arith}
-use borrow.Author.Tests.{not-true, not-false}
-use Rattle.step_log.proofs.Checking.{going-opens, part-inside, part-goes-on, part-ends}
+use Rattle.step_log.proofs.Checking.{going-opens, part-inside, part-refuses, part-ends, part-goes-on}
+use Rattle.plan.proofs.Refusals.{refused-on}
 use Rattle.step_log.proofs.Claiming.{checks-steps}
 use Rattle.step_log.proofs.check_log.Goals as goal
 
-pub loop-checked-init : goal.loop-checked-init
-loop-checked-init c = going-opens _ _ _
+pub loop-accepted-init : goal.loop-accepted-init
+loop-accepted-init c = going-opens _ _ _
 
-pub part_at-steps-requires : goal.part_at-steps-requires
-part_at-steps-requires c = c.loop-checked.invariant.inside
-
-pub check_part-checked-requires : goal.check_part-checked-requires
-check_part-checked-requires c =
-    let inside = part-inside _ _ _ _ _ _ c.loop-checked.invariant c.part_at-steps.result c.part_at-steps.ensures.0 in
+pub check_part-requires : goal.check_part-requires
+check_part-requires c =
+    let inside = part-inside _ _ _ _ _ _ c.loop-accepted.invariant c.part_at-steps.result c.part_at-steps.ensures.0 in
     (inside.0, c.part_at-steps.ensures.1, omega (arith, c.well_formed, inside.1))
 
-pub returns-then-not-checked : goal.returns-then-not-checked
-returns-then-not-checked c =
-    let (answer, holds) =
-    checks-steps _ _ _ _ _
-    (part-ends _ _ _ _ _ _ c.loop-checked.invariant _ c.part_at-steps.ensures.0 _ _ c.check_part-checked.ensures (not-true _ c.if-not-checked.true)) in
+pub returns-in_err-accepted : goal.returns-in_err-accepted
+returns-in_err-accepted c =
+    let (is, leaves) =
+    part-refuses _ _ _ _ _ _ c.loop-accepted.invariant _ c.part_at-steps.ensures.0 _ _ c.in_err-accepted.ensures in
+    let (answer, holds) = checks-steps _ _ _ _ _ (refused-on _ _ c.from_residual.ensures.1 ∙ is, leaves) in
     record { answer = answer; holds = holds }
 
-pub loop-checked-smaller : goal.loop-checked-smaller
-loop-checked-smaller c =
+pub returns-then-steps-lt-SIZE : goal.returns-then-steps-lt-SIZE
+returns-then-steps-lt-SIZE c =
+    let (answer, holds) =
+    checks-steps _ _ _ _ _
+    (part-ends _ _ _ _ _ _ c.loop-accepted.invariant _ c.part_at-steps.ensures.0 _ _ c.in_ok-accepted.ensures c.if-steps-lt-SIZE.true) in
+    record { answer = answer; holds = holds }
+
+pub loop-accepted-smaller : goal.loop-accepted-smaller
+loop-accepted-smaller c =
     let (going, further) =
-    part-goes-on _ _ _ _ _ _ c.loop-checked.invariant _ c.part_at-steps.ensures.0 _ _ c.check_part-checked.ensures
-    c.check_part-checked.auto.boxes (not-false _ c.if-not-checked.false) in
+    part-goes-on _ _ _ _ _ _ c.loop-accepted.invariant _ c.part_at-steps.ensures.0 _ _ c.in_ok-accepted.ensures
+    c.check_part.auto.boxes c.if-steps-lt-SIZE.false in
     omega (arith, further, going.inside)
 
-pub loop-checked-preserved : goal.loop-checked-preserved
-loop-checked-preserved c =
-    (part-goes-on _ _ _ _ _ _ c.loop-checked.invariant _ c.part_at-steps.ensures.0 _ _ c.check_part-checked.ensures
-    c.check_part-checked.auto.boxes (not-false _ c.if-not-checked.false)
+pub loop-accepted-preserved : goal.loop-accepted-preserved
+loop-accepted-preserved c =
+    (part-goes-on _ _ _ _ _ _ c.loop-accepted.invariant _ c.part_at-steps.ensures.0 _ _ c.in_ok-accepted.ensures
+    c.check_part.auto.boxes c.if-steps-lt-SIZE.false
     ).0

@@ -4,10 +4,10 @@ use Rattle.plan.specs.Lent.{plan_in}
 use Rattle.step_log.proofs.Checking.{Going}
 use Rattle.step_log.proofs.check_log.Given as goal
 
-abbrev pub invariant-loop-checked : goal.invariant-loop-checked
-invariant-loop-checked l =
+abbrev pub invariant-loop-accepted : goal.invariant-loop-accepted
+invariant-loop-accepted l =
     Going (plan_in l.plan)
     l.initial.boxes l.log l.from l.said l.boxes
 
-abbrev pub decreases-loop-checked : goal.decreases-loop-checked
-decreases-loop-checked l = length l.log - l.from
+abbrev pub decreases-loop-accepted : goal.decreases-loop-accepted
+decreases-loop-accepted l = length l.log - l.from

@@ -1,34 +1,36 @@
+use mathlib.Core.Path.{sym, ◌∙◌}
 use native.Mathlib.Omega.{arith}
-use borrow.Author.Tests.{not-true, not-false}
-use Rattle.step_log.proofs.Filtering.{running-opens, steps-inside, part-runs-on, part-leaves}
+use Rattle.step_log.proofs.Filtering.{handed_end, part-refuses, steps-inside, part-runs-on, part-leaves}
 use Rattle.step_log.proofs.Claiming.{leaves-steps}
 use Rattle.step_log.proofs.filter.Goals as goal
 
-pub loop-filtered-init : goal.loop-filtered-init
-loop-filtered-init c = running-opens _ _ _
-
-pub filter_part-filtered-requires : goal.filter_part-filtered-requires
-filter_part-filtered-requires c = c.loop-filtered.invariant.inside
-
-pub put_part-requires : goal.put_part-requires
-put_part-requires c = steps-inside _ _ _ _ _ _ c.loop-filtered.invariant _ _ c.filter_part-filtered.ensures
-
-pub returns-then-not-filtered : goal.returns-then-not-filtered
-returns-then-not-filtered c =
+pub returns-in_err-part : goal.returns-in_err-part
+returns-in_err-part c =
     let (answer, holds) =
     leaves-steps _ _ _ _
-    (part-leaves _ _ _ _ _ _ c.loop-filtered.invariant _ _ c.filter_part-filtered.ensures _ c.put_part.ensures (not-true _ c.if-not-filtered.true)) in
+    (handed_end _ _ _ c.from_residual.ensures.1 (part-refuses _ _ _ _ _ _ c.loop-part.invariant _ _ c.in_err-part.ensures)) in
     record { answer = answer; holds = holds }
 
-pub loop-filtered-smaller : goal.loop-filtered-smaller
-loop-filtered-smaller c =
+pub put_part-requires : goal.put_part-requires
+put_part-requires c = steps-inside _ _ _ _ _ _ c.loop-part.invariant _ _ c.in_ok-part.ensures
+
+pub returns-then-not-goes_on : goal.returns-then-not-goes_on
+returns-then-not-goes_on c =
+    let (answer, holds) =
+    leaves-steps _ _ _ _
+    (part-leaves _ _ _ _ _ _ c.loop-part.invariant _ _ c.in_ok-part.ensures _ c.put_part.ensures
+    (sym c.goes_on.ensures ∙ c.if-not-goes_on.true)) in
+    record { answer = answer; holds = holds }
+
+pub loop-part-smaller : goal.loop-part-smaller
+loop-part-smaller c =
     let (going, further) =
-    part-runs-on _ _ _ _ _ _ c.loop-filtered.invariant _ _ c.filter_part-filtered.ensures _ c.put_part.ensures c.filter_part-filtered.auto.boxes
-    (not-false _ c.if-not-filtered.false) in
+    part-runs-on _ _ _ _ _ _ c.loop-part.invariant _ _ c.in_ok-part.ensures _ c.put_part.ensures c.filter_part.auto.boxes
+    (sym c.goes_on.ensures ∙ c.if-not-goes_on.false) in
     omega (arith, further, going.inside)
 
-pub loop-filtered-preserved : goal.loop-filtered-preserved
-loop-filtered-preserved c =
-    (part-runs-on _ _ _ _ _ _ c.loop-filtered.invariant _ _ c.filter_part-filtered.ensures _ c.put_part.ensures c.filter_part-filtered.auto.boxes
-    (not-false _ c.if-not-filtered.false)
+pub loop-part-preserved : goal.loop-part-preserved
+loop-part-preserved c =
+    (part-runs-on _ _ _ _ _ _ c.loop-part.invariant _ _ c.in_ok-part.ensures _ c.put_part.ensures c.filter_part.auto.boxes
+    (sym c.goes_on.ensures ∙ c.if-not-goes_on.false)
     ).0

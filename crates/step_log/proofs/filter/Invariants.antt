@@ -4,10 +4,10 @@ use Rattle.plan.specs.Lent.{plan_in}
 use Rattle.step_log.proofs.Filtering.{Running}
 use Rattle.step_log.proofs.filter.Given as goal
 
-abbrev pub invariant-loop-filtered : goal.invariant-loop-filtered
-invariant-loop-filtered l =
+abbrev pub invariant-loop-part : goal.invariant-loop-part
+invariant-loop-part l =
     Running (plan_in l.plan)
     l.initial.boxes l.initial.log l.taken l.boxes l.log
 
-abbrev pub decreases-loop-filtered : goal.decreases-loop-filtered
-decreases-loop-filtered l = length l.initial.log - l.taken
+abbrev pub decreases-loop-part : goal.decreases-loop-part
+decreases-loop-part l = length l.initial.log - l.taken

@@ -10,15 +10,6 @@ use Rattle.step_log.proofs.put_part.Goals as goal
 pub loop-k-init : goal.loop-k-init
 loop-k-init c = none-put _ _ _
 
-pub step_of-requires : goal.step_of-requires
-step_of-requires c = omega (arith, c.loop-k-test.true, c.requires.1)
-
-pub overflow_add-from : goal.overflow_add-from
-overflow_add-from c = omega (arith, c.loop-k-test.true, c.requires.0, c.well_formed)
-
-pub bounds-log-from : goal.bounds-log-from
-bounds-log-from c = omega (arith, c.loop-k-test.true, c.requires.0, c.loop-k.auto.log)
-
 pub loop-k-preserved : goal.loop-k-preserved
 loop-k-preserved c =
     let a = c.args in

@@ -1,23 +1,20 @@
 -- A part of a log: the steps that the core is called with at a time, and what the log checker and the filter come to with them. No public contract
 -- names a part.
-use Rattle.std.specs.Prelude.{Bool, true, false, ◌≡◌, List, [], ℕ, ◌+◌, ◌-◌, ◌≤◌, ◌<◌, min, leb, ltb, length}
+use Rattle.std.specs.Prelude.{Bool, false, ◌≡◌, List, ℕ, ◌+◌, ◌-◌, min, ltb, length}
 use Rattle.std.specs.Prelude.{None, Some, Result, Ok, Err}
 use Rattle.units.specs.Choice.{on_option}
 use Rattle.plan.specs.Plan.{Plan}
-use Rattle.plan.specs.declared.Fault.{Fault}
 use Rattle.plan.specs.Faults.{input_fault}
 use Rattle.steps.specs.declared.Step.{Step}
 use Rattle.steps.specs.declared.Accepted.{Accepted}
 use Rattle.plan.specs.declared.Refusal.{Refusal}
-use Rattle.plan.specs.Refusals.{answer_of}
-use Rattle.steps.specs.declared.Filtered.{Filtered}
+use Rattle.plan.specs.Refusals.{answer_of, fault_of}
 use Rattle.steps.specs.Steps as steps
 use Rattle.steps.specs.Log.{LogEnd, log_end, replay_from}
-use Rattle.steps.specs.Filter.{Run, no_room, count, run}
+use Rattle.steps.specs.Filter.{Run, count, run}
 use Rattle.steps.specs.Entry.{steps_from, check_answer, FilterAnswer, refused_by}
-use Rattle.steps.specs.Entry.{count_of, no_room_for, settled_after, impossible_after, ending_answer, filter_answer}
+use Rattle.steps.specs.Entry.{no_room_for, settled_after, impossible_after, ending_answer, filter_answer}
 use Rattle.step_log.specs.declared.part.Part.{Part}
-use Rattle.step_log.specs.declared.part.PartChecked.{PartChecked}
 use Rattle.step_log.specs.declared.part.PartFiltered.{PartFiltered}
 
 abbrev pub no_step : Step
@@ -37,21 +34,14 @@ pub record Sized (p : Part) : Type 0 where
 
 -- ---- the log checker
 
-abbrev pub checked_part : Result Accepted Refusal → ℕ → PartChecked
-checked_part (Err r) count = record { answer = Err r; more = false; steps = 0; impossible = false }
-checked_part (Ok a) count = record { answer = Ok a; more = leb part_size count; steps = a.steps; impossible = a.impossible }
-
 -- the end of a log from step number k on, or a refusal that changes nothing
 unfoldable pub check_steps_from : Plan → ℕ → Bool → List ℕ → List Step → LogEnd
 check_steps_from P k said boxes steps = on_option (input_fault P boxes) (replay_from P k said boxes steps) (λ f. log_end 0 false boxes (Some f))
 
--- What the log checker comes to with a part of so many steps, whose end this is.
-pub record CheckedAs (e : LogEnd) (count : ℕ) (r : PartChecked) (left : List ℕ) : Type 0 where
-  pub answers : answer_of r.answer ≡ check_answer e
+-- What the log checker comes to with a part, whose end this is.
+pub record CheckedAs (e : LogEnd) (answer : Result Accepted Refusal) (left : List ℕ) : Type 0 where
+  pub answers : answer_of answer ≡ check_answer e
   pub leaves : left ≡ e.boxes
-  -- there may be more only where all steps of a full part are accepted
-  pub goes_on : r.more ≡ true → (part_size ≤ count) × (e.refusal ≡ None) × (r.steps ≡ e.steps) × (r.impossible ≡ e.impossible)
-  pub ends : r.more ≡ false → e.refusal ≡ None → count < part_size
 
 -- ---- the filter
 
@@ -62,37 +52,18 @@ does_go_on room (no_room_for f n) = ltb n room
 does_go_on room (settled_after n) = false
 does_go_on room (impossible_after n) = false
 
-abbrev pub filtered_part : Result Filtered Refusal → ℕ → ℕ → List ℕ → List ℕ → List ℕ → PartFiltered
-filtered_part answer taken room kinds tasks hours =
-    record {
-      steps = record { kinds = kinds; tasks = tasks; hours = hours; count = count_of taken (filter_answer answer) - taken };
-      answer = answer;
-      more = does_go_on room (filter_answer answer);
-      taken = count_of taken (filter_answer answer);
-    }
-
 -- the run over one part, after so many steps and with room for so many in all
 unfoldable pub part_run : Plan → List ℕ → ℕ → ℕ → Run
 part_run P boxes taken room = run P boxes (min part_size (room - taken))
 
--- What the filter comes to with a part that goes as this run.
-pub record RanAs (r : Run) (taken room : ℕ) (f : PartFiltered) (left : List ℕ) : Type 0 where
-  pub answers : filter_answer f.answer ≡ ending_answer r.ending (taken + count r)
+-- What the filter comes to with a part that goes as this run, after so many steps.
+pub record RanAs (r : Run) (taken : ℕ) (f : PartFiltered) (left : List ℕ) : Type 0 where
+  pub answers : filter_answer (Ok f.filtered) ≡ ending_answer r.ending (taken + count r)
   pub leaves : left ≡ r.boxes
   pub steps : part_steps f.steps ≡ r.log
   pub number : f.steps.count ≡ count r
-  -- it goes on only where it stopped for room, with room in all
-  pub goes_on : f.more ≡ true → (r.ending ≡ no_room) × (f.taken ≡ taken + count r) × (taken + count r < room)
-  pub ends : f.more ≡ false → r.ending ≡ no_room → room ≤ taken + count r
 
--- A refusal changes nothing, and has no steps.
-pub record RefusedAs (fault : Fault) (boxes : List ℕ) (f : PartFiltered) (left : List ℕ) : Type 0 where
-  pub answers : filter_answer f.answer ≡ refused_by fault
-  pub leaves : left ≡ boxes
-  pub steps : part_steps f.steps ≡ []
-  pub number : f.steps.count ≡ 0
-  pub ends : f.more ≡ false
-
-pub record FilteredAs (P : Plan) (boxes : List ℕ) (taken room : ℕ) (f : PartFiltered) (left : List ℕ) : Type 0 where
-  pub runs : input_fault P boxes ≡ None → RanAs (part_run P boxes taken room) taken room f left
-  pub refuses : (fault : Fault) → input_fault P boxes ≡ Some fault → RefusedAs fault boxes f left
+-- A plan that passes the tests has a part's run, with room for so many steps in all; a refusal is of the plan, and changes nothing.
+abbrev pub FilteredAs : Plan → List ℕ → ℕ → ℕ → Result PartFiltered Refusal → List ℕ → Type 0
+FilteredAs P boxes taken room (Ok f) left = (input_fault P boxes ≡ None) × RanAs (part_run P boxes taken room) taken f left
+FilteredAs P boxes taken room (Err r) left = (input_fault P boxes ≡ Some (fault_of r)) × (left ≡ boxes)

@@ -1,41 +1,22 @@
 use Prim.Native.Nat.{◌-◌}
 use native.Mathlib.Omega.{arith}
-use Rattle.step_log.proofs.Filtering.{blank, lent_length, count-inside, filtered-as}
+use Rattle.step_log.proofs.Filtering.{blank, refused-as, count-is, ran-as}
 use Rattle.step_log.proofs.part.filter_part.Goals as goal
 
-pub slice_bounds-filter_from-end : goal.slice_bounds-filter_from-end
+pub returns-in_err-filtered : goal.returns-in_err-filtered
 unfolding blank
-slice_bounds-filter_from-end c =
-    lent_length (c.part_end.result - c.args.taken) (omega (arith, c.part_end.ensures))
+returns-in_err-filtered c =
+    refused-as (c.part_end.result - c.args.taken) (omega (arith, c.part_end.ensures)) _ _ _ c.args.room _ _ c.from_residual.ensures.1
+    _ _ _ _ c.in_err-filtered.ensures
 
-pub slice_bounds-filter_from-end-2 : goal.slice_bounds-filter_from-end-2
+pub overflow_sub-steps : goal.overflow_sub-steps
 unfolding blank
-slice_bounds-filter_from-end-2 c =
-    lent_length (c.part_end.result - c.args.taken) (omega (arith, c.part_end.ensures))
-
-pub slice_bounds-filter_from-end-3 : goal.slice_bounds-filter_from-end-3
-unfolding blank
-slice_bounds-filter_from-end-3 c =
-    lent_length (c.part_end.result - c.args.taken) (omega (arith, c.part_end.ensures))
-
-pub filter_from-answer-requires : goal.filter_from-answer-requires
-unfolding blank
-filter_from-answer-requires c =
-    omega (
-      arith,
-      c.requires,
-      c.part_end.ensures,
-      lent_length (c.part_end.result - c.args.taken) (omega (arith, c.part_end.ensures)),
-    )
-
-pub filtered_part-requires : goal.filtered_part-requires
-unfolding blank
-filtered_part-requires c =
-    count-inside (c.part_end.result - c.args.taken) (omega (arith, c.part_end.ensures)) _ _ _ c.filter_from-answer.result _ _ _ _
-    c.filter_from-answer.ensures
+overflow_sub-steps c =
+    omega
+    (arith, count-is (c.part_end.result - c.args.taken) (omega (arith, c.part_end.ensures)) _ _ _ c.args.room _ _ _ _ _ c.in_ok-filtered.ensures)
 
 pub returns : goal.returns
 unfolding blank
 returns c =
-    filtered-as (c.part_end.result - c.args.taken) (omega (arith, c.part_end.ensures)) _ _ _ c.filter_from-answer.result _ _ _ _
-    c.filter_from-answer.ensures c.args.room (omega (arith, c.part_end.ensures)) _ c.filtered_part.ensures
+    ran-as (c.part_end.result - c.args.taken) (omega (arith, c.part_end.ensures)) _ _ _ c.args.room _ _ _ _ _ c.in_ok-filtered.ensures
+    (omega (arith, c.part_end.ensures))
