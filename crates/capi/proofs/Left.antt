@@ -15,7 +15,8 @@ module _ {numbers boxes : List ℕ} where
       → (numbers ≡ log_numbers (check_answer e)) × (boxes ≡ e.boxes)
   left-log e n (a, b) = (n ∙ ap log_numbers a, b)
 
-  pub left-run : {e : FilterEnd} {a : FilterAnswer} {kinds tasks hours : List ℕ} → numbers ≡ filter_numbers a → filter_end a boxes kinds tasks hours ≡ e
+  pub left-run : {e : FilterEnd} {a : FilterAnswer} {kinds tasks hours : List ℕ} → numbers ≡ filter_numbers a
+      → filter_end a boxes kinds tasks hours ≡ e
       → (numbers ≡ filter_numbers e.answer) × (filter_end e.answer boxes kinds tasks hours ≡ e)
   left-run n is = rw (← is) (n, refl)
 

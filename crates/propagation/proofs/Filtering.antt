@@ -142,7 +142,8 @@ module _ (P : Plan) (opening kinds₀ tasks₀ hours₀ : List ℕ) (count : ℕ
         ∙ ap (λ (log : List Step). ended no_room log boxes) (append-nil t.steps))
         t.logs
 
-    ends-stopped : (x : Step) → next P boxes ≡ Some (stops x) → count < length kinds₀ → length tasks₀ ≡ length kinds₀ → length hours₀ ≡ length kinds₀
+    ends-stopped : (x : Step) → next P boxes ≡ Some (stops x) → count < length kinds₀ → length tasks₀ ≡ length kinds₀
+        → length hours₀ ≡ length kinds₀
         → Ends P n opening kinds₀ tasks₀ hours₀
         (filter_end (impossible_after (n + (count + 1))) boxes (set kinds count x.kind) (set tasks count x.task) (set hours count x.hour))
     unfolding ending_answer
@@ -153,7 +154,8 @@ module _ (P : Plan) (opening kinds₀ tasks₀ hours₀ : List ℕ) (count : ℕ
 
 -- ---- each turn
 
-pub record Filtering (P : Plan) (opening kinds₀ tasks₀ hours₀ : List ℕ) (count : ℕ) (boxes kinds tasks hours : List ℕ) (fits : List (Option Window)) : Type 0 where
+pub record Filtering (P : Plan) (opening kinds₀ tasks₀ hours₀ : List ℕ) (count : ℕ) (boxes kinds tasks hours : List ℕ) (fits : List (Option Window))
+    : Type 0 where
   pub keeps : Keeping P boxes fits
   pub taken : Taken P opening kinds₀ tasks₀ hours₀ count boxes kinds tasks hours
   pub same_boxes : length boxes ≡ length opening
@@ -163,7 +165,8 @@ pub record Filtering (P : Plan) (opening kinds₀ tasks₀ hours₀ : List ℕ) 
   pub each_task : length tasks₀ ≡ length kinds₀
   pub each_hour : length hours₀ ≡ length kinds₀
 
-pub filter-opens : {P : Plan} {boxes kinds tasks hours : List ℕ} {fits : List (Option Window)} → Passed P boxes × (one_for_each_step kinds tasks hours ≡ true)
+pub filter-opens : {P : Plan} {boxes kinds tasks hours : List ℕ} {fits : List (Option Window)}
+    → Passed P boxes × (one_for_each_step kinds tasks hours ≡ true)
     → ((i : ℕ) → i < task_count P → get_or fits i None ≡ fit_at P.shifts boxes i) → length fits ≡ most_tasks
     → Filtering P boxes kinds tasks hours 0 boxes kinds tasks hours fits
 filter-opens {P} {boxes} {kinds} {tasks} {hours} (p, e) q r =
@@ -186,12 +189,14 @@ admitted-stops boxes x NotAdmitted still = refl
 admitted-stops boxes x Impossible still = refl
 admitted-stops boxes x (Moved i b) still = absurd (still i b refl)
 
-admitted-moves : (boxes : List ℕ) (x : Step) {j : Judged} {i : ℕ} {b : Bounds} → j ≡ Moved i b → admitted_of boxes x j ≡ moves x (with_bounds boxes i b)
+admitted-moves : (boxes : List ℕ) (x : Step) {j : Judged} {i : ℕ} {b : Bounds} → j ≡ Moved i b
+    → admitted_of boxes x j ≡ moves x (with_bounds boxes i b)
 unfolding admitted_of on_judged
 admitted-moves boxes x e = rw e
 
 module _ {P : Plan} {opening kinds₀ tasks₀ hours₀ : List ℕ} {count : ℕ} {boxes kinds tasks hours : List ℕ} {fits : List (Option Window)}
-    (at : Filtering P opening kinds₀ tasks₀ hours₀ count boxes kinds tasks hours fits) {r : Option Turn} (is : turn_of boxes r ≡ next P boxes) (n : ℕ) where
+    (at : Filtering P opening kinds₀ tasks₀ hours₀ count boxes kinds tasks hours fits) {r : Option Turn} (is : turn_of boxes r ≡ next P boxes)
+    (n : ℕ) where
   pub settles : r ≡ None → Ends P n opening kinds₀ tasks₀ hours₀ (filter_end (settled_after (n + count)) boxes kinds tasks hours)
   settles e = ends-settled P opening kinds₀ tasks₀ hours₀ count boxes kinds tasks hours at.taken n (sym is ∙ ap (turn_of boxes) e)
 
@@ -199,7 +204,8 @@ module _ {P : Plan} {opening kinds₀ tasks₀ hours₀ : List ℕ} {count : ℕ
     next-is : next P boxes ≡ Some (admitted_of boxes x j)
     next-is = sym is ∙ ap (turn_of boxes) found
 
-    pub fills : length kinds ≤ count → Ends P n opening kinds₀ tasks₀ hours₀ (filter_end (no_room_for (fault 32 0) (n + count)) boxes kinds tasks hours)
+    pub fills : length kinds ≤ count
+        → Ends P n opening kinds₀ tasks₀ hours₀ (filter_end (no_room_for (fault 32 0) (n + count)) boxes kinds tasks hours)
     fills l = ends-full P opening kinds₀ tasks₀ hours₀ count boxes kinds tasks hours at.taken n _ next-is (omega (arith, at.same_kinds))
 
     module _ (l : count < length kinds) where
@@ -222,7 +228,8 @@ module _ {P : Plan} {opening kinds₀ tasks₀ hours₀ : List ℕ} {count : ℕ
         pub filter-may-move : (i < most_tasks) × Fitting P.shifts (with_bounds boxes i b) i
         filter-may-move = may-move P boxes fits at.keeps x i b moves_so there
 
-        pub goes_on : {boxes' : List ℕ} {fits' : List (Option Window)} → (boxes' ≡ with_bounds boxes i b) × (fits' ≡ set fits i (fit_at P.shifts boxes' i))
+        pub goes_on : {boxes' : List ℕ} {fits' : List (Option Window)}
+            → (boxes' ≡ with_bounds boxes i b) × (fits' ≡ set fits i (fit_at P.shifts boxes' i))
             → Filtering P opening kinds₀ tasks₀ hours₀ (count + 1) boxes' (set kinds count x.kind) (set tasks count x.task)
             (set hours count x.hour) fits'
         goes_on {boxes'} {fits'} (e, f) =

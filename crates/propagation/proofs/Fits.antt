@@ -58,7 +58,8 @@ fitting P boxes p i l =
     }
 
 -- one cell more of an array is filled
-pub filled_more : {A : Type 0} (f : ℕ → A) (l : List A) (d : A) (n : ℕ) (x : A) → ((k : ℕ) → k < n → get_or l k d ≡ f k) → x ≡ f n → n < length l
+pub filled_more : {A : Type 0} (f : ℕ → A) (l : List A) (d : A) (n : ℕ) (x : A) → ((k : ℕ) → k < n → get_or l k d ≡ f k) → x ≡ f n
+    → n < length l
     → (k : ℕ) → k < n + 1 → get_or (set l n x) k d ≡ f k
 filled_more {A} f l d n x below e small k h = go (ℕ_discrete k n)
   where

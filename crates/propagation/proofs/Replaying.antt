@@ -94,7 +94,8 @@ module _ (P : Plan) (n : ℕ) (kinds tasks hours : List ℕ) (k : ℕ) (boxes : 
     end-moves left e = rw (steps_next kinds tasks hours k l, e, next-number)
 
 -- what an end answers
-pub answers-refused : (e : LogEnd) {k : ℕ} {said : Bool} {boxes : List ℕ} {f : Fault} → e ≡ log_end k said boxes (Some f) → refused f ≡ check_answer e
+pub answers-refused : (e : LogEnd) {k : ℕ} {said : Bool} {boxes : List ℕ} {f : Fault} → e ≡ log_end k said boxes (Some f)
+    → refused f ≡ check_answer e
 unfolding check_answer answer_unless
 answers-refused e q = rw q
 
@@ -106,7 +107,8 @@ answers-accepted e q = rw q
 -- ---- each turn
 
 -- What holds at each turn of the log checker: the end from here is the log's end.
-pub record Replaying (P : Plan) (n : ℕ) (said₀ : Bool) (opening kinds tasks hours : List ℕ) (k : ℕ) (said : Bool) (boxes : List ℕ) (fits : List (Option Window)) :
+pub record Replaying (P : Plan) (n : ℕ) (said₀ : Bool) (opening kinds tasks hours : List ℕ) (k : ℕ) (said : Bool) (boxes : List ℕ)
+    (fits : List (Option Window)) :
     Type 0 where
   pub keeps : Keeping P boxes fits
   pub same : length boxes ≡ length opening
@@ -120,7 +122,8 @@ below l q = omega arith
 -- What the log checker answers and leaves.
 abbrev Replayed : Plan → ℕ → Bool → List ℕ → List ℕ → List ℕ → List ℕ → Answer Accepted → List ℕ → Type 0
 Replayed P n said₀ opening kinds tasks hours answer left =
-    (answer ≡ check_answer (replay_from P n said₀ opening (steps_in kinds tasks hours))) × (left ≡ (replay_from P n said₀ opening (steps_in kinds tasks hours)).boxes)
+    (answer ≡ check_answer (replay_from P n said₀ opening (steps_in kinds tasks hours)))
+    × (left ≡ (replay_from P n said₀ opening (steps_in kinds tasks hours)).boxes)
 
 pub replay-opens : {P : Plan} {n : ℕ} {said₀ : Bool} {opening kinds tasks hours : List ℕ} {fits : List (Option Window)} → Passed P opening ×
     (one_for_each_step kinds tasks hours ≡ true)
@@ -137,7 +140,8 @@ replay-opens {P} {n} {said₀} {opening} {kinds} {tasks} {hours} (p, e) q r =
 
 module _ {P : Plan} {n : ℕ} {said₀ : Bool} {opening kinds tasks hours : List ℕ} {k : ℕ} {said : Bool} {boxes : List ℕ} {fits : List (Option Window)}
     (at : Replaying P n said₀ opening kinds tasks hours k said boxes fits) where
-  pub replay-done : k ≡ length kinds → Replayed P n said₀ opening kinds tasks hours (answered (record { steps = n + length kinds; impossible = said })) boxes
+  pub replay-done : k ≡ length kinds
+      → Replayed P n said₀ opening kinds tasks hours (answered (record { steps = n + length kinds; impossible = said })) boxes
   replay-done l =
       let e = sym at.ends ∙ end-done P n kinds tasks hours k boxes said (omega arith) in
       rw (← l) ((answers-accepted _ e, sym (ap (λ (x : LogEnd). x.boxes) e)))
@@ -182,7 +186,8 @@ module _ {P : Plan} {n : ℕ} {said₀ : Bool} {opening kinds tasks hours : List
       pub replay-may-move : (i < most_tasks) × Fitting P.shifts (with_bounds boxes i b) i
       replay-may-move = may-move P boxes fits at.keeps _ i b moves_so there
 
-      pub replay-moves : {boxes' : List ℕ} {fits' : List (Option Window)} → (boxes' ≡ with_bounds boxes i b) × (fits' ≡ set fits i (fit_at P.shifts boxes' i))
+      pub replay-moves : {boxes' : List ℕ} {fits' : List (Option Window)}
+          → (boxes' ≡ with_bounds boxes i b) × (fits' ≡ set fits i (fit_at P.shifts boxes' i))
           → Replaying P n said₀ opening kinds tasks hours (k + 1) said boxes' fits'
       replay-moves {boxes'} {fits'} (e, f) =
           record {

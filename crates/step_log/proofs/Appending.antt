@@ -22,7 +22,8 @@ module _ (P : Plan) where
   unfoldable pub gone_on : LogEnd → List Step → LogEnd
   gone_on e ys = on_option e.refusal (replay_from P e.steps e.impossible e.boxes ys) (λ f. e)
 
-  on-each : (ys : List Step) (J : Judgement) (u n i i' : LogEnd) (m m' : List ℕ → LogEnd) → u ≡ gone_on u ys → n ≡ gone_on n ys → i' ≡ gone_on i ys
+  on-each : (ys : List Step) (J : Judgement) (u n i i' : LogEnd) (m m' : List ℕ → LogEnd) → u ≡ gone_on u ys → n ≡ gone_on n ys
+      → i' ≡ gone_on i ys
       → ((left : List ℕ) → m' left ≡ gone_on (m left) ys) → on_judgement J u n i' m' ≡ gone_on (on_judgement J u n i m) ys
   unfolding on_judgement
   on-each ys unknown u n i i' m m' p q r s = p

@@ -35,11 +35,13 @@ refused_end : (e : LogEnd) (f : Fault) → refused f ≡ check_answer e → e.re
 unfolding check_answer answer_unless
 refused_end e f q = go e.refusal q
   where
-    go : (o : Option Fault) → ◌≡◌ {A = Answer Accepted} (refused f) (answer_unless o (record { steps = e.steps; impossible = e.impossible })) → o ≡ Some f
+    go : (o : Option Fault) → ◌≡◌ {A = Answer Accepted} (refused f) (answer_unless o (record { steps = e.steps; impossible = e.impossible }))
+        → o ≡ Some f
     go None r = refused≢answered r
     go (Some g) r = cc
 
-accepted-end : (e : LogEnd) (a : Accepted) → answered a ≡ check_answer e → (e.refusal ≡ None) × (a.steps ≡ e.steps) × (a.impossible ≡ e.impossible)
+accepted-end : (e : LogEnd) (a : Accepted) → answered a ≡ check_answer e
+    → (e.refusal ≡ None) × (a.steps ≡ e.steps) × (a.impossible ≡ e.impossible)
 unfolding check_answer answer_unless
 accepted-end e a q = go e.refusal q
   where

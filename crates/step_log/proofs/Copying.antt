@@ -87,7 +87,8 @@ module _ (ks ts hs : List ℕ) (n : ℕ) where
           ∙ ap (λ (a : ℕ). step (get_or ks i 0) a (get_or (take n hs) i 0)) (get_or-take n ts i 0 q)
           ∙ ap (λ (a : ℕ). step (get_or ks i 0) (get_or ts i 0) a) (get_or-take n hs i 0 q)
 
-pub sized-more : (p q : Part) (n a b c : ℕ) → q.kinds ≡ set p.kinds n a → q.tasks ≡ set p.tasks n b → q.hours ≡ set p.hours n c → Sized p → Sized q
+pub sized-more : (p q : Part) (n a b c : ℕ) → q.kinds ≡ set p.kinds n a → q.tasks ≡ set p.tasks n b → q.hours ≡ set p.hours n c
+    → Sized p → Sized q
 sized-more p q n a b c k t h size =
     record {
       all_kinds = ap length k ∙ length-set p.kinds n a ∙ size.all_kinds;

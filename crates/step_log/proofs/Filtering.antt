@@ -113,7 +113,8 @@ counted f e n q = sym (count-ending (ending_of f.ending) 0 f.count) ∙ ap (coun
 steps_back : (log : List Step) (ks ts hs xs ys zs rest : List ℕ) → ks ≡ map (λ x. x.kind) log ++ xs → ts ≡ map (λ x. x.task) log ++ ys
     → hs ≡ map (λ x. x.hour) log ++ zs → steps_from (ks ++ rest) (ts ++ rest) (hs ++ rest) 0 (length log) ≡ log
 steps_back log ks ts hs xs ys zs rest p q s =
-    ap (λ (l : List ℕ). steps_from l (ts ++ rest) (hs ++ rest) 0 (length log)) (ap (λ (l : List ℕ). l ++ rest) p ∙ append_assoc (map (λ x. x.kind) log) xs rest)
+    ap (λ (l : List ℕ). steps_from l (ts ++ rest) (hs ++ rest) 0 (length log))
+    (ap (λ (l : List ℕ). l ++ rest) p ∙ append_assoc (map (λ x. x.kind) log) xs rest)
     ∙ ap (λ (l : List ℕ). steps_from (map (λ x. x.kind) log ++ (xs ++ rest)) l (hs ++ rest) 0 (length log))
     (ap (λ (l : List ℕ). l ++ rest) q ∙ append_assoc (map (λ x. x.task) log) ys rest)
     ∙ ap (λ (l : List ℕ). steps_from (map (λ x. x.kind) log ++ (xs ++ rest)) (map (λ x. x.task) log ++ (ys ++ rest)) l 0 (length log))
@@ -141,7 +142,8 @@ module _ (cells : ℕ) (l : cells ≤ part_size) where
     abbrev ran : Run
     ran = run P boxes cells
 
-    core-refused : (f : Fault) → input_fault P boxes ≡ Some f → core ≡ filter_end (refused_by f) boxes (take cells blank) (take cells blank) (take cells blank)
+    core-refused : (f : Fault) → input_fault P boxes ≡ Some f
+        → core ≡ filter_end (refused_by f) boxes (take cells blank) (take cells blank) (take cells blank)
     unfolding filter_from on_option
     core-refused f e = rw (lent-fault P boxes blank blank blank cells inside inside inside, e)
 
@@ -233,7 +235,8 @@ pub record Running (P : Plan) (opening : List ℕ) (cells : List Step) (taken : 
   pub number : length steps ≡ taken
   pub inside : taken ≤ length cells
   pub logs : log ≡ steps ++ drop taken cells
-  pub goes_on : input_fault P opening ≡ None → (input_fault P boxes ≡ None) × (run P opening (length cells) ≡ resumed steps (run P boxes (length cells - taken)))
+  pub goes_on : input_fault P opening ≡ None
+      → (input_fault P boxes ≡ None) × (run P opening (length cells) ≡ resumed steps (run P boxes (length cells - taken)))
   pub refuses : (f : Fault) → input_fault P opening ≡ Some f → (boxes ≡ opening) × (taken ≡ 0)
   pub same : length boxes ≡ length opening
 

@@ -25,7 +25,8 @@ unfolding plan_listing
 plan-listed P boxes answer left ks ts hs e = ap (λ (l : FilterEnd). listing l.answer l.boxes (task_count P)) e
 
 module _ (text : List ℕ) where
-  pub text-refused : (f : Fault) (rs cs ts ws hs bs : List ℕ) → end_with (refused f) rs cs ts ws hs bs ≡ read_end text → refused_line f ≡ listing_of_text text
+  pub text-refused : (f : Fault) (rs cs ts ws hs bs : List ℕ) → end_with (refused f) rs cs ts ws hs bs ≡ read_end text
+      → refused_line f ≡ listing_of_text text
   unfolding listing_of_text on_answer
   text-refused f rs cs ts ws hs bs e = rw (← e)
 

@@ -238,6 +238,7 @@ module _ (hours tasks : ℕ) (capacities heights boxes : List ℕ) (fits : List 
     by-U n q = by-kind (q ∙ rw n)
 
 -- the sum of U's test fits a number of the code
-pub sum_fits : {rooms tasks : ℕ} {heights boxes : List ℕ} → Ready rooms tasks heights boxes → (i : ℕ) (b : Bounds) → i < tasks → b ≡ bounds_at boxes i
+pub sum_fits : {rooms tasks : ℕ} {heights boxes : List ℕ} → Ready rooms tasks heights boxes → (i : ℕ) (b : Bounds) → i < tasks
+    → b ≡ bounds_at boxes i
     → b.latest.0 + b.shortest.0 < 65536
 sum_fits ready i b l e = rw e (omega (arith, ready.latest i l, ready.shortest i l))

@@ -253,7 +253,8 @@ module _ {hours tasks rooms : ℕ} {fits : List (Option Window)} {heights old ne
             put-before _ _ _ _ (omega (arith, room-there)) (same ∙ long) (room * hours + t) (omega (arith, part-within hours n room below))
             ∙ r.load room below t m
 
-pub rooms-all : {hours tasks rooms : ℕ} {fits : List (Option Window)} {heights old new : List ℕ} {n : ℕ} → RoomsFilled hours tasks fits heights old new n
+pub rooms-all : {hours tasks rooms : ℕ} {fits : List (Option Window)} {heights old new : List ℕ} {n : ℕ}
+    → RoomsFilled hours tasks fits heights old new n
     → length old ≡ rooms * hours → n ≤ rooms → rooms ≤ n → Loaded hours rooms tasks new fits heights
 rooms-all r each k l =
     record { each = omega (arith, r.same); load = λ room m t h. r.load room (omega arith) t h }

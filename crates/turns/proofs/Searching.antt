@@ -141,7 +141,8 @@ module _ (hours tasks : ℕ) (capacities heights boxes : List ℕ) (fits : List 
 
   module _ (i t : ℕ) where
     -- a task with no valid triple
-    pub none_never : (lower : Bool) → get_or fits i None ≡ None → admitted_by hours tasks capacities heights boxes fits (step (letter_of lower) i t) ≡ None
+    pub none_never : (lower : Bool) → get_or fits i None ≡ None
+        → admitted_by hours tasks capacities heights boxes fits (step (letter_of lower) i t) ≡ None
     unfolding judge_kind_by bound_by on_fit admits on_judged
     none_never true e = not-admitted (letter_of true) i t kind_l is-L (rw e)
     none_never false e = not-admitted (letter_of false) i t kind_u is-U (rw e)
@@ -160,12 +161,14 @@ module _ (hours tasks : ℕ) (capacities heights boxes : List ℕ) (fits : List 
       upper_is = rw (e, ← f) (moves-is _ _ _ _)
 
       -- before its first hour, from its end on, and between
-      pub none_before : (lower : Bool) → t < first_hour lower w b → admitted_by hours tasks capacities heights boxes fits (step (letter_of lower) i t) ≡ None
+      pub none_before : (lower : Bool) → t < first_hour lower w b
+          → admitted_by hours tasks capacities heights boxes fits (step (letter_of lower) i t) ≡ None
       unfolding first_hour
       none_before true l = not-admitted (letter_of true) i t kind_l is-L (lower-is ∙ not_right _ _ (not_left _ _ (lt-leb b.earliest.0 t l)))
       none_before false l = not-admitted (letter_of false) i t kind_u is-U (upper_is ∙ not_left _ _ (lt-leb (lst w) t l))
 
-      pub none_after : (lower : Bool) → end_hour lower w b ≤ t → admitted_by hours tasks capacities heights boxes fits (step (letter_of lower) i t) ≡ None
+      pub none_after : (lower : Bool) → end_hour lower w b ≤ t
+          → admitted_by hours tasks capacities heights boxes fits (step (letter_of lower) i t) ≡ None
       unfolding end_hour
       none_after true l = not-admitted (letter_of true) i t kind_l is-L (lower-is ∙ not_left _ _ (le-ltb t (ect w) l))
       none_after false l =
@@ -203,11 +206,13 @@ module _ (hours tasks : ℕ) (capacities heights boxes : List ℕ) (fits : List 
       pub early : (t : ℕ) → t ≡ first_hour lower w b → first_of (at_hour i) t ≡ None
       early t q = first-all-none (at_hour i) t (λ u l. none_before i u w b e f lower (omega arith))
 
-      pub late : (end clip t : ℕ) → end ≡ end_hour lower w b → clip ≡ min end hours → clip ≤ t → first_of (at_hour i) t ≡ None → of_task i ≡ None
+      pub late : (end clip t : ℕ) → end ≡ end_hour lower w b → clip ≡ min end hours → clip ≤ t → first_of (at_hour i) t ≡ None
+          → of_task i ≡ None
       late end clip t q r l n = first_rest (at_hour i) t hours n (λ u k h. none_after i u w b e f lower (omega arith))
 
       -- an hour between, by the test on its loads
-      pub test-hour : (from end clip t : ℕ) (r : Bool) → from ≡ first_hour lower w b → end ≡ end_hour lower w b → clip ≡ min end hours → from ≤ t → t < clip
+      pub test-hour : (from end clip t : ℕ) (r : Bool) → from ≡ first_hour lower w b → end ≡ end_hour lower w b → clip ≡ min end hours
+          → from ≤ t → t < clip
           → i < tasks → r ≡ excess_by tasks capacities heights fits w i t → at_hour i t ≡ some_if r (step (letter_of lower) i t)
       test-hour from end clip t r p q s k l m h = excess-is i t w b e f lower m (omega arith) (omega arith) (omega arith) ∙ rw h
 

@@ -97,5 +97,6 @@ pub returns-in-Ok : goal.returns-in-Ok
 unfolding zeros read_end
 returns-in-Ok c =
     let end = c.in-Ok.ensures in
-    let listed = ap (λ (P : Plan). plan_listing P (take (6 * c.in-Ok.field-0.tasks) c.read_plan-reading.new.boxes)) c.new-plan.ensures ∙ text-read _ _ _ _ _ _ _ _ end _ c.first_symbol-all.ensures in
+    let listed = ap (λ (P : Plan). plan_listing P (take (6 * c.in-Ok.field-0.tasks) c.read_plan-reading.new.boxes)) c.new-plan.ensures
+    ∙ text-read _ _ _ _ _ _ _ _ end _ c.first_symbol-all.ensures in
     put_as _ listed c.list_plan.ensures.0 c.list_plan.ensures.1
