@@ -21,7 +21,8 @@ pub struct Shifts<'a> {
     pub work_times: &'a [u16],
 }
 
-// A plan: that part, the capacity of each room, and room by room one number a task for its height there. The boxes are lent beside the plan.
+// A plan: that part, the capacity of each room, and room by room one number a task for its height there. The boxes are lent beside the plan and are
+// no field of it: some calls write them, which would have to promise then that the plan stays, and C lends the two as slices of their own.
 #[derive(Clone, Copy)]
 pub struct Plan<'a> {
     pub shifts: Shifts<'a>,

@@ -20,6 +20,14 @@ use text::lengths::line_length;
 use text::put::{put_all, put_byte, put_line};
 use units::{Bounds, MOST_ROOMS};
 
+// A plan and its boxes that have passed every test.
+#[derive(Clone, Copy)]
+struct Tested<'a> {
+    plan: &'a Plan<'a>,
+    boxes: &'a [u16],
+    ghost passed: { Passed (plan_in plan.now) boxes.now },
+}
+
 // How many numbers a line has at most: of the plan H and a capacity for each room, of a task its calendar, its work time, a height in each room and
 // six bounds.
 const PLAN_NUMBERS: usize = 1 + MOST_ROOMS;
@@ -55,35 +63,34 @@ fn bound_numbers(b: Bounds) -> [usize; Bounds::NUMBERS]
 
 // The numbers of the line of task i, in the memory lent: calendar, work time, the height in each room, and the bounds.
 fn task_numbers<'a>(
-    plan: &Plan,
-    boxes: &[u16],
+    tested: &Tested,
     i: usize,
     numbers: &'a mut [usize; TASK_NUMBERS],
 ) -> &'a [usize]
-    requires { let P = plan_in plan.now in Passed P boxes.now × (i < task_count P) }
-    ensures { result.now ≡ numbers_at (plan_in plan.now) boxes.now i }
+    requires { i < task_count (plan_in tested.now.plan.now) }
+    ensures { result.now ≡ numbers_at (plan_in tested.now.plan.now) tested.now.boxes.now i }
 {
+    let plan = tested.plan;
     numbers[0] = plan.shifts.task_calendars[i] as usize;
     numbers[1] = plan.shifts.work_times[i] as usize;
     for room in 0..plan.rooms() {
         numbers[room + 2] = plan.heights_of(room)[i] as usize;
     }
-    let bounds = bound_numbers(bounds_at(boxes, i));
+    let bounds = bound_numbers(bounds_at(tested.boxes, i));
     let end = put_all(numbers, plan.rooms() + 2, &bounds);
     &numbers[..end]
 }
 
 // How many bytes the tasks' lines have, 350 a line at most.
 #[tactic(auto, using(crate::proofs::Sections::tasks_counted))]
-fn tasks_length(plan: &Plan, boxes: &[u16]) -> usize
-    requires { Passed (plan_in plan.now) boxes.now }
-    ensures { let P = plan_in plan.now in
-        (result ≡ length (tasks_text P boxes.now (task_count P))) × (result ≤ 350 * task_count P) }
+fn tasks_length(tested: &Tested) -> usize
+    ensures { let P = plan_in tested.now.plan.now in
+        (result ≡ length (tasks_text P tested.now.boxes.now (task_count P))) × (result ≤ 350 * task_count P) }
 {
     let mut numbers = [0; TASK_NUMBERS];
     let mut bytes = 0;
-    for i in 0..plan.tasks() {
-        bytes += line_length(b"task", task_numbers(plan, boxes, i, &mut numbers));
+    for i in 0..tested.plan.tasks() {
+        bytes += line_length(b"task", task_numbers(tested, i, &mut numbers));
     }
     bytes
 }
@@ -93,14 +100,14 @@ const CALENDAR_FRAME: usize = 5;
 
 // How many bytes the plan's text has.
 #[tactic(auto, using(crate::proofs::Sections::sections_counted))]
-fn text_length(plan: &Plan, boxes: &[u16]) -> usize
-    requires { Passed (plan_in plan.now) boxes.now }
-    ensures { result ≡ length (text_of_plan (plan_in plan.now) boxes.now) }
+fn text_length(tested: &Tested) -> usize
+    ensures { result ≡ length (text_of_plan (plan_in tested.now.plan.now) tested.now.boxes.now) }
 {
+    let plan = tested.plan;
     let mut numbers = [0; PLAN_NUMBERS];
     let first = line_length(b"plan", plan_numbers(plan, &mut numbers));
     let symbols = plan.shifts.calendars.len() + CALENDAR_FRAME * plan.shifts.calendar_count();
-    first + symbols + tasks_length(plan, boxes)
+    first + symbols + tasks_length(tested)
 }
 
 // The line of a calendar.
@@ -132,35 +139,31 @@ fn put_calendars(out: &mut [u8], at: usize, shifts: &Shifts) -> usize
 }
 
 // The lines of the tasks.
-fn put_tasks(out: &mut [u8], at: usize, plan: &Plan, boxes: &[u16]) -> usize
-    requires { let P = plan_in plan.now in
-        Passed P boxes.now × (at + length (tasks_text P boxes.now (task_count P)) ≤ length out.old) }
-    ensures { let P = plan_in plan.now in
-        Put (tasks_text P boxes.now (task_count P)) at out.old result out.new }
+fn put_tasks(out: &mut [u8], at: usize, tested: &Tested) -> usize
+    requires { let P = plan_in tested.now.plan.now in
+        at + length (tasks_text P tested.now.boxes.now (task_count P)) ≤ length out.old }
+    ensures { let P = plan_in tested.now.plan.now in
+        Put (tasks_text P tested.now.boxes.now (task_count P)) at out.old result out.new }
 {
     let mut numbers = [0; TASK_NUMBERS];
     let mut end = at;
-    for i in 0..plan.tasks() {
-        end = put_line(
-            out,
-            end,
-            b"task",
-            task_numbers(plan, boxes, i, &mut numbers),
-        );
+    for i in 0..tested.plan.tasks() {
+        end = put_line(out, end, b"task", task_numbers(tested, i, &mut numbers));
     }
     end
 }
 
 // The plan's text: the plan line, the calendars' lines, the tasks' lines.
 #[tactic(auto, using(crate::proofs::Sections::sections_length))]
-fn put_text(plan: &Plan, boxes: &[u16], out: &mut [u8]) -> usize
-    requires { let P = plan_in plan.now in Passed P boxes.now × (length (text_of_plan P boxes.now) ≤ length out.old) }
-    ensures { Put (text_of_plan (plan_in plan.now) boxes.now) 0 out.old result out.new }
+fn put_text(tested: &Tested, out: &mut [u8]) -> usize
+    requires { length (text_of_plan (plan_in tested.now.plan.now) tested.now.boxes.now) ≤ length out.old }
+    ensures { Put (text_of_plan (plan_in tested.now.plan.now) tested.now.boxes.now) 0 out.old result out.new }
 {
+    let plan = tested.plan;
     let mut numbers = [0; PLAN_NUMBERS];
     let first = put_line(out, 0, b"plan", plan_numbers(plan, &mut numbers));
     let middle = put_calendars(out, first, &plan.shifts);
-    put_tasks(out, middle, plan, boxes)
+    put_tasks(out, middle, tested)
 }
 
 // Writes a plan as text, every task line with all its bounds, and answers how long the text is. The memory lent stays as it is until the plan has
@@ -171,8 +174,9 @@ pub fn write_plan(plan: &Plan, boxes: &[u16], out: &mut [u8]) -> Result<usize, R
     ensures back { (n : ℕ) → answer_of result ≡ answered n → ReadsBack (plan_in plan.now) boxes.now (take n out.new) }
 {
     input::test_input(plan, boxes)?;
-    if out.len() < text_length(plan, boxes) {
+    let tested = &Tested { plan, boxes };
+    if out.len() < text_length(tested) {
         return Err(Refusal::OutputSize);
     }
-    Ok(put_text(plan, boxes, out))
+    Ok(put_text(tested, out))
 }

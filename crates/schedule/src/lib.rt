@@ -3,7 +3,7 @@
 
 ghost use Rattle.std.specs.Prelude.{◌≡◌, ◌+◌, ◌*◌, ◌≤◌, length};
 ghost use Rattle.units.specs.Choice.{◌and◌, first_of};
-ghost use Rattle.units.specs.Limits.{most_hours, within};
+ghost use Rattle.units.specs.Limits.{most_hours};
 ghost use Rattle.units.specs.Sums.{max_to};
 ghost use Rattle.plan.specs.Refusals.{tested_fault};
 ghost use Rattle.plan.specs.Plan.{room_count, task_count};
@@ -32,21 +32,17 @@ fn triple_at(schedule: &[u16], i: usize) -> Triple
     }
 }
 
-// Whether a number lies within the bounds of its kind.
-fn is_between(least: u16, most: u16, number: u16) -> bool
-    ensures { result ≡ within least most number }
-{
-    units::is_within(least as usize, most as usize, number as usize)
-}
-
 // Whether a triple lies in a box.
-#[tactic(auto, unfolding(calendar::specs::Triples::in_bounds))]
+#[tactic(auto, unfolding(calendar::specs::Triples::in_bounds, units::specs::Limits::within))]
 fn is_in_bounds(b: Bounds, t: Triple) -> bool
     ensures { result ≡ in_bounds b t }
 {
-    is_between(b.earliest.0, b.latest.0, t.start.0)
-        && is_between(b.shortest.0, b.longest.0, t.elapsed.0)
-        && is_between(b.fewest.0, b.most.0, t.overtime.0)
+    b.earliest <= t.start
+        && t.start <= b.latest
+        && b.shortest <= t.elapsed
+        && t.elapsed <= b.longest
+        && b.fewest <= t.overtime
+        && t.overtime <= b.most
 }
 
 // 14, 15 of one task.

@@ -33,7 +33,8 @@ fn is_plain(field: &[u8]) -> bool
     field.len() == 1 || field[0] != b'0'
 }
 
-// The number that a field is.
+// The number that a field is. The library's `parse` takes a text, and a sign before the digits: both would have to be ruled out here, which is no
+// plainer than the digits one by one.
 pub fn number_of(field: &[u8]) -> Option<u16>
     ensures { result ≡ number_of field.now }
 {
@@ -67,6 +68,7 @@ fn keep_number(cells: &mut [u16], at: usize, number: u16)
 pub fn numbers_of(fields: &[u8], cells: &mut [u16]) -> Option<usize>
     ensures { NumbersMade (numbers_of (parts tab fields.now)) result cells.new }
 {
+    // Counted beside the walk, since the count is the answer, of fields for which there is no cell too.
     let mut count = 0;
     for field in fields.split(|b| *b == TAB) {
         keep_number(cells, count, number_of(field)?);

@@ -11,9 +11,9 @@ loop-i-init c = rw (tasks-none _ _ _ _ _) (put-none _ _)
 
 pub put_line-end-requires : goal.put_line-end-requires
 put_line-end-requires c =
-    let within : c.loop-i.i < task_count (plan_in c.args.plan.now) = omega (arith, c.loop-i-test.true, c.tasks-i-end.ensures) in
-    omega (arith, c.requires.1, c.loop-i.auto.out, c.loop-i.invariant.place, tasks-room _ _ _ _ _ _ c.task_numbers.ensures _ within)
+    let within : c.loop-i.i < task_count (plan_in c.args.tested.now.plan.now) = omega (arith, c.loop-i-test.true, c.tasks-i-end.ensures) in
+    omega (arith, c.requires, c.loop-i.auto.out, c.loop-i.invariant.place, tasks-room _ _ _ _ _ _ c.task_numbers.ensures _ within)
 
 pub loop-i-preserved : goal.loop-i-preserved
 loop-i-preserved c =
-    tasks-put _ _ _ _ _ _ c.task_numbers.ensures (omega (arith, c.requires.1)) c.loop-i.invariant c.put_line-end.ensures
+    tasks-put _ _ _ _ _ _ c.task_numbers.ensures (omega (arith, c.requires)) c.loop-i.invariant c.put_line-end.ensures

@@ -22,27 +22,27 @@ loop-room-init c = (simp length-set (omega arith), two-first c.args.numbers.now 
 pub bounds-heights_of-i : goal.bounds-heights_of-i
 unfolding heights_of
 bounds-heights_of-i c =
-    let room : c.loop-room.room < length c.args.plan.now.capacities.now = omega (arith, c.loop-room-test.true, c.rooms-room-end.ensures) in
-    omega (arith, c.requires.1, ap length c.heights_of.ensures ∙ room-length _ _ c.args.plan.now.heights.now c.requires.0.heights _ room)
+    let room : c.loop-room.room < length c.args.tested.now.plan.now.capacities.now = omega (arith, c.loop-room-test.true, c.rooms-room-end.ensures) in
+    omega (arith, c.requires, ap length c.heights_of.ensures ∙ room-length _ _ c.args.tested.now.plan.now.heights.now c.args.tested.now.passed.heights _ room)
 
 pub loop-room-preserved : goal.loop-room-preserved
 unfolding heights_of
 loop-room-preserved c =
     let i = c.args.i in
-    let shifts = c.args.plan.now.shifts in (
+    let shifts = c.args.tested.now.plan.now.shifts in (
       simp length-set c.loop-room.invariant.0,
       height-next (get_or shifts.task_calendars.now i 0 ∷ get_or shifts.work_times.now i 0 ∷ []) _ 2 c.loop-room.room _
-          c.args.plan.now.heights.now i
-          (omega (arith, c.requires.0.rooms, c.loop-room.invariant.0, c.loop-room-test.true, c.rooms-room-end.ensures))
+          c.args.tested.now.plan.now.heights.now i
+          (omega (arith, c.args.tested.now.passed.rooms, c.loop-room.invariant.0, c.loop-room-test.true, c.rooms-room-end.ensures))
           (ap (λ (l : List ℕ). get_or l i 0) c.heights_of.ensures)
           c.loop-room.invariant.1,
     )
 
 pub returns : goal.returns
 returns c =
-    let all : c.loop-room.room ≡ length c.args.plan.now.capacities.now =
+    let all : c.loop-room.room ≡ length c.args.tested.now.plan.now.capacities.now =
     omega (arith, c.loop-room.auto.room-end, c.loop-room-test.false, c.rooms-room-end.ensures) in
-    all-numbers _ _ _ _ _ _ _ _ c.rooms.ensures (omega (arith, c.requires.0.rooms, c.loop-room.invariant.0)) (rw all at c.loop-room.invariant.1)
+    all-numbers _ _ _ _ _ _ _ _ c.rooms.ensures (omega (arith, c.args.tested.now.passed.rooms, c.loop-room.invariant.0)) (rw all at c.loop-room.invariant.1)
     c.bounds_at.ensures
     c.bound_numbers-bounds.ensures
     c.put_all-end.ensures

@@ -6,4 +6,4 @@ use Rattle.plan_writing.specs.Inner.Sections.{tasks_text}
 use Rattle.plan_writing.proofs.tasks_length.Given as goal
 
 abbrev pub invariant-loop-i : goal.invariant-loop-i
-invariant-loop-i l = (l.bytes ≡ length (tasks_text (plan_in l.plan) l.boxes l.i)) × (l.bytes ≤ 350 * l.i)
+invariant-loop-i l = (l.bytes ≡ length (tasks_text (plan_in l.tested.plan.now) l.tested.boxes.now l.i)) × (l.bytes ≤ 350 * l.i)
