@@ -49,6 +49,7 @@ fn is_symbol(calendars: &[u8], k: usize) -> bool
 fn test_symbols(calendars: &[u8]) -> Result<(), Refusal>
     ensures { tested_fault result ≡ first_of (symbol_fault calendars.now) (length calendars.now) }
 {
+    // By index: it is the refusal's place, and no function but `plan::is_kind` reads a symbol.
     for k in 0..calendars.len() {
         if !is_symbol(calendars, k) {
             return Err(Refusal::Symbol(k));
@@ -96,6 +97,7 @@ fn test_heights(plan: &Plan, task: usize) -> Result<(), Refusal>
     requires { HeightsReady (plan_in plan.now) task }
     ensures { let P = plan_in plan.now in tested_fault result ≡ first_of (height_fault (task_count P) P.heights task) (room_count P) }
 {
+    // By number: a room's heights are a part of the lent ones.
     for room in 0..plan.rooms() {
         let height = plan.heights_of(room)[task];
         Height::of_task(height).ok_or(Refusal::TaskHeight(task))?;
@@ -128,6 +130,7 @@ fn test_tasks(plan: &Plan, boxes: &[u16]) -> Result<(), Refusal>
     requires { TasksReady (plan_in plan.now) boxes.now }
     ensures { let P = plan_in plan.now in tested_fault result ≡ tasks_fault P.shifts (room_count P) P.heights boxes.now }
 {
+    // By number: it is a refusal's place, and what a task has lies in several lent slices.
     for task in 0..plan.tasks() {
         test_task(plan, boxes, task)?;
     }

@@ -10,7 +10,8 @@ use Rattle.units.proofs.Choices.{if_some, else-case, first-at}
 use Rattle.plan.specs.Plan.{Plan, room_count}
 use Rattle.plan.specs.declared.Fault.{Fault}
 use Rattle.plan.specs.Refusals.{unless}
-use Rattle.plan.specs.Faults.{symbol_fault, calendars_fault, capacity_fault, counts_fault, height_fault, one_task_fault, task_fault, tasks_fault, plan_fault, input_fault}
+use Rattle.plan.specs.Faults.{symbol_fault, calendars_fault, capacity_fault, counts_fault, height_fault, one_task_fault}
+use Rattle.plan.specs.Faults.{task_fault, tasks_fault, plan_fault, input_fault}
 
 -- 11, 12 or 13
 abbrev pub OfSteps : ℕ → Type 0
@@ -36,7 +37,8 @@ module _ (P : Plan) (boxes : List ℕ) where
   unfolding task_fault one_task_fault height_fault
   task-numbers i =
       by-either (by-unless _ 6 i (λ s. omega arith))
-      (by-either (by-unless _ 7 i (λ s. omega arith)) (by-either (by_first _ _ (λ r. by-unless _ 8 i (λ s. omega arith))) (by-unless _ 9 i (λ s. omega arith))))
+      (by-either (by-unless _ 7 i (λ s. omega arith))
+      (by-either (by_first _ _ (λ r. by-unless _ 8 i (λ s. omega arith))) (by-unless _ 9 i (λ s. omega arith))))
 
   pub plan-numbers : OfInput (plan_fault P boxes)
   unfolding plan_fault calendars_fault symbol_fault counts_fault capacity_fault tasks_fault

@@ -70,6 +70,7 @@ module _ (capacities calendars task_calendars work_times heights boxes : List �
   from-read (refused f) a e = refused≢answered e
   from-read (answered r) a e = from-tested r a e
 
-  pub read-holds : (text : List ℕ) (a : PlanRead) → answered a ≡ (read_plan capacities calendars task_calendars work_times heights boxes text).answer → Holds a
+  pub read-holds : (text : List ℕ) (a : PlanRead)
+      → answered a ≡ (read_plan capacities calendars task_calendars work_times heights boxes text).answer → Holds a
   unfolding read_plan
   read-holds text a e = from-read (read_text text) a (sym e)

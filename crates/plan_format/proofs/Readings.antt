@@ -52,7 +52,8 @@ module _ (rs cs ts ws ks bs : List ℕ) where
     read_whole r e = rw e
 
   module _ (r : Read) where
-    refused-by : (f : Fault) → read_fault (is_enough rs cs ts ws ks bs) r ≡ Some f → end_with (refused f) rs cs ts ws ks bs ≡ read_tested rs cs ts ws ks bs r
+    refused-by : (f : Fault) → read_fault (is_enough rs cs ts ws ks bs) r ≡ Some f
+        → end_with (refused f) rs cs ts ws ks bs ≡ read_tested rs cs ts ws ks bs r
     unfolding read_tested on_option unread
     refused-by f e = rw e
 

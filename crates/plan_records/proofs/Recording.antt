@@ -50,11 +50,13 @@ module _ (fields : List ℕ) where
 
 -- what is found where the code looks for a byte and for a separator
 pub symbols-made : (symbols : Bor (List ℕ)) (test : Bool) → test ≡ (not (eqb (length symbols.now) 0) && not (list_any (λ b. eqb b tab) symbols.now))
-    → MatchOption (some_if test symbols) (cal_of (parts tab symbols.now) ≡ None) (λ s. (cal_of (parts tab symbols.now) ≡ Some (cal_record s.now)) × (length s.now ≤ length symbols.now))
+    → MatchOption (some_if test symbols) (cal_of (parts tab symbols.now) ≡ None)
+        (λ s. (cal_of (parts tab symbols.now) ≡ Some (cal_record s.now)) × (length s.now ≤ length symbols.now))
 symbols-made symbols test e = rw e (go (eqb (length symbols.now) 0) refl (list_any (λ b. eqb b tab) symbols.now) refl)
   where
     go : (t : Bool) → eqb (length symbols.now) 0 ≡ t → (u : Bool) → list_any (λ b. eqb b tab) symbols.now ≡ u
-        → MatchOption (some_if (not t && not u) symbols) (cal_of (parts tab symbols.now) ≡ None) (λ s. (cal_of (parts tab symbols.now) ≡ Some (cal_record s.now)) × (length s.now ≤ length symbols.now))
+        → MatchOption (some_if (not t && not u) symbols) (cal_of (parts tab symbols.now) ≡ None)
+            (λ s. (cal_of (parts tab symbols.now) ≡ Some (cal_record s.now)) × (length s.now ≤ length symbols.now))
     go true q u r = symbols-empty symbols.now (eqb-true (length symbols.now) 0 q)
     go false q true r = symbols-parted symbols.now r
     go false q false r = (symbols-are symbols.now r q, omega arith)
@@ -84,7 +86,8 @@ module _ (least : ℕ) (fields : List (List ℕ)) where
 -- ---- what a record is found to be
 
 -- as many as were asked for
-count-least : (least : ℕ) (fields : List (List ℕ)) {ns cells : List ℕ} {n : ℕ} → numbers_if least fields ≡ Some ns → Begin ns n cells → least ≤ n
+count-least : (least : ℕ) (fields : List (List ℕ)) {ns cells : List ℕ} {n : ℕ}
+    → numbers_if least fields ≡ Some ns → Begin ns n cells → least ≤ n
 unfolding numbers_if on_option
 count-least least fields {ns = ns} {n = n} e begin = go (numbers_of fields) e
   where
@@ -95,7 +98,9 @@ count-least least fields {ns = ns} {n = n} e begin = go (numbers_of fields) e
         omega (arith, leb-true least (length ms) found.0, ap length found.1, begin.counted)
 
 module _ (bytes cells : List ℕ) where
-  pub symbols-found : (r : Option Record) (o : Option (Bor (List ℕ))) → MatchOption o (r ≡ None) (λ s. (r ≡ Some (cal_record s.now)) × (length s.now ≤ length bytes)) → Finds r (option_map line.Cal o) bytes cells
+  pub symbols-found : (r : Option Record) (o : Option (Bor (List ℕ)))
+      → MatchOption o (r ≡ None) (λ s. (r ≡ Some (cal_record s.now)) × (length s.now ≤ length bytes))
+      → Finds r (option_map line.Cal o) bytes cells
   unfolding Finds
   symbols-found r None e = e
   symbols-found r (Some s) e = e

@@ -73,6 +73,7 @@ fn task_numbers<'a>(
     let plan = tested.plan;
     numbers[0] = plan.shifts.task_calendars[i] as usize;
     numbers[1] = plan.shifts.work_times[i] as usize;
+    // By number: a room's heights are a part of the lent ones.
     for room in 0..plan.rooms() {
         numbers[room + 2] = plan.heights_of(room)[i] as usize;
     }
@@ -89,6 +90,7 @@ fn tasks_length(tested: &Tested) -> usize
 {
     let mut numbers = [0; TASK_NUMBERS];
     let mut bytes = 0;
+    // By number: what a task has lies in several lent slices.
     for i in 0..tested.plan.tasks() {
         bytes += line_length(b"task", task_numbers(tested, i, &mut numbers));
     }
@@ -147,6 +149,7 @@ fn put_tasks(out: &mut [u8], at: usize, tested: &Tested) -> usize
 {
     let mut numbers = [0; TASK_NUMBERS];
     let mut end = at;
+    // By number, as they were counted.
     for i in 0..tested.plan.tasks() {
         end = put_line(out, end, b"task", task_numbers(tested, i, &mut numbers));
     }

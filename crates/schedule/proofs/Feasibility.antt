@@ -34,7 +34,8 @@ module _ (P : Plan) (boxes : List ℕ) (σ : ℕ → Triple) where
         capacity = λ room l t m. hour-passed t (first-none _ _ hours t m) room l;
       }
 
-  no-triple-fault : (i : ℕ) → in_bounds (bounds_at boxes i) (σ i) ≡ true → valid_triple (calendar_of P.shifts i) (work_time_of P.shifts i) (σ i) ≡ true
+  no-triple-fault : (i : ℕ) → in_bounds (bounds_at boxes i) (σ i) ≡ true
+      → valid_triple (calendar_of P.shifts i) (work_time_of P.shifts i) (σ i) ≡ true
       → triple_fault P.shifts boxes σ i ≡ None
   unfolding triple_fault one_triple_fault
   no-triple-fault i h v = else-none _ _ (unless-true _ 14 i h) ∙ unless-true _ 15 i v

@@ -72,6 +72,7 @@ fn test_triples(plan: &Plan, boxes: &[u16], schedule: &[u16]) -> Result<(), Refu
         tested_fault result ≡ first_of (triple_fault S boxes.now (triple_at schedule.now)) (length S.task_calendars) }
 {
     let shifts = &plan.shifts;
+    // By number: it is the refusal's place, and what a task has lies in several lent slices.
     for i in 0..plan.tasks() {
         test_triple(
             i,
@@ -129,6 +130,7 @@ fn test_hours(plan: &Plan, schedule: &[u16]) -> Result<(), Refusal>
     ensures { let P = plan_in plan.now in
         tested_fault result ≡ first_of (heights_fault P.capacities (task_count P) P.heights schedule.now) P.shifts.hours }
 {
+    // By hour, which is the refusal's place.
     for hour in 0..plan.shifts.hours.0 {
         test_hour(plan, schedule, Hour(hour))?;
     }
@@ -162,6 +164,7 @@ fn latest_end(schedule: &[u16], tasks: usize) -> Hour
     ensures { result.0 ≡ max_to (λ i. end_of (triple_at schedule.now i)) tasks }
 {
     let mut latest = Hour(0);
+    // By number: where a task's triple lies is said in `triple_at` alone.
     for i in 0..tasks {
         let t = triple_at(schedule, i);
         latest = latest.max(t.start.plus(t.elapsed));

@@ -25,7 +25,8 @@ use Rattle.steps.specs.Claim.{CheckedHolds, FilterHolds}
 use Rattle.plan.specs.Passed.{Passed}
 use Rattle.steps.proofs.Contracts.{check-holds, filter-holds}
 
-pub one_each : (kinds tasks hours : List ℕ) → one_for_each_step kinds tasks hours ≡ true → (length tasks ≡ length kinds) × (length hours ≡ length kinds)
+pub one_each : (kinds tasks hours : List ℕ) → one_for_each_step kinds tasks hours ≡ true
+    → (length tasks ≡ length kinds) × (length hours ≡ length kinds)
 unfolding one_for_each_step
 one_each kinds tasks hours e = (eqb-true _ _ (and_left _ _ e), eqb-true _ _ (and_right _ _ e))
 

@@ -21,7 +21,8 @@ use Rattle.steps.specs.Steps.{impossible, moved, on_judgement, on_fit, same_boun
 use Rattle.steps.specs.Steps.{judge}
 
 -- a fact of what is made of a judgement, or of a fit, from the fact of each case
-pub judgement-all : {A : Type 0} (C : A → Type 0) (j : Judgement) (u n i : A) (m : List ℕ → A) → (j ≡ unknown → C u) → (j ≡ not_admitted → C n)
+pub judgement-all : {A : Type 0} (C : A → Type 0) (j : Judgement) (u n i : A) (m : List ℕ → A) → (j ≡ unknown → C u)
+    → (j ≡ not_admitted → C n)
     → (j ≡ impossible → C i) → ((left : List ℕ) → j ≡ moved left → C (m left)) → C (on_judgement j u n i m)
 unfolding on_judgement
 judgement-all C unknown u n i m a b c d = a refl
@@ -29,7 +30,8 @@ judgement-all C not_admitted u n i m a b c d = b refl
 judgement-all C impossible u n i m a b c d = c refl
 judgement-all C (moved left) u n i m a b c d = d left refl
 
-pub fit_all : {A : Type 0} (C : A → Type 0) (f : Option Window) (a : A) (g : Window → A) → (f ≡ None → C a) → ((w : Window) → f ≡ Some w → C (g w))
+pub fit_all : {A : Type 0} (C : A → Type 0) (f : Option Window) (a : A) (g : Window → A) → (f ≡ None → C a)
+    → ((w : Window) → f ≡ Some w → C (g w))
     → C (on_fit f a g)
 unfolding on_fit
 fit_all C None a g p q = p refl

@@ -75,6 +75,7 @@ module _ (P : Plan) (boxes : List ℕ) (σ : ℕ → Triple) (F : Feasible P box
   load-runs room t = where-le (height_of P room) (task_count P) _ _ (running-must t)
 
   -- and, in an hour in which a task runs, at least its height plus the other tasks' load
-  pub others-run : (room i t : ℕ) → i < task_count P → runs (σ i) t ≡ true → height_of P room i + others_load P room boxes i t ≤ running P room σ t
+  pub others-run : (room i t : ℕ) → i < task_count P → runs (σ i) t ≡ true
+      → height_of P room i + others_load P room boxes i t ≤ running P room σ t
   unfolding others_load running heights_where
   others-run room i t l e = where-but (height_of P room) (task_count P) _ _ (running-must t) i l e

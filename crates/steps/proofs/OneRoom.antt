@@ -23,7 +23,8 @@ use Rattle.schedule.specs.Schedule.{runs, running, Feasible}
 use Rattle.schedule.specs.Entry.{room_fault, hour_fault, schedule_fault}
 use Rattle.steps.specs.declared.Step.{Step}
 use Rattle.steps.specs.Load.{fit_at, must_run, load, others_load, room_excess, excess}
-use Rattle.steps.specs.Steps.{Kind, kind_c, kind_o, kind_l, kind_u, unknown_kind, kind_of, is_step, Judgement, unknown, not_admitted, impossible, judge_o, judge_l, judge_u}
+use Rattle.steps.specs.Steps.{Kind, kind_c, kind_o, kind_l, kind_u, unknown_kind, kind_of, is_step, Judgement, unknown}
+use Rattle.steps.specs.Steps.{not_admitted, impossible, judge_o, judge_l, judge_u}
 use Rattle.steps.specs.Steps.{on_judgement, judge_kind, judge}
 use Rattle.steps.specs.Log.{replay, replay_by}
 use Rattle.steps.specs.Filter.{Admitted, stops, moves, if_admitted, first_of_kind, first_by, filter_order, next_by, next, run_by}

@@ -28,7 +28,8 @@ module _ (judge_at : List ℕ → Step → Judgement) where
   alone-last k boxes x [] e q = last_step e
   alone-last k boxes x (y ∷ ys) e q = None≢Some (sym q)
 
-  pub accepted-from : (k : ℕ) (boxes : List ℕ) (log : List Step) → (replay_by judge_at k false boxes log).refusal ≡ None → AdmittedBy judge_at boxes log
+  pub accepted-from : (k : ℕ) (boxes : List ℕ) (log : List Step) → (replay_by judge_at k false boxes log).refusal ≡ None
+      → AdmittedBy judge_at boxes log
   unfolding replay_by
   accepted-from k boxes [] = λ q. no_step
   accepted-from k boxes (x ∷ xs) =

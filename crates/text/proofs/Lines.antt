@@ -27,7 +27,8 @@ fields-append (m ∷ ms) ns =
 module _ (ns : List ℕ) (i : ℕ) (h : i < length ns) where
   fields-next : number_fields (take (i + 1) ns) ≡ number_fields (take i ns) ++ (tab ∷ decimal_text (get_or ns i 0))
   unfolding number_fields
-  fields-next = rw (add-one, take-suc ns i 0 h) (fields-append (take i ns) (get_or ns i 0 ∷ []) ∙ ap (λ l. number_fields (take i ns) ++ (tab ∷ l)) (append-nil _))
+  fields-next = rw (add-one, take-suc ns i 0 h)
+      (fields-append (take i ns) (get_or ns i 0 ∷ []) ∙ ap (λ l. number_fields (take i ns) ++ (tab ∷ l)) (append-nil _))
 
   pub fields-longer : length (number_fields (take (i + 1) ns)) ≡ length (number_fields (take i ns)) + (1 + length (decimal_text (get_or ns i 0)))
   fields-longer = omega (arith, ap length fields-next, length-append (number_fields (take i ns)) (tab ∷ decimal_text (get_or ns i 0)))

@@ -25,7 +25,8 @@ module _ (separator : ℕ) where
   unfolding first_at
   without-none = refl
 
-  pub without_more : (b : ℕ) (bs : List ℕ) → (b ≡ separator → ⊥) → first_at separator bs ≡ length bs → first_at separator (b ∷ bs) ≡ suc (length bs)
+  pub without_more : (b : ℕ) (bs : List ℕ) → (b ≡ separator → ⊥) → first_at separator bs ≡ length bs
+      → first_at separator (b ∷ bs) ≡ suc (length bs)
   unfolding first_at
   without_more b bs ne e = if-false _ _ _ (ne_eqb _ _ ne) ∙ ap suc e
 

@@ -47,7 +47,8 @@ module _ (separator : ℕ) where
   parts_last [] h = refl
   parts_last (b ∷ bs) h = go (λ k. parts_last bs k) (eqb b separator) h
     where
-      go : (first_at separator bs ≡ length bs → parts separator bs ≡ bs ∷ []) → (t : Bool) → (if t then 0 else suc (first_at separator bs)) ≡ suc (length bs)
+      go : (first_at separator bs ≡ length bs → parts separator bs ≡ bs ∷ []) → (t : Bool)
+          → (if t then 0 else suc (first_at separator bs)) ≡ suc (length bs)
           → (if t then [] ∷ parts separator bs else into_first b (parts separator bs)) ≡ (b ∷ bs) ∷ []
       go last true k = absurd (omega arith)
       go last false k = rw (last (omega arith))
@@ -78,7 +79,8 @@ module _ (separator : ℕ) where
   first_found l = go (ltb (position_or_len here l) (length l)) refl
     where
       go : (t : Bool) → ltb (position_or_len here l) (length l) ≡ t
-          → MatchOption (cond t (Some (position_or_len here l)) None) (first_at separator l ≡ length l) (λ n. (n ≡ first_at separator l) × (n < length l))
+          → MatchOption (cond t (Some (position_or_len here l)) None) (first_at separator l ≡ length l)
+              (λ n. (n ≡ first_at separator l) × (n < length l))
       go true e = (sym (first_is l), ltb-true (position_or_len here l) (length l) e)
       go false e = omega (arith, first_is l, first-within l, ltb-false (position_or_len here l) (length l) e)
 

@@ -133,7 +133,8 @@ module _ {A : Type 0} (x y : Option A) where
   unfolding ◌or_else◌
   else-some a e = rw e
 
-pub else-case : {A C : Type 0} (x y z : Option A) → (x or_else y) ≡ z → (x ≡ None → y ≡ z → C) → ((a : A) → x ≡ Some a → Some a ≡ z → C) → C
+pub else-case : {A C : Type 0} (x y z : Option A) → (x or_else y) ≡ z → (x ≡ None → y ≡ z → C)
+    → ((a : A) → x ≡ Some a → Some a ≡ z → C) → C
 unfolding ◌or_else◌
 else-case None y z e f g = f refl e
 else-case (Some a) y z e f g = g a refl e

@@ -27,7 +27,8 @@ module _ (test : ℕ → Bool) where
   unfolding first_from
   from-none e zero k l = λ u. absurd (omega arith)
   from-none e (suc n) k l =
-      if-all (λ (m : ℕ). k < m → test k ≡ false) (test e) _ _ (λ h u. absurd (omega arith)) (λ h u. go h (λ v. from-none (e + 1) n k v u) (dec_le (e + 1) k))
+      if-all (λ (m : ℕ). k < m → test k ≡ false) (test e) _ _ (λ h u. absurd (omega arith))
+      (λ h u. go h (λ v. from-none (e + 1) n k v u) (dec_le (e + 1) k))
     where
       go : test e ≡ false → (e + 1 ≤ k → test k ≡ false) → Dec (e + 1 ≤ k) → test k ≡ false
       go h above (yes v) = above v

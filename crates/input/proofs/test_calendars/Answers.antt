@@ -1,17 +1,15 @@
-use mathlib.Core.Path.{sym, ap, ◌∙◌}
-use Rattle.std.specs.Prelude.{Some}
+use mathlib.Core.Path.{sym, ◌∙◌}
 use Rattle.units.specs.Limits.{most_hours}
 use Rattle.units.proofs.Ranges.{from-least}
-use Rattle.plan.specs.Refusals.{fault_of}
 use Rattle.plan.specs.Faults.{calendars_fault}
-use Rattle.plan.proofs.Refusals.{go_on, refuse, handed-on, none-there, one-there}
+use Rattle.plan.proofs.Refusals.{go_on, refuse, handed-on-as, none-there, one-there}
 use Rattle.input.proofs.test_calendars.Goals as goal
 
 pub returns-in_err-ok_or : goal.returns-in_err-ok_or
 unfolding calendars_fault
 returns-in_err-ok_or c =
     let none = none-there _ _ _ c.of_plan.ensures c.in_err-ok_or.ensures.value in
-    handed-on _ _ c.from_residual.ensures.1 ∙ ap (λ r. Some (fault_of r)) none.1 ∙ sym (refuse _ 2 0 _ none.0)
+    handed-on-as _ c.from_residual.ensures.1 none.1 ∙ sym (refuse _ 2 0 _ none.0)
 
 pub has_calendars-requires : goal.has_calendars-requires
 has_calendars-requires c =

@@ -3,7 +3,8 @@ use Rattle.std.specs.Prelude.{Some}
 use Prim.Native.Nat.{◌+◌, ◌-◌, ◌*◌}
 use native.Mathlib.Omega.{arith}
 use lib.ListN.{get_or, drop}
-use Rattle.text.proofs.Numbers.{number-empty, empty-is, not-empty, digit_is, number_digits, number-plain, number-large, number_is, digits-next, digits-not, digits-end}
+use Rattle.text.proofs.Numbers.{number-empty, empty-is, not-empty, digit_is, number_digits, number-plain, number-large}
+use Rattle.text.proofs.Numbers.{number_is, digits-next, digits-not, digits-end}
 use Rattle.text.proofs.Numbers.{decimal_step, decimal-end, decimal-least}
 use Rattle.text.proofs.fields.number_of.Goals.{then-is_empty-via-then-is_empty, then-is_empty-via-else-is_empty+then-not-is_plain}
 use Rattle.text.proofs.fields.number_of.Goals as goal

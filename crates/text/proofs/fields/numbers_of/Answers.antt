@@ -18,7 +18,8 @@ turn : (c : In-Some) → (c.loop-field.count < length (parts tab c.args.fields.n
     × (c.in-Some.field.now ≡ get_or (parts tab c.args.fields.now) c.loop-field.count c.in-Some.field.now)
 turn c =
     rw (parts_are tab c.args.fields.now, c.loop-field.invariant.0)
-    (YieldsList-turn (YieldsList-from_slice_split _ (λ b. eqb b tab) c.args.fields.now (search rules) (search rules) (search rules) (λ x b q k. search (rules, tests)))
+    (YieldsList-turn (YieldsList-from_slice_split _ (λ b. eqb b tab) c.args.fields.now (search rules) (search rules) (search rules)
+    (λ x b q k. search (rules, tests)))
     c.loop-field.yielded _ c.loop-field.yielded_by _ _ c.in-Some.field c.in-Some.is c.next.ensures.steps)
 
 pub returns-in_err-number_of : goal.returns-in_err-number_of
@@ -39,7 +40,8 @@ pub returns : goal.returns
 unfolding NumbersMade
 returns c =
     let all =
-    YieldsList-end (YieldsList-from_slice_split _ (λ b. eqb b tab) c.args.fields.now (search rules) (search rules) (search rules) (λ x b q k. search (rules, tests)))
+    YieldsList-end (YieldsList-from_slice_split _ (λ b. eqb b tab) c.args.fields.now (search rules) (search rules) (search rules)
+    (λ x b q k. search (rules, tests)))
     c.loop-field.yielded _ c.loop-field.yielded_by _ _ c.in-None.is c.next.ensures.steps
     in
     gathered-all c.loop-field.invariant.2 (omega (arith, ap length (parts_are tab c.args.fields.now), c.loop-field.invariant.0, all.1))
