@@ -271,7 +271,8 @@ impl HourKind {
     }
 }
 
-// Whether the symbol of an hour is the one asked for. Nothing else reads a symbol.
+// Whether the symbol of an hour is the one asked for. Nothing else reads a symbol. It is asked for as a byte, so that a caller may name one that is
+// no kind.
 #[tactic(auto, unfolding(crate::specs::HourKinds::is_kind))]
 pub fn is_kind(calendar: &[u8], t: usize, kind: u8) -> bool
     requires { t < length calendar.now }

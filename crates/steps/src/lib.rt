@@ -7,7 +7,8 @@ ghost use Rattle.steps.specs.Steps.{kind_of, kind_in, letter_of};
 
 use units::Bounds;
 
-// A step of a log: its kind, a letter as one byte, a task and an hour. A field that the kind does not use is 0.
+// A step of a log: its kind, a letter as one byte, a task and an hour. A field that the kind does not use is 0. The letter is no `StepKind`, since a
+// log from anyone may hold any byte, which refusal 11 names.
 #[derive(Clone, Copy, PartialEq, Eq)]
 pub struct Step {
     pub kind: u8,
@@ -25,7 +26,7 @@ pub enum StepKind {
 }
 
 impl StepKind {
-    // The kind that a letter names, if it names one: a log from anyone may hold any byte.
+    // The kind that a letter names, if it names one. No `TryFrom`: its error type would say no more than that it names none.
     #[tactic(auto, unfolding(crate::specs::Steps::kind_of))]
     pub fn of_letter(letter: u8) -> Option<StepKind>
         ensures { kind_in result ≡ kind_of letter }
