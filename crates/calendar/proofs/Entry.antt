@@ -11,7 +11,7 @@ use Rattle.units.specs.declared.Duration.{Duration}
 use Rattle.units.specs.declared.Bounds.{Bounds}
 use Rattle.units.proofs.Choices.{else-none, else-some, neither}
 use Rattle.plan.specs.Plan.{Plan, plan}
-use Rattle.plan.specs.Boxes.{bounds_at, box_cells}
+use Rattle.plan.specs.Boxes.{bounds_at, box_cells, with_bounds}
 use Rattle.plan.specs.declared.Fault.{Fault}
 use Rattle.plan.specs.Refusals.{fault, refused, answered, answer_unless}
 use Rattle.plan.specs.Faults.{one_for_each_task, calendars_fault, plan_fault, input_fault}
@@ -27,12 +27,17 @@ module _ (cal : List ℕ) (p : ℕ) (b : Bounds) where
   unfolding one_for_each_task
   one_each = refl
 
+  -- a box that is stored for one task is its cells
+  stored : with_bounds (0 ∷ 0 ∷ 0 ∷ 0 ∷ 0 ∷ 0 ∷ []) 0 b ≡ box_cells b
+  unfolding with_bounds
+  stored = refl
+
   -- the test that the code asks for, with H from its constructor
   pub one-test : (h : Duration) → duration (length cal) ≡ h → {P : Plan} → P ≡ plan h.0 (0 ∷ []) cal (0 ∷ []) (p ∷ []) (0 ∷ [])
-      → input_fault P (b.earliest.0 ∷ b.latest.0 ∷ b.shortest.0 ∷ b.longest.0 ∷ b.fewest.0 ∷ b.most.0 ∷ [])
-      ≡ input_fault (one_task cal p) (box_cells b)
+      → {cells : List ℕ} → cells ≡ with_bounds (0 ∷ 0 ∷ 0 ∷ 0 ∷ 0 ∷ 0 ∷ []) 0 b
+      → input_fault P cells ≡ input_fault (one_task cal p) (box_cells b)
   unfolding one_task
-  one-test h e q = rw (q, ← e)
+  one-test h e q r = rw (q, r, stored, ← e)
 
   pub refused-by : (f : Fault) → input_fault (one_task cal p) (box_cells b) ≡ Some f → calendar_rule cal p b ≡ refused f
   unfolding calendar_rule answer_unless

@@ -185,8 +185,8 @@ never-fit [] h = refl
 never-fit (x ∷ xs) h = absurd (h x (Memᴰ.head refl))
 
 -- a fact of each window that a list has, from the fact of that of x ∷ xs
-fit_all : (C : List Triple → Window → Type 0) → ((x : Triple) (xs : List Triple) → C (x ∷ xs) (spread (alone x) xs)) → (ts : List Triple) (w : Window)
-    → fit_of ts ≡ Some w → C ts w
+fit_all : (C : List Triple → Window → Type 0) → ((x : Triple) (xs : List Triple) → C (x ∷ xs) (spread (alone x) xs))
+    → (ts : List Triple) (w : Window) → fit_of ts ≡ Some w → C ts w
 unfolding fit_of
 fit_all C h [] w e = absurd (let z : ◌≡◌ {A = ℕ} 0 1 = cc in omega arith)
 fit_all C h (x ∷ xs) w e = let q : spread (alone x) xs ≡ w = cc in subst (λ (v : Window). C (x ∷ xs) v) q (h x xs)
@@ -288,6 +288,7 @@ module _ (cal : List ℕ) (p : ℕ) (b : Bounds) where
         (valid_triples cal p b) w e (λ t m. (only-valid cal p b t m).0)
 
     -- the only such window
-    pub rule-is : ((t : Triple) → InBounds b t → valid_triple cal p t ≡ true → Held w t) → Tight (valid_triples cal p b) w → rule_of cal p b ≡ Some w
+    pub rule-is : ((t : Triple) → InBounds b t → valid_triple cal p t ≡ true → Held w t) → Tight (valid_triples cal p b) w
+        → rule_of cal p b ≡ Some w
     unfolding rule_of
     rule-is h a = fit_is (valid_triples cal p b) w (λ t m. let (i, v) = only-valid cal p b t m in h t i v) a

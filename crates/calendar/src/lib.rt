@@ -14,7 +14,7 @@ ghost use Rattle.calendar.specs.Inner.Ready.{HasCounts, RuleReady, Reaches};
 ghost use Rattle.calendar.specs.Inner.Windows.{with_triples};
 
 use plan::{HourKind, Plan, Refusal};
-use stretches::{Counts, Stretch, count_hours, one_if, reach};
+use stretches::{Counts, Stretch, Task, count_hours, one_if, reach};
 use units::{Bounds, Duration, Hour};
 
 // 01's (s, e, o): when a task starts, how long it lasts, and its overtime.
@@ -115,46 +115,43 @@ pub fn is_valid(calendar: &[u8], work_time: Duration, t: Triple) -> bool
 
 // The answer with the valid triples in the box that start at s. They end at the open hours from the shortest stretch to the longest.
 fn with_start(
-    calendar: &[u8],
-    work_time: Duration,
-    b: Bounds,
+    task: &Task,
     s: Hour,
     shortest: Stretch,
     longest: Stretch,
     found: Option<Witnessed>,
 ) -> Option<Witnessed>
-    requires { Reaches calendar.now work_time.0 b s.0 shortest longest }
-    ensures { result ≡ with_triples found (starting calendar.now work_time.0 b s.0) }
+    requires { Reaches task.now.calendar.now task.now.work_time.0 task.now.bounds s.0 shortest longest }
+    ensures { result ≡ with_triples found (starting task.now.calendar.now task.now.work_time.0 task.now.bounds s.0) }
 {
-    if HourKind::Closed.is_at(calendar, s.0 as usize) {
+    if HourKind::Closed.is_at(task.calendar, s.0 as usize) {
         return found;
     }
     if longest.last < shortest.hours {
         return found;
     }
-    if !reach::may_end(work_time, b, shortest) {
+    if !task.may_end(shortest) {
         return found;
     }
-    let window = widen::window_from(work_time, s, shortest, longest);
-    let by = widen::witnesses_from(work_time, s, shortest, longest);
-    widen::with_window(found, window, by)
+    let later = widen::witnessed_from(task.work_time, s, shortest, longest);
+    widen::with_window(found, later)
 }
 
 // The calendar rule for input that is tested. A later start ends no earlier, so both stretches only go forward.
-pub fn rule(calendar: &[u8], work_time: Duration, b: Bounds) -> Option<Witnessed>
-    requires { RuleReady calendar.now b }
-    ensures { result ≡ witnessed_rule calendar.now work_time.0 b }
+pub fn rule(task: &Task) -> Option<Witnessed>
+    requires { RuleReady task.now.calendar.now task.now.bounds }
+    ensures { result ≡ witnessed_rule task.now.calendar.now task.now.work_time.0 task.now.bounds }
 {
     let mut shortest = Stretch::NO_HOURS;
     let mut longest = Stretch::NO_HOURS;
     let mut best = None;
-    for s in b.earliest.0..b.latest.0 + 1 {
+    for s in task.bounds.earliest.0..task.bounds.latest.0 + 1 {
         let start = Hour(s);
-        shortest = reach::shortest_from(calendar, work_time, b, start, shortest);
-        longest = reach::longest_from(calendar, work_time, b, start, longest);
-        best = with_start(calendar, work_time, b, start, shortest, longest, best);
-        shortest = reach::without_first(calendar, start, shortest);
-        longest = reach::without_first(calendar, start, longest);
+        shortest = task.shortest_from(start, shortest);
+        longest = task.longest_from(start, longest);
+        best = with_start(task, start, shortest, longest, best);
+        shortest = reach::without_first(task.calendar, start, shortest);
+        longest = reach::without_first(task.calendar, start, longest);
     }
     best
 }
@@ -177,14 +174,12 @@ pub fn calendar_rule(
     let hours = Duration::of_plan(calendar.len()).ok_or(Refusal::Hours)?;
     let work = [work_time.0];
     let plan = Plan::new(hours.0, &[0], calendar, &[0], &work, &[0]);
-    let cells = [
-        b.earliest.0,
-        b.latest.0,
-        b.shortest.0,
-        b.longest.0,
-        b.fewest.0,
-        b.most.0,
-    ];
+    let mut cells = [0; Bounds::NUMBERS];
+    plan::put_bounds(&mut cells, 0, b);
     input::test_input(&plan, &cells)?;
-    Ok(rule(calendar, work_time, b))
+    Ok(rule(&Task {
+        calendar,
+        work_time,
+        bounds: b,
+    }))
 }

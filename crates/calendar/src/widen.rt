@@ -1,67 +1,57 @@
 // Windows and their witnesses: of the valid triples from one start, and of those from several.
 ghost use Rattle.std.specs.Prelude.{◌≡◌, min, max, if◌then◌else◌};
+ghost use Rattle.calendar.specs.Rule.{witnessed};
 ghost use Rattle.calendar.specs.Inner.Windows.{WindowReady, window_from, witnesses_from, wider, first_of_both, with_window};
 
 use crate::{Triple, Window, Witnessed, Witnesses};
 use stretches::Stretch;
 use units::{Bounds, Duration, Hour};
 
-// The window of the triples that start at s and last from the shorter stretch to the last open hour of the longer: the overtime falls with the
-// length.
-pub fn window_from(work_time: Duration, s: Hour, shortest: Stretch, longest: Stretch) -> Window
-    requires { WindowReady work_time.0 s.0 shortest longest }
-    ensures { result ≡ window_from work_time.0 s.0 shortest longest }
-{
-    let least = shortest.hours;
-    let greatest = longest.last;
-    Window {
-        bounds: Bounds {
-            earliest: s,
-            latest: s,
-            shortest: least,
-            longest: greatest,
-            fewest: Duration(work_time.0 - longest.counts.regular),
-            most: Duration(work_time.0 - shortest.counts.regular),
-        },
-        ect: s.plus(least),
-        lct: s.plus(greatest),
-    }
-}
-
-// Its witnesses. The least overtime is had from the last regular hour on.
-pub fn witnesses_from(
+// The window of the triples that start at s and last from the shorter stretch to the last open hour of the longer, and its witnesses. The overtime
+// falls with the length, and the least is had from the last regular hour on.
+pub fn witnessed_from(
     work_time: Duration,
     s: Hour,
     shortest: Stretch,
     longest: Stretch,
-) -> Witnesses
+) -> Witnessed
     requires { WindowReady work_time.0 s.0 shortest longest }
-    ensures { result ≡ witnesses_from work_time.0 s.0 shortest longest }
+    ensures { result ≡ witnessed (window_from work_time.0 s.0 shortest longest) (witnesses_from work_time.0 s.0 shortest longest) }
 {
-    let least = shortest.hours;
-    let all = longest.last;
-    let fewest = Duration(work_time.0 - longest.counts.regular);
-    let first = Triple {
+    let short = Triple {
         start: s,
-        elapsed: least,
+        elapsed: shortest.hours,
         overtime: Duration(work_time.0 - shortest.counts.regular),
     };
-    Witnesses {
-        earliest: first,
-        latest: first,
-        shortest: first,
-        longest: Triple {
-            start: s,
-            elapsed: all,
-            overtime: fewest,
+    let long = Triple {
+        start: s,
+        elapsed: longest.last,
+        overtime: Duration(work_time.0 - longest.counts.regular),
+    };
+    let window = Window {
+        bounds: Bounds {
+            earliest: s,
+            latest: s,
+            shortest: short.elapsed,
+            longest: long.elapsed,
+            fewest: long.overtime,
+            most: short.overtime,
         },
+        ect: s.plus(short.elapsed),
+        lct: s.plus(long.elapsed),
+    };
+    let by = Witnesses {
+        earliest: short,
+        latest: short,
+        shortest: short,
+        longest: long,
         fewest: Triple {
-            start: s,
-            elapsed: least.max(longest.regular),
-            overtime: fewest,
+            elapsed: short.elapsed.max(longest.regular),
+            ..long
         },
-        most: first,
-    }
+        most: short,
+    };
+    Witnessed { window, by }
 }
 
 // The window of two windows' triples.
@@ -110,17 +100,14 @@ fn first_of(a: Witnesses, b: Witnesses) -> Witnesses
 }
 
 // The answer with one window's triples more, all after those before.
-pub fn with_window(found: Option<Witnessed>, v: Window, later: Witnesses) -> Option<Witnessed>
-    ensures { result ≡ with_window found v later }
+pub fn with_window(found: Option<Witnessed>, later: Witnessed) -> Option<Witnessed>
+    ensures { result ≡ with_window found later.window later.by }
 {
     let Some(before) = found else {
-        return Some(Witnessed {
-            window: v,
-            by: later,
-        });
+        return Some(later);
     };
     Some(Witnessed {
-        window: wider(before.window, v),
-        by: first_of(before.by, later),
+        window: wider(before.window, later.window),
+        by: first_of(before.by, later.by),
     })
 }

@@ -10,7 +10,15 @@ ghost use Rattle.plan.specs.HourKinds.{is_kind};
 ghost use Rattle.stretches.specs.Inner.Stretches.{Inside, counts_of, with_hour};
 
 use plan::{HourKind, is_kind};
-use units::{Duration, Hour};
+use units::{Bounds, Duration, Hour};
+
+// A task as the calendar rule sees it: the symbols of its calendar, its work time p, and its box.
+#[derive(Clone, Copy)]
+pub struct Task<'a> {
+    pub calendar: &'a [u8],
+    pub work_time: Duration,
+    pub bounds: Bounds,
+}
 
 // The regular and the overtime hours of a stretch of a calendar.
 #[derive(Clone, Copy, PartialEq, Eq)]
@@ -73,6 +81,7 @@ pub fn count_hours(calendar: &[u8], start: Hour, hours: Duration) -> Counts
     let first = start.0 as usize;
     let end = first + hours.0 as usize;
     let mut n = Counts::NO_HOURS;
+    // By the hour's index and not over calendar[first..end]: `plan::is_kind` alone reads a symbol.
     for t in first..end {
         n = with_hour(n, calendar, t);
     }

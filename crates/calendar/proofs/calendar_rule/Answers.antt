@@ -14,15 +14,15 @@ pub returns-in_err-test_input : goal.returns-in_err-test_input
 returns-in_err-test_input c =
     let hours = one-there _ _ _ c.of_plan.ensures c.in_ok-hours.ensures.value in
     refused-on _ _ c.from_residual-in_err-test_input.ensures.1
-    ∙ sym (refused-by _ _ _ _ (sym (c.in_err-test_input.ensures ∙ one-test _ _ _ _ hours.1 c.new-plan.ensures)))
+    ∙ sym (refused-by _ _ _ _ (sym (c.in_err-test_input.ensures ∙ one-test _ _ _ _ hours.1 c.new-plan.ensures c.put_bounds.ensures)))
 
 pub rule-requires : goal.rule-requires
 rule-requires c =
     let hours = one-there _ _ _ c.of_plan.ensures c.in_ok-hours.ensures.value in
-    ready _ _ _ (sym (c.in_ok-test_input.ensures ∙ one-test _ _ _ _ hours.1 c.new-plan.ensures))
+    ready _ _ _ (sym (c.in_ok-test_input.ensures ∙ one-test _ _ _ _ hours.1 c.new-plan.ensures c.put_bounds.ensures))
 
 pub returns : goal.returns
 returns c =
     let hours = one-there _ _ _ c.of_plan.ensures c.in_ok-hours.ensures.value in
     ap answered c.rule.ensures
-    ∙ sym (answered-by _ _ _ (sym (c.in_ok-test_input.ensures ∙ one-test _ _ _ _ hours.1 c.new-plan.ensures)))
+    ∙ sym (answered-by _ _ _ (sym (c.in_ok-test_input.ensures ∙ one-test _ _ _ _ hours.1 c.new-plan.ensures c.put_bounds.ensures)))

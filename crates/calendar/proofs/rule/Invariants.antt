@@ -8,5 +8,8 @@ use Rattle.calendar.proofs.rule.Given as goal
 -- what is found, with all that start at s or later, is the answer
 
 abbrev pub invariant-loop-s : goal.invariant-loop-s
-invariant-loop-s l = Carried l.calendar l.work_time.0 l.b l.s l.shortest l.longest
-    × (with_triples l.best (over l.s l.b.latest.0 (starting l.calendar l.work_time.0 l.b)) ≡ witnessed_rule l.calendar l.work_time.0 l.b)
+invariant-loop-s l =
+    let cal = l.task.calendar.now in
+    let p = l.task.work_time.0 in
+    let b = l.task.bounds in
+    Carried cal p b l.s l.shortest l.longest × (with_triples l.best (over l.s b.latest.0 (starting cal p b)) ≡ witnessed_rule cal p b)

@@ -15,14 +15,8 @@ returns-then-not-may_end c =
     let known = c.requires in
     unmoved _ (none-ends known (sym c.may_end.ensures ∙ c.if-not-may_end.true))
 
-pub window_from-window-requires : goal.window_from-window-requires
-window_from-window-requires c =
-    let starts = sym c.is_at.ensures ∙ c.if-is_at.false in
-    let ends = sym c.may_end.ensures ∙ c.if-not-may_end.false in
-    window-ready c.requires starts ends (not-before _ _ (c.lt.ensures ∙ lt-cmp _ _) c.if-lt.false)
-
-pub witnesses_from-by-requires : goal.witnesses_from-by-requires
-witnesses_from-by-requires c =
+pub witnessed_from-later-requires : goal.witnessed_from-later-requires
+witnessed_from-later-requires c =
     let starts = sym c.is_at.ensures ∙ c.if-is_at.false in
     let ends = sym c.may_end.ensures ∙ c.if-not-may_end.false in
     window-ready c.requires starts ends (not-before _ _ (c.lt.ensures ∙ lt-cmp _ _) c.if-lt.false)
@@ -32,4 +26,4 @@ returns c =
     let starts = sym c.is_at.ensures ∙ c.if-is_at.false in
     let ends = sym c.may_end.ensures ∙ c.if-not-may_end.false in
     let window = window-is c.requires starts ends (not-before _ _ (c.lt.ensures ∙ lt-cmp _ _) c.if-lt.false) in
-    rw (c.with_window.ensures, c.window_from-window.ensures, c.witnesses_from-by.ensures) (sym (with-window-of _ _ _ _ window))
+    rw (c.with_window.ensures, c.witnessed_from-later.ensures) (sym (with-window-of _ _ _ _ window))

@@ -1,5 +1,5 @@
 use borrow.Author.Rules.{rules}
-use Rattle.stretches.proofs.reach.longest_from.Goals as goal
+use Rattle.stretches.proofs.Task.longest_from.Goals as goal
 
 pub returns : goal.returns
 returns c = c.lengthen.ensures _ (λ at answer room answers. search rules)

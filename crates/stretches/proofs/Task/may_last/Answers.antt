@@ -2,7 +2,7 @@ use native.Mathlib.Omega.{arith}
 use Rattle.std.proofs.lemmas.Bool.Decides.{nat_tests}
 use Rattle.stretches.specs.Inner.Stretches.{may_last}
 use Rattle.stretches.proofs.Stretches.{work-next, work-le}
-use Rattle.stretches.proofs.reach.may_last.Goals as goal
+use Rattle.stretches.proofs.Task.may_last.Goals as goal
 
 pub overflow_add-worked : goal.overflow_add-worked
 overflow_add-worked c = omega (arith, work-le c.requires c.one_if.ensures.0)

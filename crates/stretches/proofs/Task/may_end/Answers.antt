@@ -1,6 +1,6 @@
 use native.Mathlib.Omega.{arith}
 use Rattle.stretches.specs.Inner.Stretches.{may_end}
-use Rattle.stretches.proofs.reach.may_end.Goals as goal
+use Rattle.stretches.proofs.Task.may_end.Goals as goal
 
 pub returns-then-eq : goal.returns-then-eq
 unfolding may_end
