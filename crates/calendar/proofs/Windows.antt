@@ -59,6 +59,12 @@ with-step found lower upper f h = rw (over-step lower upper f h) (with-both foun
 pub unmoved : (found : Option Witnessed) {ts : List Triple} → ts ≡ [] → found ≡ with_triples found ts
 unmoved found h = rw h (sym (with_none found))
 
+-- the answer with the last part
+pub with-last : (found : Option Witnessed) (lower upper : ℕ) (f : ℕ → List Triple) → lower ≤ upper → upper ≤ lower
+    → with_triples found (f lower) ≡ with_triples found (over lower upper f)
+with-last found lower upper f h last =
+    unmoved _ (over_none (lower + 1) upper f (omega (arith, last))) ∙ sym (with-step found lower upper f h)
+
 -- ---- with the triples of a list whose window is known
 
 spread-wider : (w : Window) (t : Triple) (ts : List Triple) → spread w (t ∷ ts) ≡ wider w (spread (alone t) ts)

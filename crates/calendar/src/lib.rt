@@ -145,7 +145,7 @@ pub fn rule(task: &Task) -> Option<Witnessed>
     let mut shortest = Stretch::NO_HOURS;
     let mut longest = Stretch::NO_HOURS;
     let mut best = None;
-    for s in task.bounds.earliest.0..task.bounds.latest.0 + 1 {
+    for s in task.bounds.earliest.0..=task.bounds.latest.0 {
         let start = Hour(s);
         shortest = task.shortest_from(start, shortest);
         longest = task.longest_from(start, longest);

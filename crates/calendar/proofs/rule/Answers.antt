@@ -3,7 +3,7 @@ use native.Mathlib.Omega.{arith}
 use Rattle.calendar.specs.Triples.{valid_triples}
 use Rattle.calendar.specs.Rule.{witnessed_rule}
 use Rattle.calendar.specs.Inner.Windows.{with_triples}
-use Rattle.calendar.proofs.Windows.{unmoved, over_none, with-step}
+use Rattle.calendar.proofs.Windows.{unmoved, over_none, with-step, with-last}
 use Rattle.calendar.proofs.Starts.{carried_first, shortest-stretch, longest-stretch, carried_on, carried-next}
 use Rattle.calendar.proofs.rule.Goals as goal
 
@@ -42,3 +42,8 @@ pub without_first-longest-requires : goal.without_first-longest-requires
 without_first-longest-requires c =
     (carried_on c.requires (omega (arith, c.loop-s-test.true)) c.loop-s.invariant.0 _ _
     c.shortest_from-shortest.ensures c.longest_from-longest.ensures).is_longest
+
+-- after the last start
+pub returns-2 : goal.returns-2
+returns-2 c =
+    c.with_start-best.ensures ∙ with-last _ _ _ _ (omega (arith, c.loop-s-test.true)) (omega arith) ∙ c.loop-s.invariant.1
