@@ -79,19 +79,6 @@ module _ {text rest : List ℕ} {whole : Bool} {line : ℕ} {s : Scan} {symbols 
           decides = one_line ∙ rw g;
         }
 
--- memory is lent at one length
-pub record SameSizes (symbols₀ cells₀ symbols cells : List ℕ) : Type 0 where
-  pub of_symbols : length symbols ≡ length symbols₀
-  pub of_cells : length cells ≡ length cells₀
-
-pub same-yet : {symbols cells : List ℕ} → SameSizes symbols cells symbols cells
-same-yet = record { of_symbols = refl; of_cells = refl }
-
--- what a callee that was lent it keeps
-pub same-again : {symbols₀ cells₀ symbols cells symbols' cells' : List ℕ} → SameSizes symbols₀ cells₀ symbols cells
-    → (length symbols' ≡ length symbols) × ((length cells' ≡ length cells) × Unit {0}) → SameSizes symbols₀ cells₀ symbols' cells'
-same-again same k = record { of_symbols = k.0 ∙ same.of_symbols; of_cells = k.1.0 ∙ same.of_cells }
-
 -- ---- the whole text, or as much of it as is looked at
 
 pub text-seen : (text : List ℕ) → read_text text ≡ read_lines (leb (length text) most_bytes) 1 nothing (parts lf (take (min (length text) most_bytes) text))

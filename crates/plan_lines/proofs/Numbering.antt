@@ -6,6 +6,7 @@ use Prim.Native.Nat.{ℕ, ◌+◌, ◌-◌, ◌≤◌, ◌<◌}
 use native.Mathlib.Omega.{arith}
 use lib.ListN.{length, get_or, take, drop}
 use lib.Seq.{get_or-take, take_all}
+use lib.Dec.{eqb}
 use borrow.Author.Tests.{eqb-true}
 use Rattle.units.proofs.Choices.{if-case}
 use Rattle.plan_format.specs.Text.{is_task_line}
@@ -39,9 +40,14 @@ module _ (rooms numbers : ℕ) where
   pub line-least : is_task_line rooms numbers ≡ true → rooms + 2 ≤ numbers
   unfolding is_task_line
   line-least e =
-      if-case _ _ _ _ e (λ p q. omega (arith, eqb-true numbers (rooms + 2) p)) (λ p q. omega (arith, eqb-true numbers (rooms + 8) q))
+      if-case (eqb numbers (rooms + 2)) true (eqb numbers (rooms + 8)) true e (λ p q. omega (arith, eqb-true numbers (rooms + 2) p))
+      (λ p q. omega (arith, eqb-true numbers (rooms + 8) q))
 
   pub line-most : is_task_line rooms numbers ≡ true → numbers ≤ rooms + 8
   unfolding is_task_line
   line-most e =
-      if-case _ _ _ _ e (λ p q. omega (arith, eqb-true numbers (rooms + 2) p)) (λ p q. omega (arith, eqb-true numbers (rooms + 8) q))
+      if-case (eqb numbers (rooms + 2)) true (eqb numbers (rooms + 8)) true e (λ p q. omega (arith, eqb-true numbers (rooms + 2) p))
+      (λ p q. omega (arith, eqb-true numbers (rooms + 8) q))
+
+-- for the cells that a task's own numbers are in
+pub ruleset line_sizes = (line-least, line-most)

@@ -8,15 +8,15 @@ ghost use Rattle.plan_format.specs.Records.{plan_record, cal_record, task_record
 ghost use Rattle.plan_format.specs.Text.{Read, most_bytes, comes, is_task_line, with_record, with_line, read_text};
 ghost use Rattle.plan_format.specs.Reading.{box_of, most_symbols};
 ghost use Rattle.text.specs.Reading.{Begin};
-ghost use Rattle.plan_lines.specs.Inner.Scanning.{most_numbers, capacities_at, boxes_at, store_size, Kept, KeepsTasks, with_heights};
-ghost use Rattle.plan_lines.specs.Inner.Scanning.{section_number, counted, Sized, Holds, Follows, Scans};
+ghost use Rattle.plan_lines.specs.Inner.Scanning.{capacities_at, boxes_at, Kept, KeepsTasks, with_heights};
+ghost use Rattle.plan_lines.specs.Inner.Scanning.{section_number, counted, Holds, Follows, Scans};
 
 use plan::Refusal;
 use plan_records::LineRecord;
 use text::LF;
 use text::fields::find;
 use text::put::put_all;
-use units::{Bounds, MOST_ROOMS};
+use units::{Bounds, Duration, MOST_CALENDARS, MOST_ROOMS};
 
 // The sections of a text, in their order; before the plan line it is at its start.
 #[derive(Clone, Copy, PartialEq, Eq, PartialOrd, Ord)]
@@ -43,7 +43,10 @@ pub struct Scan {
 // The most bytes of a text.
 pub const MOST_BYTES: usize = 32768;
 
-// Where each section of the store of numbers begins, after the tasks' calendars: work times, heights, boxes, capacities. Each has room for the
+// The most symbols of a plan, calendars joined.
+pub const MOST_SYMBOLS: usize = MOST_CALENDARS * Duration::MOST as usize;
+
+// Where each section of the store's numbers begins, after the tasks' calendars: work times, heights, boxes, capacities. Each has room for the
 // most tasks, the heights in each of the most rooms.
 pub const WORK_TIMES: usize = Bounds::MOST;
 
@@ -53,15 +56,30 @@ pub const BOXES: usize = HEIGHTS + MOST_ROOMS * Bounds::MOST;
 
 pub const CAPACITIES: usize = BOXES + Bounds::NUMBERS * Bounds::MOST;
 
-// The store's cells.
+// The cells of all sections.
 pub const CELLS: usize = CAPACITIES + MOST_ROOMS;
+
+// The store that a text is read into: the symbols of its calendars, joined, and the sections of numbers.
+#[derive(Drop)]
+pub struct Store {
+    pub symbols: [u8; MOST_SYMBOLS],
+    pub cells: [u16; CELLS],
+}
+
+impl Store {
+    pub const EMPTY: Store = Store {
+        symbols: [0; MOST_SYMBOLS],
+        cells: [0; CELLS],
+    };
+}
 
 // The numbers of a task line beside the heights: calendar and p, and all six bounds or none.
 const SHORT: usize = 2;
 
 const LONG: usize = SHORT + Bounds::NUMBERS;
 
-// The most numbers of a line that can be needed. Their count goes beside the cells that keep them, since a line may have more.
+// The most numbers of a line that can be needed: the cells that keep them. A line may have more, and then its record says how many while the cells
+// keep the first; so the count goes beside the cells, and no slice of them could carry it.
 const MOST_NUMBERS: usize = MOST_ROOMS + LONG;
 
 // Before the first line.
@@ -76,19 +94,18 @@ const NOTHING: Scan = Scan {
 };
 
 // Stores a calendar's symbols after those of the calendars before it, if there is room.
-fn store_symbols(symbols: &mut [u8], at: usize, calendar: &[u8])
-    requires { (at ≤ most_bytes) × (length calendar.now ≤ most_bytes) × (length symbols.old ≡ most_symbols) }
+fn store_symbols(symbols: &mut [u8; MOST_SYMBOLS], at: usize, calendar: &[u8])
+    requires { (at ≤ most_bytes) × (length calendar.now ≤ most_bytes) }
     ensures { (before : List ℕ) → at ≡ length before → Kept 0 most_symbols before symbols.old
         → Kept 0 most_symbols (before ++ calendar.now) symbols.new }
 {
-    if at + calendar.len() <= symbols.len() {
+    if at + calendar.len() <= MOST_SYMBOLS {
         put_all(symbols, at, calendar);
     }
 }
 
 // Stores the capacities, which follow H among a line's numbers, if there is room.
-fn store_capacities(cells: &mut [u16], rooms: usize, numbers: &[u16])
-    requires { (length cells.old ≡ store_size) × (length numbers.now ≡ most_numbers) }
+fn store_capacities(cells: &mut [u16; CELLS], rooms: usize, numbers: &[u16; MOST_NUMBERS])
     ensures { (ns : List ℕ) → Begin ns (1 + rooms) numbers.now → Kept capacities_at most_rooms (drop 1 ns) cells.new }
 {
     if rooms <= MOST_ROOMS {
@@ -97,8 +114,8 @@ fn store_capacities(cells: &mut [u16], rooms: usize, numbers: &[u16])
 }
 
 // Stores a task's height in each room.
-fn store_heights(cells: &mut [u16], task: usize, rooms: usize, numbers: &[u16])
-    requires { (task < most_tasks) × (rooms ≤ most_rooms) × (length cells.old ≡ store_size) × (rooms + 2 ≤ length numbers.now) }
+fn store_heights(cells: &mut [u16; CELLS], task: usize, rooms: usize, numbers: &[u16])
+    requires { (task < most_tasks) × (rooms ≤ most_rooms) × (rooms + 2 ≤ length numbers.now) }
     ensures { cells.new ≡ with_heights task numbers.now rooms cells.old }
 {
     let heights = &numbers[SHORT..SHORT + rooms];
@@ -108,8 +125,8 @@ fn store_heights(cells: &mut [u16], task: usize, rooms: usize, numbers: &[u16])
 }
 
 // Stores a task's box: the bounds of its line, or all that its work time allows without overtime. A text may say 0 hours.
-fn store_box(cells: &mut [u16], task: usize, hours: u16, rooms: usize, numbers: &[u16])
-    requires { (task < most_tasks) × (rooms ≤ most_rooms) × (length cells.old ≡ store_size) × (rooms + 2 ≤ length numbers.now) }
+fn store_box(cells: &mut [u16; CELLS], task: usize, hours: u16, rooms: usize, numbers: &[u16])
+    requires { (task < most_tasks) × (rooms ≤ most_rooms) × (rooms + 2 ≤ length numbers.now) }
     ensures { cells.new ≡ written_at (boxes_at + box_numbers * task) (box_of hours rooms numbers.now) cells.old }
 {
     let at = BOXES + Bounds::NUMBERS * task;
@@ -122,8 +139,9 @@ fn store_box(cells: &mut [u16], task: usize, hours: u16, rooms: usize, numbers: 
 }
 
 // Stores a task of so many numbers after those before it, each number in its section, if there is room.
-fn store_task(cells: &mut [u16], scan: Scan, count: usize, numbers: &[u16])
-    requires { (length cells.old ≡ store_size) × (length numbers.now ≡ most_numbers) × (is_task_line scan.rooms count ≡ true) }
+#[tactic(auto, using(crate::proofs::Numbering::line_sizes))]
+fn store_task(cells: &mut [u16; CELLS], scan: Scan, count: usize, numbers: &[u16; MOST_NUMBERS])
+    requires { is_task_line scan.rooms count ≡ true }
     ensures { (rs ns : List ℕ) (tasks : List (List ℕ)) → scan.rooms ≡ length rs → scan.tasks ≡ length tasks → Begin ns count numbers.now
         → KeepsTasks scan.hours rs tasks cells.old → KeepsTasks scan.hours rs (tasks ++ (ns ∷ [])) cells.new }
 {
@@ -157,8 +175,13 @@ fn is_task_line(rooms: usize, numbers: usize) -> bool
 }
 
 // After a `plan` line of so many numbers.
-fn with_plan(scan: Scan, count: usize, numbers: &[u16], cells: &mut [u16]) -> Option<Scan>
-    requires { (1 ≤ count) × (length numbers.now ≡ most_numbers) × (length cells.old ≡ store_size) }
+fn with_plan(
+    scan: Scan,
+    count: usize,
+    numbers: &[u16; MOST_NUMBERS],
+    cells: &mut [u16; CELLS],
+) -> Option<Scan>
+    requires { 1 ≤ count }
     ensures { (r : Read) (n : ℕ) (symbols ns : List ℕ) → Begin ns count numbers.now → Holds r scan n symbols cells.old
         → Follows (with_record r (plan_record (get_or ns 0 0) (drop 1 ns))) result n symbols cells.new }
 {
@@ -176,8 +199,8 @@ fn with_plan(scan: Scan, count: usize, numbers: &[u16], cells: &mut [u16]) -> Op
 }
 
 // After a `cal` line.
-fn with_calendar(scan: Scan, calendar: &[u8], symbols: &mut [u8]) -> Option<Scan>
-    requires { (counted scan ≤ most_bytes) × (length calendar.now ≤ most_bytes) × (length symbols.old ≡ most_symbols) }
+fn with_calendar(scan: Scan, calendar: &[u8], symbols: &mut [u8; MOST_SYMBOLS]) -> Option<Scan>
+    requires { (counted scan ≤ most_bytes) × (length calendar.now ≤ most_bytes) }
     ensures { (r : Read) (n : ℕ) (cells : List ℕ) → Holds r scan n symbols.old cells
         → Follows (with_record r (cal_record calendar.now)) result (n + (length calendar.now + 1)) symbols.new cells }
 {
@@ -195,8 +218,13 @@ fn with_calendar(scan: Scan, calendar: &[u8], symbols: &mut [u8]) -> Option<Scan
 }
 
 // After a `task` line of so many numbers.
-fn with_task(scan: Scan, count: usize, numbers: &[u16], cells: &mut [u16]) -> Option<Scan>
-    requires { (counted scan ≤ most_bytes) × (length numbers.now ≡ most_numbers) × (length cells.old ≡ store_size) }
+fn with_task(
+    scan: Scan,
+    count: usize,
+    numbers: &[u16; MOST_NUMBERS],
+    cells: &mut [u16; CELLS],
+) -> Option<Scan>
+    requires { counted scan ≤ most_bytes }
     ensures { (r : Read) (n : ℕ) (symbols ns : List ℕ) → Begin ns count numbers.now → Holds r scan n symbols cells.old
         → Follows (with_record r (task_record ns)) result (n + 1) symbols cells.new }
 {
@@ -212,24 +240,23 @@ fn with_task(scan: Scan, count: usize, numbers: &[u16], cells: &mut [u16]) -> Op
 }
 
 // After another line.
-fn with_line(scan: Scan, line: &[u8], symbols: &mut [u8], cells: &mut [u16]) -> Option<Scan>
-    requires { (counted scan ≤ most_bytes) × (length line.now ≤ most_bytes) × Sized symbols.old cells.old }
-    ensures { (r : Read) (n : ℕ) → Holds r scan n symbols.old cells.old
-        → Follows (with_line r line.now) result (n + (length line.now + 1)) symbols.new cells.new }
+fn with_line(scan: Scan, line: &[u8], store: &mut Store) -> Option<Scan>
+    requires { (counted scan ≤ most_bytes) × (length line.now ≤ most_bytes) }
+    ensures { (r : Read) (n : ℕ) → Holds r scan n store.old.symbols store.old.cells
+        → Follows (with_line r line.now) result (n + (length line.now + 1)) store.new.symbols store.new.cells }
 {
     let mut numbers = [0u16; MOST_NUMBERS];
     match plan_records::record_of(line, &mut numbers)? {
-        LineRecord::Plan(count) => with_plan(scan, count, &numbers, cells),
-        LineRecord::Cal(calendar) => with_calendar(scan, calendar, symbols),
-        LineRecord::Task(count) => with_task(scan, count, &numbers, cells),
+        LineRecord::Plan(count) => with_plan(scan, count, &numbers, &mut store.cells),
+        LineRecord::Cal(calendar) => with_calendar(scan, calendar, &mut store.symbols),
+        LineRecord::Task(count) => with_task(scan, count, &numbers, &mut store.cells),
     }
 }
 
 // The first line that breaks the rules, or all that a text holds: each line up to its LF, with nothing after the last. No byte past the most is
 // looked at.
-pub fn read_text(text: &[u8], symbols: &mut [u8], cells: &mut [u16]) -> Result<Scan, Refusal>
-    requires { Sized symbols.old cells.old }
-    ensures { Scans (read_text text.now) result symbols.new cells.new }
+pub fn read_text(text: &[u8], store: &mut Store) -> Result<Scan, Refusal>
+    ensures { Scans (read_text text.now) result store.new.symbols store.new.cells }
 {
     let whole = text.len() <= MOST_BYTES;
     let seen = &text[..text.len().min(MOST_BYTES)];
@@ -237,7 +264,7 @@ pub fn read_text(text: &[u8], symbols: &mut [u8], cells: &mut [u16]) -> Result<S
     let mut line = 1;
     let mut rest = seen;
     while let Some(end) = find(rest, LF) {
-        scan = with_line(scan, &rest[..end], symbols, cells).ok_or(Refusal::Malformed(line))?;
+        scan = with_line(scan, &rest[..end], store).ok_or(Refusal::Malformed(line))?;
         line += 1;
         rest = &rest[end + 1..];
     }

@@ -7,7 +7,7 @@ use lib.ListN.{length, take, drop, length-drop}
 use lib.Seq.{length-take-le, take-take, take-append-le, drop-drop, drop_at}
 use Rattle.units.specs.Limits.{most_rooms, most_tasks}
 use Rattle.units.specs.Lists.{list_to}
-use Rattle.units.proofs.Cells.{written-front}
+use Rattle.units.proofs.Cells.{written-length, written-front}
 use Rattle.units.proofs.Lists.{list-next}
 use Rattle.text.specs.Putting.{Put}
 use Rattle.plan_format.specs.Reading.{joined, most_heights}
@@ -21,17 +21,18 @@ cells_of rooms cells = section heights_at (most_tasks * rooms) cells
 
 -- the heights of the first rooms, up to a place, with the cells of the rooms that are left
 pub record GatheredTo (rooms tasks : ℕ) (cells heights : List ℕ) (end : ℕ) (rest : List ℕ) (room : ℕ) : Type 0 where
+  pub size : length heights ≡ most_heights
   pub few : end ≤ most_tasks * room
   pub are : take end heights ≡ stored_heights room tasks cells
   pub rooms_done : room ≤ rooms
   pub left : rest ≡ drop (most_tasks * room) (cells_of rooms cells)
 
 module _ (rooms tasks : ℕ) (cells : List ℕ) where
-  pub gathered_none : (heights : List ℕ)
+  pub gathered_none : (heights : List ℕ) → length heights ≡ most_heights
       → GatheredTo rooms tasks cells heights 0 (take (heights_at + most_tasks * rooms - heights_at) (drop heights_at cells)) 0
   unfolding stored_heights list_to joined
-  gathered_none heights =
-      record { few = omega arith; are = refl; rooms_done = omega arith; left = section-part heights_at (most_tasks * rooms) cells }
+  gathered_none heights whole =
+      record { size = whole; few = omega arith; are = refl; rooms_done = omega arith; left = section-part heights_at (most_tasks * rooms) cells }
 
   module _ (few : rooms ≤ most_rooms) (l : tasks ≤ most_tasks) (size : length cells ≡ store_size) {heights rest : List ℕ} {end room : ℕ}
       (at : GatheredTo rooms tasks cells heights end rest room)
@@ -58,8 +59,8 @@ module _ (rooms tasks : ℕ) (cells : List ℕ) where
           pub own-length : length own ≡ most_tasks
           own-length = omega (arith, e, left-length, next-room)
 
-          pub has-place : length heights ≡ most_heights → end + length (take tasks own) ≤ length heights
-          has-place size = omega (arith, at.few, next-room, length-take-le tasks own (omega (arith, own-length)))
+          pub has-place : end + length (take tasks own) ≤ length heights
+          has-place = omega (arith, at.size, at.few, next-room, length-take-le tasks own (omega (arith, own-length)))
 
           own-section : take tasks own ≡ section (room_at room) tasks cells
           own-section =
@@ -74,15 +75,16 @@ module _ (rooms tasks : ℕ) (cells : List ℕ) where
               ∙ ap (drop (room_at room)) (take-take (room_at room + tasks) (heights_at + most_tasks * rooms) cells (omega (arith, next-room)))
               ∙ sym (section-swap (room_at room) tasks cells (omega (arith, next-room)))
 
-          pub gathered-more : (next : ℕ) (heights' : List ℕ) → end ≤ length heights → Put (take tasks own) end heights next heights'
+          pub gathered-more : (next : ℕ) (heights' : List ℕ) → Put (take tasks own) end heights next heights'
               → GatheredTo rooms tasks cells heights' next after (room + 1)
           unfolding stored_heights
-          gathered-more next heights' h put =
+          gathered-more next heights' put =
               record {
+                size = ap length put.cells_left ∙ written-length end (take tasks own) heights has-place ∙ at.size;
                 few = omega (arith, at.few, put.place, length-take-le tasks own (omega (arith, own-length)));
                 are =
                     ap₂ take put.place put.cells_left
-                    ∙ written-front end (take tasks own) heights h
+                    ∙ written-front end (take tasks own) heights (omega (arith, has-place))
                     ∙ ap₂ ◌++◌ at.are own-section
                     ∙ sym (ap joined (list-next (λ k. section (room_at k) tasks cells) room)
                     ∙ joined-more (list_to (λ k. section (room_at k) tasks cells) room) (section (room_at room) tasks cells));

@@ -22,9 +22,8 @@ use Rattle.plan.specs.declared.Fault.{Fault}
 use Rattle.plan.specs.declared.Refusal.{Refusal}
 use Rattle.plan.specs.Refusals.{fault, fault_of, tested_fault}
 use Rattle.plan.specs.Faults.{one_for_each_task, is_right_size, calendars_fault, capacity_fault, counts_fault, tasks_fault, plan_fault}
-use Rattle.plan.specs.Passed.{Passed}
 use Rattle.plan.proofs.Refusals.{unless-true, unless-none, unless-false, go_on, refuse}
-use Rattle.plan.proofs.Passed.{counts-passed, passed}
+use Rattle.plan.proofs.Passed.{counts-passed}
 use Rattle.plan_lines.specs.declared.Scan.{Scan}
 use Rattle.plan_format.specs.Text.{Read}
 use Rattle.plan_format.specs.Reading.{joined, plan_in, boxes_in, all_of, most_symbols, line_fault, read_fault}
@@ -201,13 +200,3 @@ module _ {r : Read} {s : Scan} {n : ℕ} {symbols cells : List ℕ} (held : Hold
         tasks_few = omega (arith, task-count held, counts.tasks);
         rooms_few = omega (arith, held.rooms, counts.rooms);
       }
-
-  -- what is stored of a text that no test refuses is a plan that passes
-  pub stored-passed : length cells ≡ store_size → None ≡ read_fault true r
-      → Passed (stored_plan s.hours s.rooms s.tasks (section 0 s.symbols symbols) cells) (stored_boxes s.tasks cells)
-  unfolding read_fault
-  stored-passed size e =
-      let few = read-passed e in
-      let lines = sym (neither _ _ (neither _ _ (sym e)).1).0 in
-      passed _ _ (parts-each s.rooms s.tasks cells few.rooms_few few.tasks_few size s.hours (section 0 s.symbols symbols))
-      (read-plan lines few.tasks_few few.rooms_few ∙ sym e)

@@ -1,7 +1,7 @@
 // Plan text: reading a plan.
 #![tactic(auto)]
 
-ghost use Rattle.std.specs.Prelude.{true, List, [], ◌∷◌, ◌≡◌, ℕ, ◌≤◌, length, IfOk, Some};
+ghost use Rattle.std.specs.Prelude.{true, List, [], ◌∷◌, ◌≡◌, ℕ, ◌≤◌, IfOk, Some};
 ghost use Rattle.units.specs.Cells.{written};
 ghost use Rattle.units.specs.Choice.{◌or_else◌};
 ghost use Rattle.units.specs.Limits.{most_rooms, most_tasks};
@@ -11,15 +11,15 @@ ghost use Rattle.plan.specs.Faults.{plan_fault};
 ghost use Rattle.plan.specs.Lent.{plan_in};
 ghost use Rattle.plan.specs.Passed.{Passed};
 ghost use Rattle.plan_format.specs.Text.{Read, most_bytes};
-ghost use Rattle.plan_format.specs.Reading.{most_heights, is_enough, line_fault, read_fault, end_with, read_plan};
-ghost use Rattle.plan_lines.specs.Inner.Scanning.{store_size, section, stored_heights, stored_plan, stored_boxes};
+ghost use Rattle.plan_format.specs.Reading.{is_enough, line_fault, read_fault, end_with, read_plan};
+ghost use Rattle.plan_lines.specs.Inner.Scanning.{section, stored_heights, stored_plan, stored_boxes};
 ghost use Rattle.plan_lines.specs.Inner.Scanning.{Holds, Stored};
 ghost use Rattle.plan_text.specs.Entry.{reading_answer};
 
 use plan::{Plan, Refusal};
-use plan_lines::{BOXES, CAPACITIES, CELLS, HEIGHTS, Scan, WORK_TIMES};
+use plan_lines::{BOXES, CAPACITIES, CELLS, HEIGHTS, Scan, Store, WORK_TIMES};
 use text::put::put_all;
-use units::{Bounds, CalendarNumber, Duration, MOST_CALENDARS, MOST_ROOMS, RoomNumber};
+use units::{Bounds, CalendarNumber, Duration, MOST_ROOMS, RoomNumber};
 
 // What was read of a plan: H, and how many rooms, calendars and tasks.
 #[derive(Clone, Copy, PartialEq, Eq)]
@@ -30,14 +30,11 @@ pub struct PlanRead {
     pub tasks: usize,
 }
 
-// The most bytes of a text.
-pub use plan_lines::MOST_BYTES;
+// The most bytes of a text, and the most symbols of a plan, calendars joined.
+pub use plan_lines::{MOST_BYTES, MOST_SYMBOLS};
 
 // Memory for a text that is to be read: one byte more, so that a text that is too long shows.
 pub const TEXT_ROOM: usize = MOST_BYTES + 1;
-
-// The most symbols of a plan, calendars joined.
-pub const MOST_SYMBOLS: usize = MOST_CALENDARS * Duration::MOST as usize;
 
 // The most heights of a plan, one a task in each room.
 pub const MOST_HEIGHTS: usize = MOST_ROOMS * Bounds::MOST;
@@ -82,10 +79,10 @@ fn test_lines(scan: Scan) -> Result<(), Refusal>
 fn gather_heights<'a>(
     rooms: usize,
     tasks: usize,
-    cells: &[u16],
-    heights: &'a mut [u16],
+    cells: &[u16; CELLS],
+    heights: &'a mut [u16; MOST_HEIGHTS],
 ) -> &'a [u16]
-    requires { (rooms ≤ most_rooms) × (tasks ≤ most_tasks) × (length cells.now ≡ store_size) × (length heights.old ≡ most_heights) }
+    requires { (rooms ≤ most_rooms) × (tasks ≤ most_tasks) }
     ensures { result.now ≡ stored_heights rooms tasks cells.now }
 {
     let mut end = 0;
@@ -96,8 +93,8 @@ fn gather_heights<'a>(
 }
 
 // The boxes that are stored of so many tasks.
-fn stored_boxes(tasks: usize, cells: &[u16]) -> &[u16]
-    requires { (tasks ≤ most_tasks) × (length cells.now ≡ store_size) }
+fn stored_boxes(tasks: usize, cells: &[u16; CELLS]) -> &[u16]
+    requires { tasks ≤ most_tasks }
     ensures { result.now ≡ stored_boxes tasks cells.now }
 {
     &cells[BOXES..BOXES + Bounds::NUMBERS * tasks]
@@ -107,13 +104,10 @@ fn stored_boxes(tasks: usize, cells: &[u16]) -> &[u16]
 fn stored_plan<'a>(
     scan: Scan,
     calendars: &'a [u8],
-    cells: &'a [u16],
-    gathered: &'a mut [u16],
+    cells: &'a [u16; CELLS],
+    gathered: &'a mut [u16; MOST_HEIGHTS],
 ) -> Plan<'a>
-    requires { (scan.rooms ≤ most_rooms)
-        × (scan.tasks ≤ most_tasks)
-        × (length cells.now ≡ store_size)
-        × (length gathered.old ≡ most_heights) }
+    requires { (scan.rooms ≤ most_rooms) × (scan.tasks ≤ most_tasks) }
     ensures { plan_in result ≡ stored_plan scan.hours scan.rooms scan.tasks calendars.now cells.now }
 {
     let heights = gather_heights(scan.rooms, scan.tasks, cells, gathered);
@@ -138,24 +132,25 @@ fn refusal_of_symbols(hours: u16, symbols: &[u8], other: Refusal) -> Refusal
 // The plan of a whole text, if it passes the tests. Of more tasks or rooms than are stored, they ask for the symbols alone.
 fn tested_plan<'a>(
     scan: Scan,
-    symbols: &'a [u8],
-    cells: &'a [u16],
-    gathered: &'a mut [u16],
+    store: &'a Store,
+    gathered: &'a mut [u16; MOST_HEIGHTS],
 ) -> Result<Plan<'a>, Refusal>
-    requires { Stored scan symbols.now cells.now × (length gathered.old ≡ most_heights) }
-    ensures tests { (r : Read) → Holds r scan most_bytes symbols.now cells.now → tested_fault result ≡ read_fault true r }
-    ensures plan { IfOk result (λ p. plan_in p ≡ stored_plan scan.hours scan.rooms scan.tasks (section 0 scan.symbols symbols.now) cells.now) }
+    requires { Stored scan store.now.symbols store.now.cells }
+    ensures tests { (r : Read) → Holds r scan most_bytes store.now.symbols store.now.cells → tested_fault result ≡ read_fault true r }
+    ensures plan { let symbols = section 0 scan.symbols store.now.symbols in
+        IfOk result (λ p. plan_in p ≡ stored_plan scan.hours scan.rooms scan.tasks symbols store.now.cells) }
+    ensures passes { IfOk result (λ p. Passed (plan_in p) (stored_boxes scan.tasks store.now.cells)) }
 {
     test_lines(scan)?;
-    let calendars = &symbols[..scan.symbols];
+    let calendars = &store.symbols[..scan.symbols];
     if !Bounds::is_count(scan.tasks) {
         return Err(refusal_of_symbols(scan.hours, calendars, Refusal::Tasks));
     }
     if !RoomNumber::is_count(scan.rooms) {
         return Err(refusal_of_symbols(scan.hours, calendars, Refusal::Rooms));
     }
-    let plan = stored_plan(scan, calendars, cells, gathered);
-    input::test_plan(&plan, stored_boxes(scan.tasks, cells))?;
+    let plan = stored_plan(scan, calendars, &store.cells, gathered);
+    input::test_plan(&plan, stored_boxes(scan.tasks, &store.cells))?;
     Ok(plan)
 }
 
@@ -200,9 +195,8 @@ pub fn read_plan(
     ensures { end_with (reading_answer result) capacities.new calendars.new task_calendars.new work_times.new heights.new boxes.new
         ≡ read_plan capacities.old calendars.old task_calendars.old work_times.old heights.old boxes.old text.now }
 {
-    let mut symbols = [0u8; MOST_SYMBOLS];
-    let mut cells = [0u16; CELLS];
-    let scan = plan_lines::read_text(text, &mut symbols, &mut cells)?;
+    let mut store = Store::EMPTY;
+    let scan = plan_lines::read_text(text, &mut store)?;
     if !is_enough(
         capacities,
         calendars,
@@ -214,10 +208,10 @@ pub fn read_plan(
         return Err(Refusal::MemorySize);
     }
     let mut gathered = [0u16; MOST_HEIGHTS];
-    let plan = tested_plan(scan, &symbols, &cells, &mut gathered)?;
+    let plan = tested_plan(scan, &store, &mut gathered)?;
     store_plan(
         &plan,
-        stored_boxes(scan.tasks, &cells),
+        stored_boxes(scan.tasks, &store.cells),
         capacities,
         calendars,
         task_calendars,

@@ -12,14 +12,13 @@ use Rattle.plan_lines.specs.declared.Section.TheVariants.{Plan}
 use Rattle.units.proofs.Choices.{if-true, if-false, and_both, not_left, not_right}
 use Rattle.plan_lines.proofs.Reaching.{le-section}
 use Rattle.plan_lines.proofs.Following.{holds_later}
-use Rattle.plan_lines.proofs.Lining.{same-yet, same-again, reached-none}
-use Rattle.plan_lines.proofs.Lining.{last_line, line-broken, line_read, text-seen}
+use Rattle.plan_lines.proofs.Lining.{reached-none, last_line, line-broken, line_read, text-seen}
 use Rattle.plan_lines.proofs.read_text.Goals.{After-find, After-from_residual, else-whole-via-then-whole+then-le+else-is_empty}
 use Rattle.plan_lines.proofs.read_text.Goals.{else-whole-via-then-whole+else-le, else-whole-via-else-whole}
 use Rattle.plan_lines.proofs.read_text.Goals as goal
 
 pub loop-end-init : goal.loop-end-init
-loop-end-init c = (same-yet, reached-none _ _ _ _)
+loop-end-init c = reached-none _ _ _ _
 
 -- as much of the text as is looked at
 seen : (c : After-find) → read_text c.args.text.now ≡ read_lines (leb (length c.args.text.now) most_bytes) 1 nothing (parts lf (take c.min.result c.args.text.now))
@@ -33,23 +32,21 @@ pub returns-in_err-scan : goal.returns-in_err-scan
 unfolding Scans Follows
 returns-in_err-scan c =
     let before = (goal.at.returns-in_err-scan c).After-find in
-    let at = c.loop-end.invariant.1 in
+    let at = c.loop-end.invariant in
     let broken = rw c.in_err-scan.ensures.ok_part at (c.with_line.ensures at.so_far _ at.held) in
     rw (refusal c) (seen before ∙ line-broken at _ c.in-Some.ensures broken)
 
 pub loop-end-preserved : goal.loop-end-preserved
 loop-end-preserved c =
-    let at = c.loop-end.invariant.1 in
-    let more = rw c.in_ok-scan.ensures.ok_part at (c.with_line.ensures at.so_far _ at.held) in (
-      same-again c.loop-end.invariant.0 (c.with_line.auto.symbols, (c.with_line.auto.cells, tt)),
-      rw (take_rest c.loop-end.rest.now (c.in-Some.end + 1)) (line_read at _ c.in-Some.ensures _ _ _ more),
-    )
+    let at = c.loop-end.invariant in
+    let more = rw c.in_ok-scan.ensures.ok_part at (c.with_line.ensures at.so_far _ at.held) in
+    rw (take_rest c.loop-end.rest.now (c.in-Some.end + 1)) (line_read at _ c.in-Some.ensures _ _ _ more)
 
 pub returns-then-is_empty : goal.returns-then-is_empty
 unfolding Scans
 returns-then-is_empty c =
     let before = (goal.at.returns-then-is_empty c).After-find in
-    let at = c.loop-end.invariant.1 in
+    let at = c.loop-end.invariant in
     let last = last_line at c.in_default.ensures in
     let begun = sym (le-section Plan _) ∙ sym c.if-le.ensures in
     let test = and_both _ _ (le-leb _ _ c.if-whole.true) (and_both _ _ begun (sym c.if-is_empty.ensures)) in
@@ -60,7 +57,7 @@ pub returns-else-whole : goal.returns-else-whole
 unfolding Scans
 returns-else-whole c =
     let before = (goal.at.returns-else-whole c).After-find in
-    let at = c.loop-end.invariant.1 in
+    let at = c.loop-end.invariant in
     let last = last_line at c.in_default.ensures in
     let whole = leb (length c.args.text.now) most_bytes in
     let begun = leb plan_section (section_number c.loop-end.scan.reached) in

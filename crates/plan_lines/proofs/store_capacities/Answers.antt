@@ -9,9 +9,9 @@ use Rattle.plan_lines.proofs.store_capacities.Goals as goal
 pub returns-then-rooms-le-MOST_ROOMS : goal.returns-then-rooms-le-MOST_ROOMS
 returns-then-rooms-le-MOST_ROOMS c =
     λ ns begin.
-    let all = capacities-are c.args.rooms begin (omega (arith, c.requires.1, c.if-rooms-le-MOST_ROOMS.true)) in
+    let all = capacities-are c.args.rooms begin (omega (arith, c.if-rooms-le-MOST_ROOMS.true)) in
     rw (c.put_all.ensures.cells_left, all)
-    (kept-first capacities_at most_rooms (drop 1 ns) c.args.cells.now (omega (arith, begin.counted, length-drop 1 ns, c.requires.0)))
+    (kept-first capacities_at most_rooms (drop 1 ns) c.args.cells.now (omega (arith, begin.counted, length-drop 1 ns)))
 
 pub returns-else-rooms-le-MOST_ROOMS : goal.returns-else-rooms-le-MOST_ROOMS
 returns-else-rooms-le-MOST_ROOMS c =

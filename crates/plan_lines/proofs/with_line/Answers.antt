@@ -14,13 +14,13 @@ pub with_plan-requires : goal.with_plan-requires
 unfolding Finds
 with_plan-requires c =
     let (ns, e, least, begin) = rw c.in-Plan.is at c.in_ok-count.ensures in
-    (least, c.record_of.auto.numbers, c.requires.2.of_cells)
+    least
 
 pub with_calendar-requires : goal.with_calendar-requires
 unfolding Finds
 with_calendar-requires c =
     let found = rw c.in-Cal.is at c.in_ok-count.ensures in
-    (c.requires.0, omega (arith, c.requires.1, found.1), c.requires.2.of_symbols)
+    (c.requires.0, omega (arith, c.requires.1, found.1))
 
 pub returns-in-Plan : goal.returns-in-Plan
 unfolding Finds

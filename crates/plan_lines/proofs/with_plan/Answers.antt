@@ -9,5 +9,5 @@ returns-then-not-may_come c = λ r n symbols ns begin held. plan-broken held beg
 pub returns : goal.returns
 returns c =
     λ r n symbols ns begin held.
-    plan-next held begin c.may_come.ensures _ c.if-not-may_come.false c.requires.0 (omega (arith, c.requires.1))
-    (c.store_capacities.ensures ns (begin-rooms begin c.requires.0))
+    plan-next held begin c.may_come.ensures _ c.if-not-may_come.false c.requires (omega arith)
+    (c.store_capacities.ensures ns (begin-rooms begin c.requires))

@@ -1,4 +1,4 @@
--- What the code keeps of a plan text on its way through the lines: the symbols in bytes of their own, and all numbers in one store.
+-- What the code keeps of a plan text on its way through the lines: the symbols in bytes of their own, and all numbers in sections of the same cells.
 use Rattle.std.specs.Prelude.{◌≡◌, List, map, ℕ, zero, suc, ◌+◌, ◌*◌, ◌≤◌, ◌<◌, length, get_or, set, take, drop}
 use Rattle.std.specs.Prelude.{Option, None, Some, Result, Ok, Err}
 use Rattle.units.specs.Limits.{most_rooms, most_tasks, box_numbers}
@@ -12,15 +12,9 @@ use Rattle.plan_lines.specs.declared.Section.TheVariants as section_is
 use Rattle.plan_format.specs.Text.{Read, most_bytes, plan_section, cal_section, task_section}
 use Rattle.plan_format.specs.Reading.{joined, box_of, all_of, most_symbols, most_heights, most_bounds}
 
--- ---- a line's numbers
+-- ---- the cells and their sections
 
--- the cells for a line's numbers: calendar, p, eight heights and six bounds
-abbrev pub most_numbers : ℕ
-most_numbers = 16
-
--- ---- the store and its sections
-
--- where each section of the store begins: the tasks' calendars, work times, heights and boxes, and the capacities; and the store's size
+-- where each section begins: the tasks' calendars, work times, heights and boxes, and the capacities; and how many cells there are
 abbrev pub calendars_at : ℕ
 calendars_at = 0
 
@@ -66,7 +60,7 @@ KeepsTasks hours rs tasks cells =
     → Keeps rs (map (λ t. get_or t 0 0) tasks) (map (λ t. get_or t 1 0) tasks) (λ room. map (λ t. get_or t (room + 2) 0) tasks)
     (joined (map (box_of hours (length rs)) tasks)) cells
 
--- the store once a task's heights in so many rooms are in it, from its numbers
+-- the cells once a task's heights in so many rooms are in them, from its numbers
 unfoldable pub with_heights : ℕ → List ℕ → ℕ → List ℕ → List ℕ
 with_heights task numbers zero cells = cells
 with_heights task numbers (suc room) cells = set (with_heights task numbers room cells) (room_at room + task) (get_or numbers (room + 2) 0)
@@ -110,11 +104,6 @@ pub record Holds (r : Read) (s : Scan) (n : ℕ) (symbols cells : List ℕ) : Ty
   pub kept_symbols : Kept 0 most_symbols (joined r.calendars) symbols
   pub kept_tasks : KeepsTasks r.hours r.capacities r.tasks cells
 
--- memory of the sizes above
-pub record Sized (symbols cells : List ℕ) : Type 0 where
-  pub of_symbols : length symbols ≡ most_symbols
-  pub of_cells : length cells ≡ store_size
-
 -- what has been read with another line, if the line keeps to the rules
 unfoldable pub Follows : Option Read → Option Scan → ℕ → List ℕ → List ℕ → Type 0
 Follows o None n symbols cells = o ≡ None
@@ -129,4 +118,3 @@ Scans a (Ok s) symbols cells = (r : Read) × (a ≡ answered r) × Holds r s mos
 pub record Stored (s : Scan) (symbols cells : List ℕ) : Type 0 where
   pub text : Read
   pub held : Holds text s most_bytes symbols cells
-  pub sized : Sized symbols cells

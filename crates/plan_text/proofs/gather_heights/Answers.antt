@@ -2,39 +2,32 @@ use mathlib.Core.Path.{sym, ◌∙◌}
 use native.Mathlib.Omega.{arith}
 use lib.ListN.{length-append}
 use lib.Seq.{length-take-le}
-use Rattle.plan_text.proofs.Gathering.{gathered_none, gathered-more, gathered-all, own-length, has-place}
+use Rattle.plan_text.proofs.Gathering.{gathered_none, gathered-more, gathered-all, has-place}
 use Rattle.plan_text.proofs.gather_heights.Goals as goal
 
 pub loop-room-init : goal.loop-room-init
 loop-room-init c =
     rw c.into_iter-room-iterator.ensures.into_iter_gives
-    (c.chunks-room-items.ensures.size, rw c.chunks-room-items.ensures.rest (gathered_none _ _ _ _))
-
-pub slice_bounds-put_all-end : goal.slice_bounds-put_all-end
-slice_bounds-put_all-end c =
-    let (parts, each, some) = c.in-Some.ensures.steps.1 in
-    let whole = own-length _ _ _ c.requires.0 c.requires.1 c.requires.2 c.loop-room.invariant.1 _ _ _ c.loop-room.invariant.0 parts each some in
-    sym (length-take-le _ _ (omega (arith, whole)))
+    (c.chunks-room-items.ensures.size, rw c.chunks-room-items.ensures.rest (gathered_none _ _ _ _ c.told-heights))
 
 pub put_all-end-requires : goal.put_all-end-requires
 put_all-end-requires c =
     let (parts, each, some) = c.in-Some.ensures.steps.1 in
-    has-place _ _ _ c.requires.0 c.requires.1 c.requires.2 c.loop-room.invariant.1 _ _ _ c.loop-room.invariant.0 parts each some
-    (c.loop-room.auto.heights ∙ c.requires.3)
+    has-place _ _ _ c.requires.0 c.requires.1 c.told-cells c.loop-room.invariant.1 _ _ _ c.loop-room.invariant.0 parts each some
 
 pub loop-room-preserved : goal.loop-room-preserved
 loop-room-preserved c =
     let (parts, each, some) = c.in-Some.ensures.steps.1 in (
       c.in-Some.ensures.steps.0 ∙ c.loop-room.invariant.0,
       rw (length-append c.loop-room.yielded _)
-          (gathered-more _ _ _ c.requires.0 c.requires.1 c.requires.2 c.loop-room.invariant.1 _ _ _ c.loop-room.invariant.0 parts each some
-          _ _ (omega (arith, c.loop-room.invariant.1.few)) c.put_all-end.ensures),
+          (gathered-more _ _ _ c.requires.0 c.requires.1 c.told-cells c.loop-room.invariant.1 _ _ _ c.loop-room.invariant.0 parts each some
+          _ _ c.put_all-end.ensures),
     )
 
 pub slice_bounds-result-end : goal.slice_bounds-result-end
 slice_bounds-result-end c =
-    sym (length-take-le c.loop-room.end c.loop-room.heights (omega (arith, c.loop-room.invariant.1.few, c.loop-room.invariant.1.rooms_done)))
+    sym (length-take-le c.loop-room.end c.loop-room.heights (omega (arith, c.loop-room.invariant.1.size, c.loop-room.invariant.1.few, c.loop-room.invariant.1.rooms_done)))
 
 pub returns : goal.returns
 returns c =
-    gathered-all _ _ _ c.requires.0 c.requires.1 c.requires.2 c.loop-room.invariant.1 c.in-None.ensures.steps.1.0
+    gathered-all _ _ _ c.requires.0 c.requires.1 c.told-cells c.loop-room.invariant.1 c.in-None.ensures.steps.1.0

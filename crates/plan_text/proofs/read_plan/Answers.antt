@@ -1,6 +1,6 @@
-use mathlib.Core.Path.{refl, sym, ◌∙◌}
+use Rattle.std.proofs.Common.{sym, ◌∙◌}
 use Rattle.plan_format.proofs.Readings.{read-malformed, read_whole, too_small, not-passed}
-use Rattle.plan_text.proofs.Judging.{read-passed, stored-passed}
+use Rattle.plan_text.proofs.Judging.{read-passed}
 use Rattle.plan_text.proofs.Entry.{refused-reading, scans-refused, scans-whole, kept}
 use Rattle.plan_text.proofs.read_plan.Goals as goal
 
@@ -16,7 +16,7 @@ returns-then-not-is_enough c =
 pub tested_plan-requires : goal.tested_plan-requires
 tested_plan-requires c =
     let (r, e, held) = scans-whole _ _ _ _ c.in_ok-scan.ensures in
-    (record { text = r; held = held; sized = record { of_symbols = c.read_text.auto.symbols; of_cells = c.read_text.auto.cells } }, refl)
+    record { text = r; held = held }
 
 pub returns-in_err-plan : goal.returns-in_err-plan
 returns-in_err-plan c =
@@ -28,14 +28,11 @@ returns-in_err-plan c =
 pub stored_boxes-requires : goal.stored_boxes-requires
 stored_boxes-requires c =
     let (r, e, held) = scans-whole _ _ _ _ c.in_ok-scan.ensures in
-    ((read-passed held (c.in_ok-plan.ensures.tests r held)).tasks_few, c.read_text.auto.cells)
+    (read-passed held (c.in_ok-plan.ensures.tests r held)).tasks_few
 
 pub store_plan-requires : goal.store_plan-requires
 store_plan-requires c =
-    let (r, e, held) = scans-whole _ _ _ _ c.in_ok-scan.ensures in (
-      rw (c.in_ok-plan.ensures.plan, c.stored_boxes.ensures) (stored-passed held c.read_text.auto.cells (c.in_ok-plan.ensures.tests r held)),
-      sym c.is_enough.ensures ∙ c.if-not-is_enough.false,
-    )
+    (rw c.stored_boxes.ensures c.in_ok-plan.ensures.passes, sym c.is_enough.ensures ∙ c.if-not-is_enough.false)
 
 pub returns : goal.returns
 returns c =

@@ -1,24 +1,22 @@
 use mathlib.Core.Path.{sym, ap₂, ◌∙◌}
-use native.Mathlib.Omega.{arith}
-use lib.Seq.{length-take-le}
+use Rattle.std.proofs.Common.{rules}
 use borrow.Author.Tests.{leb-true, leb-false}
 use Rattle.units.specs.Limits.{most_rooms}
 use Rattle.units.proofs.Ranges.{to-most}
 use Rattle.plan.specs.Faults.{is_right_size, plan_fault}
 use Rattle.plan.proofs.Refusals.{handed-on}
+use Rattle.plan.proofs.Passed.{passed}
 use Rattle.plan_lines.specs.Inner.Scanning.{section}
 use Rattle.plan_text.proofs.Judging.{parts-each, lines-refuse, symbols-fit, read-plan, read-too-many, read-no-rooms}
+use Rattle.plan_text.proofs.tested_plan.Goals.{After-stored_boxes}
 use Rattle.plan_text.proofs.tested_plan.Goals as goal
 
 pub returns-in_err-test_lines-clause-tests : goal.returns-in_err-test_lines-clause-tests
 returns-in_err-test_lines-clause-tests c =
     λ r held. handed-on _ _ c.from_residual.ensures.1 ∙ lines-refuse held _ (c.in_err-test_lines.ensures r _ _ held)
 
-pub slice_bounds-calendars-end : goal.slice_bounds-calendars-end
-slice_bounds-calendars-end c =
-    let text = c.requires.0 in
-    let pass = c.in_ok-test_lines.ensures text.text _ _ text.held in
-    sym (length-take-le c.args.scan.symbols c.args.symbols.now (omega (arith, text.sized.of_symbols, symbols-fit text.held pass)))
+pub shared_ref_as_front-calendars : goal.shared_ref_as_front-calendars
+shared_ref_as_front-calendars c = symbols-fit c.requires.held (c.in_ok-test_lines.ensures _ _ _ c.requires.held)
 
 pub returns-then-not-is_count-clause-tests : goal.returns-then-not-is_count-clause-tests
 returns-then-not-is_count-clause-tests c =
@@ -38,14 +36,14 @@ pub stored_plan-plan-requires : goal.stored_plan-plan-requires
 stored_plan-plan-requires c =
     let rooms = to-most 1 most_rooms _ (sym c.is_count-2.ensures ∙ c.if-not-is_count-2.false) in
     let few = leb-true _ _ (sym c.is_count.ensures ∙ c.if-not-is_count.false) in
-    (rooms, few, c.requires.0.sized.of_cells, c.requires.1)
+    (rooms, few)
 
 pub test_plan-requires : goal.test_plan-requires
 test_plan-requires c =
     let rooms = to-most 1 most_rooms _ (sym c.is_count-2.ensures ∙ c.if-not-is_count-2.false) in
     let few = leb-true _ _ (sym c.is_count.ensures ∙ c.if-not-is_count.false) in
     ap₂ is_right_size c.stored_plan-plan.ensures c.stored_boxes.ensures
-    ∙ parts-each _ _ _ rooms few c.requires.0.sized.of_cells c.args.scan.hours (section 0 c.args.scan.symbols c.args.symbols.now)
+    ∙ parts-each _ _ c.args.store.now.cells rooms few (search rules) c.args.scan.hours (section 0 c.args.scan.symbols c.args.store.now.symbols)
 
 pub returns-in_err-test_plan-clause-tests : goal.returns-in_err-test_plan-clause-tests
 returns-in_err-test_plan-clause-tests c =
@@ -67,3 +65,6 @@ returns-clause-tests c =
     c.in_ok-test_plan.ensures
     ∙ ap₂ plan_fault c.stored_plan-plan.ensures c.stored_boxes.ensures
     ∙ read-plan held pass few rooms
+
+pub returns-clause-passes : goal.returns-clause-passes
+returns-clause-passes c = rw (← c.stored_boxes.ensures) (passed _ _ (test_plan-requires (goal.at.returns-clause-passes c).After-stored_boxes) (sym c.in_ok-test_plan.ensures))
