@@ -32,7 +32,8 @@ pub record Reached (text : List ℕ) (whole : Bool) (rest : List ℕ) (line : �
   pub decides : read_lines whole 1 nothing (parts lf text) ≡ read_lines whole line so_far (parts lf rest)
 
 pub reached-none : (text : List ℕ) (whole : Bool) (symbols cells : List ℕ)
-    → Reached text whole text 1 (record { reached = section_is.Start; hours = 0; rooms = 0; calendars = 0; even = true; symbols = 0; tasks = 0 }) symbols cells
+    → Reached text whole text 1 (record { reached = section_is.Start; hours = 0; rooms = 0; calendars = 0; even = true; symbols = 0; tasks = 0 })
+    symbols cells
 reached-none text whole symbols cells =
     record {
       inside = omega arith;
@@ -81,7 +82,8 @@ module _ {text rest : List ℕ} {whole : Bool} {line : ℕ} {s : Scan} {symbols 
 
 -- ---- the whole text, or as much of it as is looked at
 
-pub text-seen : (text : List ℕ) → read_text text ≡ read_lines (leb (length text) most_bytes) 1 nothing (parts lf (take (min (length text) most_bytes) text))
+pub text-seen : (text : List ℕ)
+    → read_text text ≡ read_lines (leb (length text) most_bytes) 1 nothing (parts lf (take (min (length text) most_bytes) text))
 unfolding read_text
 text-seen text = go (dec_le (length text) most_bytes)
   where

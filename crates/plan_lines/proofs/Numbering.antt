@@ -36,18 +36,9 @@ capacities-are rooms {cells = cells} begin h =
 
 -- ---- how many numbers a task line may have
 
-module _ (rooms numbers : ℕ) where
-  pub line-least : is_task_line rooms numbers ≡ true → rooms + 2 ≤ numbers
-  unfolding is_task_line
-  line-least e =
-      if-case (eqb numbers (rooms + 2)) true (eqb numbers (rooms + 8)) true e (λ p q. omega (arith, eqb-true numbers (rooms + 2) p))
-      (λ p q. omega (arith, eqb-true numbers (rooms + 8) q))
-
-  pub line-most : is_task_line rooms numbers ≡ true → numbers ≤ rooms + 8
-  unfolding is_task_line
-  line-most e =
-      if-case (eqb numbers (rooms + 2)) true (eqb numbers (rooms + 8)) true e (λ p q. omega (arith, eqb-true numbers (rooms + 2) p))
-      (λ p q. omega (arith, eqb-true numbers (rooms + 8) q))
-
--- for the cells that a task's own numbers are in
-pub ruleset line_sizes = (line-least, line-most)
+pub line_size : (rooms numbers : ℕ) → is_task_line rooms numbers ≡ true → (rooms + 2 ≤ numbers) × (numbers ≤ rooms + 8)
+unfolding is_task_line
+line_size rooms numbers e =
+    if-case (eqb numbers (rooms + 2)) true (eqb numbers (rooms + 8)) true e
+    (λ p q. let size = eqb-true numbers (rooms + 2) p in (omega arith, omega arith))
+    (λ p q. let size = eqb-true numbers (rooms + 8) q in (omega arith, omega arith))

@@ -13,35 +13,21 @@ use Rattle.plan_lines.specs.declared.Section.{Section}
 use Rattle.plan_lines.specs.declared.Section.TheVariants.{Start, Plan, Calendars, Tasks}
 use Rattle.plan_lines.specs.Inner.Scanning.{section_number}
 
+-- a fact of each section
+every : (C : Section → Type 0) → C Start → C Plan → C Calendars → C Tasks → (a : Section) → C a
+every C start plan calendars tasks Start = start
+every C start plan calendars tasks Plan = plan
+every C start plan calendars tasks Calendars = calendars
+every C start plan calendars tasks Tasks = tasks
+
 is-plan : (a : Section) → sameb the_type a Plan ≡ eqb (section_number a) plan_section
-is-plan Start = refl
-is-plan Plan = refl
-is-plan Calendars = refl
-is-plan Tasks = refl
+is-plan = every _ refl refl refl refl
 
 is-start : (a : Section) → sameb the_type a Start ≡ eqb (section_number a) 0
-is-start Start = refl
-is-start Plan = refl
-is-start Calendars = refl
-is-start Tasks = refl
+is-start = every _ refl refl refl refl
 
 pub le-section : (a b : Section) → partial_le partial_cmp-value.it a b ≡ leb (section_number a) (section_number b)
-le-section Start Start = refl
-le-section Start Plan = refl
-le-section Start Calendars = refl
-le-section Start Tasks = refl
-le-section Plan Start = refl
-le-section Plan Plan = refl
-le-section Plan Calendars = refl
-le-section Plan Tasks = refl
-le-section Calendars Start = refl
-le-section Calendars Plan = refl
-le-section Calendars Calendars = refl
-le-section Calendars Tasks = refl
-le-section Tasks Start = refl
-le-section Tasks Plan = refl
-le-section Tasks Calendars = refl
-le-section Tasks Tasks = refl
+le-section = every _ (every _ refl refl refl refl) (every _ refl refl refl refl) (every _ refl refl refl refl) (every _ refl refl refl refl)
 
 -- what may come, test by test
 module _ (section reached : Section) where

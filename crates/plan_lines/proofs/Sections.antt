@@ -133,7 +133,8 @@ module _ (task : ℕ) (numbers cells : List ℕ) (size : length cells ≡ store_
       (kept-past from most (room_at k + task) xs _ (after k) (omega (arith, heights-size k)) (heights-past from most xs kept h k (omega arith)) (omega arith))
 
   -- a section past those of so many rooms
-  pub heights-apart : (from most : ℕ) (xs : List ℕ) → Kept from most xs cells → (k : ℕ) → k ≤ most_rooms → room_at k ≤ from → Kept from most xs (after k)
+  pub heights-apart : (from most : ℕ) (xs : List ℕ) → Kept from most xs cells → (k : ℕ) → k ≤ most_rooms → room_at k ≤ from
+      → Kept from most xs (after k)
   heights-apart from most xs kept zero m h = unfold with_heights in kept
   heights-apart from most xs kept (suc k) m h =
       rw (one_more k (omega arith))
@@ -141,14 +142,16 @@ module _ (task : ℕ) (numbers cells : List ℕ) (size : length cells ≡ store_
       (heights-apart from most xs kept k (omega arith) (omega arith)) (omega arith))
 
   -- a room's own
-  pub heights-more : (room : ℕ) (xs : List ℕ) → Kept (room_at room) most_tasks xs cells → task ≡ length xs → (k : ℕ) → k ≤ most_rooms → room < k
+  pub heights-more : (room : ℕ) (xs : List ℕ) → Kept (room_at room) most_tasks xs cells → task ≡ length xs → (k : ℕ) → k ≤ most_rooms
+      → room < k
       → Kept (room_at room) most_tasks (xs ++ (get_or numbers (room + 2) 0 ∷ [])) (after k)
   heights-more room xs kept e zero m h = absurd (omega arith)
   heights-more room xs kept e (suc k) m h =
       rw (one_more k (omega arith)) (go (λ (b : room < k). heights-more room xs kept e k (omega arith) b) (eqb room k) refl)
     where
       go : (room < k → Kept (room_at room) most_tasks (xs ++ (get_or numbers (room + 2) 0 ∷ [])) (after k)) → (t : Bool) → eqb room k ≡ t
-          → Kept (room_at room) most_tasks (xs ++ (get_or numbers (room + 2) 0 ∷ [])) (written_at (room_at k + task) (get_or numbers (k + 2) 0 ∷ []) (after k))
+          → Kept (room_at room) most_tasks (xs ++ (get_or numbers (room + 2) 0 ∷ []))
+          (written_at (room_at k + task) (get_or numbers (k + 2) 0 ∷ []) (after k))
       go below true q =
           let same : k ≡ room = sym (eqb-true room k q) in
           rw same
@@ -163,7 +166,8 @@ module _ (task : ℕ) (numbers cells : List ℕ) (size : length cells ≡ store_
 module _ {rs cs ws : List ℕ} {hs : ℕ → List ℕ} {bs cells : List ℕ} (few : length rs ≤ most_rooms) (kept : Keeps rs cs ws hs bs cells)
     (size : length cells ≡ store_size)
   where
-    pub keeps-calendar : (x i : ℕ) → i ≡ length cs → i < most_tasks → Keeps rs (cs ++ (x ∷ [])) ws hs bs (written_at (calendars_at + i) (x ∷ []) cells)
+    pub keeps-calendar : (x i : ℕ) → i ≡ length cs → i < most_tasks
+        → Keeps rs (cs ++ (x ∷ [])) ws hs bs (written_at (calendars_at + i) (x ∷ []) cells)
     keeps-calendar x i e l =
         record {
           capacities = kept-apart capacities_at most_rooms (calendars_at + i) _ _ cells (omega arith) kept.capacities (omega arith);
@@ -173,7 +177,8 @@ module _ {rs cs ws : List ℕ} {hs : ℕ → List ℕ} {bs cells : List ℕ} (fe
           boxes = kept-apart boxes_at most_bounds (calendars_at + i) _ _ cells (omega arith) kept.boxes (omega arith);
         }
 
-    pub keeps-work-time : (x i : ℕ) → i ≡ length ws → i < most_tasks → Keeps rs cs (ws ++ (x ∷ [])) hs bs (written_at (work_times_at + i) (x ∷ []) cells)
+    pub keeps-work-time : (x i : ℕ) → i ≡ length ws → i < most_tasks
+        → Keeps rs cs (ws ++ (x ∷ [])) hs bs (written_at (work_times_at + i) (x ∷ []) cells)
     keeps-work-time x i e l =
         record {
           capacities = kept-apart capacities_at most_rooms (work_times_at + i) _ _ cells (omega arith) kept.capacities (omega arith);

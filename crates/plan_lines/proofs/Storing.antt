@@ -35,7 +35,8 @@ module _ (hours : ℕ) (rs : List ℕ) (tasks : List (List ℕ)) (task : List �
 
   -- the four parts with one task more
   grown : {cells : List ℕ}
-      → Keeps rs (column 0 ++ (get_or task 0 0 ∷ [])) (column 1 ++ (get_or task 1 0 ∷ [])) (λ room. column (room + 2) ++ (get_or task (room + 2) 0 ∷ []))
+      → Keeps rs (column 0 ++ (get_or task 0 0 ∷ [])) (column 1 ++ (get_or task 1 0 ∷ []))
+      (λ room. column (room + 2) ++ (get_or task (room + 2) 0 ∷ []))
       (joined (map box tasks) ++ box task) cells
       → KeepsTasks hours rs (tasks ++ (task ∷ [])) cells
   grown kept few =

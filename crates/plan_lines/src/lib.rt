@@ -78,8 +78,8 @@ const SHORT: usize = 2;
 
 const LONG: usize = SHORT + Bounds::NUMBERS;
 
-// The most numbers of a line that can be needed: the cells that keep them. A line may have more, and then its record says how many while the cells
-// keep the first; so the count goes beside the cells, and no slice of them could carry it.
+// The most numbers of a line that can be needed. A line may have more: the cells keep the first of them, and the count of all goes beside the cells,
+// since no slice of them can carry it.
 const MOST_NUMBERS: usize = MOST_ROOMS + LONG;
 
 // Before the first line.
@@ -139,7 +139,7 @@ fn store_box(cells: &mut [u16; CELLS], task: usize, hours: u16, rooms: usize, nu
 }
 
 // Stores a task of so many numbers after those before it, each number in its section, if there is room.
-#[tactic(auto, using(crate::proofs::Numbering::line_sizes))]
+#[tactic(auto, using(crate::proofs::Numbering::line_size))]
 fn store_task(cells: &mut [u16; CELLS], scan: Scan, count: usize, numbers: &[u16; MOST_NUMBERS])
     requires { is_task_line scan.rooms count ≡ true }
     ensures { (rs ns : List ℕ) (tasks : List (List ℕ)) → scan.rooms ≡ length rs → scan.tasks ≡ length tasks → Begin ns count numbers.now

@@ -42,31 +42,28 @@ module _ (a : Answer Read) (symbols cells : List ℕ) where
 
 module _ (rs cs ts ws ks bs : List ℕ) where
   -- memory that is enough has room for a plan that passes
-  pub record HasRoom (P : Plan) (own : List ℕ) : Type 0 where
-    pub capacities : length P.capacities ≤ length rs
-    pub calendars : length P.shifts.calendars ≤ length cs
-    pub task_calendars : length P.shifts.task_calendars ≤ length ts
-    pub work_times : length P.shifts.work_times ≤ length ws
-    pub heights : length P.heights ≤ length ks
-    pub boxes : length own ≤ length bs
-
-  pub has-room : (P : Plan) (own : List ℕ) → Passed P own → is_enough rs cs ts ws ks bs ≡ true → HasRoom P own
-  has-room P own p e =
+  pub has-room : {P : Plan} {own : List ℕ} → Passed P own → is_enough rs cs ts ws ks bs ≡ true
+      → (length P.capacities ≤ length rs)
+      × (length P.shifts.calendars ≤ length cs)
+      × (length P.shifts.task_calendars ≤ length ts)
+      × (length P.shifts.work_times ≤ length ws)
+      × (length P.heights ≤ length ks)
+      × (length own ≤ length bs)
+  has-room {P} p e =
       let room = enough _ _ _ _ _ _ e in
       let symbols : calendar_count P.shifts * P.shifts.hours ≤ most_symbols =
       mul-le-mul {n₁ = calendar_count P.shifts} {m₁ = P.shifts.hours} {n₂ = most_calendars} {m₂ = most_hours} p.calendars p.hours
       in
       let heights : room_count P * task_count P ≤ most_heights =
       mul-le-mul {n₁ = room_count P} {m₁ = task_count P} {n₂ = most_rooms} {m₂ = most_tasks} p.rooms p.tasks
-      in
-      record {
-        capacities = omega (arith, p.rooms, room.capacities);
-        calendars = omega (arith, p.whole, symbols, room.calendars);
-        task_calendars = omega (arith, p.tasks, room.task_calendars);
-        work_times = omega (arith, p.tasks, p.work_times, room.work_times);
-        heights = omega (arith, p.heights, heights, room.heights);
-        boxes = omega (arith, p.tasks, p.boxes, room.boxes);
-      }
+      in (
+        omega (arith, p.rooms, room.capacities),
+        omega (arith, p.whole, symbols, room.calendars),
+        omega (arith, p.tasks, room.task_calendars),
+        omega (arith, p.tasks, p.work_times, room.work_times),
+        omega (arith, p.heights, heights, room.heights),
+        omega (arith, p.tasks, p.boxes, room.boxes),
+      )
 
   -- the plan of a text that no test refuses, as it is copied into the memory lent
   module _ {r : Read} {s : Scan} {n : ℕ} {symbols cells : List ℕ} (held : Holds r s n symbols cells) where

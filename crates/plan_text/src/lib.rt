@@ -1,7 +1,7 @@
 // Plan text: reading a plan.
 #![tactic(auto)]
 
-ghost use Rattle.std.specs.Prelude.{true, List, [], ◌∷◌, ◌≡◌, ℕ, ◌≤◌, IfOk, Some};
+ghost use Rattle.std.specs.Prelude.{true, List, [], ◌∷◌, ◌≡◌, ℕ, ◌≤◌, length, IfOk, Some};
 ghost use Rattle.units.specs.Cells.{written};
 ghost use Rattle.units.specs.Choice.{◌or_else◌};
 ghost use Rattle.units.specs.Limits.{most_rooms, most_tasks};
@@ -154,7 +154,8 @@ fn tested_plan<'a>(
     Ok(plan)
 }
 
-// Stores a plan that passed in the memory lent. Cells past the plan's own are untouched.
+// Stores a plan in the memory lent, which has room for it. Cells past the plan's own are untouched.
+#[tactic(auto, using(units::proofs::Cells::written_start))]
 fn store_plan(
     plan: &Plan,
     plan_boxes: &[u16],
@@ -165,8 +166,12 @@ fn store_plan(
     heights: &mut [u16],
     boxes: &mut [u16],
 )
-    requires { Passed (plan_in plan.now) plan_boxes.now
-        × (is_enough capacities.old calendars.old task_calendars.old work_times.old heights.old boxes.old ≡ true) }
+    requires { (length plan.now.capacities.now ≤ length capacities.old)
+        × (length plan.now.shifts.calendars.now ≤ length calendars.old)
+        × (length plan.now.shifts.task_calendars.now ≤ length task_calendars.old)
+        × (length plan.now.shifts.work_times.now ≤ length work_times.old)
+        × (length plan.now.heights.now ≤ length heights.old)
+        × (length plan_boxes.now ≤ length boxes.old) }
     ensures { (capacities.new ≡ written plan.now.capacities.now capacities.old)
         × (calendars.new ≡ written plan.now.shifts.calendars.now calendars.old)
         × (task_calendars.new ≡ written plan.now.shifts.task_calendars.now task_calendars.old)

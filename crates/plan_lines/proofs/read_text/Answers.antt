@@ -21,7 +21,8 @@ pub loop-end-init : goal.loop-end-init
 loop-end-init c = reached-none _ _ _ _
 
 -- as much of the text as is looked at
-seen : (c : After-find) → read_text c.args.text.now ≡ read_lines (leb (length c.args.text.now) most_bytes) 1 nothing (parts lf (take c.min.result c.args.text.now))
+seen : (c : After-find)
+    → read_text c.args.text.now ≡ read_lines (leb (length c.args.text.now) most_bytes) 1 nothing (parts lf (take c.min.result c.args.text.now))
 seen c = rw c.min.ensures (text-seen c.args.text.now)
 
 -- the error is that of the line

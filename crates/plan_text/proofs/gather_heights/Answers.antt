@@ -26,7 +26,8 @@ loop-room-preserved c =
 
 pub slice_bounds-result-end : goal.slice_bounds-result-end
 slice_bounds-result-end c =
-    sym (length-take-le c.loop-room.end c.loop-room.heights (omega (arith, c.loop-room.invariant.1.size, c.loop-room.invariant.1.few, c.loop-room.invariant.1.rooms_done)))
+    let so_far = c.loop-room.invariant.1 in
+    sym (length-take-le c.loop-room.end c.loop-room.heights (omega (arith, so_far.size, so_far.few, so_far.rooms_done)))
 
 pub returns : goal.returns
 returns c =

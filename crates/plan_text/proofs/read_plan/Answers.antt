@@ -1,7 +1,7 @@
 use Rattle.std.proofs.Common.{sym, ◌∙◌}
 use Rattle.plan_format.proofs.Readings.{read-malformed, read_whole, too_small, not-passed}
 use Rattle.plan_text.proofs.Judging.{read-passed}
-use Rattle.plan_text.proofs.Entry.{refused-reading, scans-refused, scans-whole, kept}
+use Rattle.plan_text.proofs.Entry.{refused-reading, scans-refused, scans-whole, has-room, kept}
 use Rattle.plan_text.proofs.read_plan.Goals as goal
 
 pub returns-in_err-scan : goal.returns-in_err-scan
@@ -32,7 +32,8 @@ stored_boxes-requires c =
 
 pub store_plan-requires : goal.store_plan-requires
 store_plan-requires c =
-    (rw c.stored_boxes.ensures c.in_ok-plan.ensures.passes, sym c.is_enough.ensures ∙ c.if-not-is_enough.false)
+    let passed = rw (← c.stored_boxes.ensures) at c.in_ok-plan.ensures.passes in
+    has-room _ _ _ _ _ _ passed (sym c.is_enough.ensures ∙ c.if-not-is_enough.false)
 
 pub returns : goal.returns
 returns c =

@@ -1,12 +1,17 @@
-use mathlib.Core.Path.{sym, ap₂, ◌∙◌}
+use mathlib.Core.Path.{◌≡◌, sym, ap₂, ◌∙◌}
+use mathlib.Core.Bool.{true}
+use Prim.Native.Nat.{◌≤◌}
 use Rattle.std.proofs.Common.{rules}
 use borrow.Author.Tests.{leb-true, leb-false}
-use Rattle.units.specs.Limits.{most_rooms}
+use Rattle.units.specs.Limits.{most_rooms, most_tasks}
 use Rattle.units.proofs.Ranges.{to-most}
 use Rattle.plan.specs.Faults.{is_right_size, plan_fault}
+use Rattle.plan.specs.Lent.{plan_in}
 use Rattle.plan.proofs.Refusals.{handed-on}
 use Rattle.plan.proofs.Passed.{passed}
-use Rattle.plan_lines.specs.Inner.Scanning.{section}
+use Rattle.plan_format.specs.Text.{Read, most_bytes}
+use Rattle.plan_format.specs.Reading.{read_fault}
+use Rattle.plan_lines.specs.Inner.Scanning.{section, Holds}
 use Rattle.plan_text.proofs.Judging.{parts-each, lines-refuse, symbols-fit, read-plan, read-too-many, read-no-rooms}
 use Rattle.plan_text.proofs.tested_plan.Goals.{After-stored_boxes}
 use Rattle.plan_text.proofs.tested_plan.Goals as goal
@@ -38,33 +43,37 @@ stored_plan-plan-requires c =
     let few = leb-true _ _ (sym c.is_count.ensures ∙ c.if-not-is_count.false) in
     (rooms, few)
 
+-- the plan that is stored, of few rooms and few tasks
+module _ (c : After-stored_boxes) where
+  rooms : c.args.scan.rooms ≤ most_rooms
+  rooms = to-most 1 most_rooms _ (sym c.is_count-2.ensures ∙ c.if-not-is_count-2.false)
+
+  tasks : c.args.scan.tasks ≤ most_tasks
+  tasks = leb-true _ _ (sym c.is_count.ensures ∙ c.if-not-is_count.false)
+
+  right-size : is_right_size (plan_in c.stored_plan-plan.result) c.stored_boxes.result.now ≡ true
+  right-size =
+      ap₂ is_right_size c.stored_plan-plan.ensures c.stored_boxes.ensures
+      ∙ parts-each _ _ c.args.store.now.cells rooms tasks (search rules) c.args.scan.hours (section 0 c.args.scan.symbols c.args.store.now.symbols)
+
+  fault : (r : Read) → Holds r c.args.scan most_bytes c.args.store.now.symbols c.args.store.now.cells
+      → plan_fault (plan_in c.stored_plan-plan.result) c.stored_boxes.result.now ≡ read_fault true r
+  fault r held =
+      ap₂ plan_fault c.stored_plan-plan.ensures c.stored_boxes.ensures ∙ read-plan held (c.in_ok-test_lines.ensures r _ _ held) tasks rooms
+
 pub test_plan-requires : goal.test_plan-requires
-test_plan-requires c =
-    let rooms = to-most 1 most_rooms _ (sym c.is_count-2.ensures ∙ c.if-not-is_count-2.false) in
-    let few = leb-true _ _ (sym c.is_count.ensures ∙ c.if-not-is_count.false) in
-    ap₂ is_right_size c.stored_plan-plan.ensures c.stored_boxes.ensures
-    ∙ parts-each _ _ c.args.store.now.cells rooms few (search rules) c.args.scan.hours (section 0 c.args.scan.symbols c.args.store.now.symbols)
+test_plan-requires c = right-size c
 
 pub returns-in_err-test_plan-clause-tests : goal.returns-in_err-test_plan-clause-tests
 returns-in_err-test_plan-clause-tests c =
     λ r held.
-    let pass = c.in_ok-test_lines.ensures r _ _ held in
-    let rooms = to-most 1 most_rooms _ (sym c.is_count-2.ensures ∙ c.if-not-is_count-2.false) in
-    let few = leb-true _ _ (sym c.is_count.ensures ∙ c.if-not-is_count.false) in
-    handed-on _ _ c.from_residual-in_err-test_plan.ensures.1
-    ∙ c.in_err-test_plan.ensures
-    ∙ ap₂ plan_fault c.stored_plan-plan.ensures c.stored_boxes.ensures
-    ∙ read-plan held pass few rooms
+    let before = (goal.at.returns-in_err-test_plan-clause-tests c).After-stored_boxes in
+    handed-on _ _ c.from_residual-in_err-test_plan.ensures.1 ∙ c.in_err-test_plan.ensures ∙ fault before r held
 
 pub returns-clause-tests : goal.returns-clause-tests
-returns-clause-tests c =
-    λ r held.
-    let pass = c.in_ok-test_lines.ensures r _ _ held in
-    let rooms = to-most 1 most_rooms _ (sym c.is_count-2.ensures ∙ c.if-not-is_count-2.false) in
-    let few = leb-true _ _ (sym c.is_count.ensures ∙ c.if-not-is_count.false) in
-    c.in_ok-test_plan.ensures
-    ∙ ap₂ plan_fault c.stored_plan-plan.ensures c.stored_boxes.ensures
-    ∙ read-plan held pass few rooms
+returns-clause-tests c = λ r held. c.in_ok-test_plan.ensures ∙ fault (goal.at.returns-clause-tests c).After-stored_boxes r held
 
 pub returns-clause-passes : goal.returns-clause-passes
-returns-clause-passes c = rw (← c.stored_boxes.ensures) (passed _ _ (test_plan-requires (goal.at.returns-clause-passes c).After-stored_boxes) (sym c.in_ok-test_plan.ensures))
+returns-clause-passes c =
+    let right = right-size (goal.at.returns-clause-passes c).After-stored_boxes in
+    rw (← c.stored_boxes.ensures) (passed _ _ right (sym c.in_ok-test_plan.ensures))
