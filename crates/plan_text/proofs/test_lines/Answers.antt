@@ -1,7 +1,5 @@
-use mathlib.Core.Path.{sym, ap, ◌∙◌}
-use Rattle.std.specs.Prelude.{Some}
-use Rattle.plan.specs.Refusals.{fault_of}
-use Rattle.plan.proofs.Refusals.{handed-on, none-there, one-there}
+use mathlib.Core.Path.{sym, ◌∙◌}
+use Rattle.plan.proofs.Refusals.{handed-on-as, none-there, one-there}
 use Rattle.plan_text.proofs.Judging.{no-hours, no-calendars, uneven, lines-pass}
 use Rattle.plan_text.proofs.test_lines.Goals as goal
 use Rattle.plan_text.proofs.test_lines.Goals.{else-is_count-via-then-is_count+else-scan, else-is_count-via-else-is_count}
@@ -10,7 +8,7 @@ pub returns-in_err-ok_or : goal.returns-in_err-ok_or
 returns-in_err-ok_or c =
     λ r symbols cells held.
     let none = none-there _ _ _ c.of_plan.ensures c.in_err-ok_or.ensures.value in
-    handed-on _ _ c.from_residual.ensures.1 ∙ ap (λ r. Some (fault_of r)) none.1 ∙ no-hours held none.0
+    handed-on-as _ c.from_residual.ensures.1 none.1 ∙ no-hours held none.0
 
 pub returns-then-scan : goal.returns-then-scan
 returns-then-scan c =
