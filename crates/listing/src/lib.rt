@@ -60,7 +60,7 @@ pub fn list_refusal(refusal: Refusal, out: &mut [u8; ROOM]) -> usize
 }
 
 // The word that opens the listing of a run.
-fn ending_word(ending: Ending) -> &'static [u8]
+pub fn ending_word(ending: Ending) -> &'static [u8]
     ensures { (result.now ≡ word_of ending) × (length result.now ≤ 10) }
 {
     match ending {

@@ -21,6 +21,10 @@ use plan_lines::{BOXES, CAPACITIES, CELLS, HEIGHTS, Scan, Store, WORK_TIMES};
 use text::put::put_all;
 use units::{Bounds, CalendarNumber, Duration, MOST_ROOMS, RoomNumber};
 
+mod memory;
+
+pub use memory::PlanMemory;
+
 // What was read of a plan: H, and how many rooms, calendars and tasks.
 #[derive(Clone, Copy, PartialEq, Eq)]
 pub struct PlanRead {

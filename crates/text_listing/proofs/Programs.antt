@@ -4,12 +4,11 @@ use mathlib.Core.List.{List}
 use Prim.Native.Nat.{ℕ, ◌*◌}
 use lib.ListN.{length, take}
 use Rattle.units.specs.Cells.{written}
-use Rattle.plan.specs.Plan.{Plan, plan, task_count, first_symbol}
+use Rattle.plan.specs.Plan.{Plan, plan, task_count}
 use Rattle.plan.specs.declared.Fault.{Fault}
 use Rattle.plan.specs.Refusals.{refused, answered, on_answer}
 use Rattle.steps.specs.Entry.{FilterAnswer, FilterEnd, filter_end, filter_plan}
-use Rattle.plan_format.specs.Reading.{PlanRead, ReadEnd, end_with}
-use Rattle.plan_format.proofs.Holding.{Holds, read-holds}
+use Rattle.plan_format.specs.Reading.{PlanRead, end_with}
 use Rattle.listing.specs.Listing.{refused_line, listing}
 use Rattle.text_listing.specs.Program.{zeros, step_room, plan_listing, read_end, read_listing, listing_of_text}
 
@@ -32,14 +31,9 @@ module _ (text : List ℕ) where
 
   -- a plan that was read: within its limits, and listed from the first cells of what was lent
   module _ (a : PlanRead) (rs cs ts ws hs bs : List ℕ) (e : end_with (answered a) rs cs ts ws hs bs ≡ read_end text) where
-    pub text-holds : Holds a
-    unfolding read_end
-    text-holds = read-holds _ _ _ _ _ _ text a (ap (λ (x : ReadEnd). x.answer) e)
-
-    pub text-read : (all : ℕ) → all ≡ first_symbol a.hours a.calendars
-        → plan_listing
-        (plan a.hours (take a.rooms rs) (take all cs) (take a.tasks ts) (take a.tasks ws) (take (a.rooms * a.tasks) hs))
+    pub text-read : plan_listing
+        (plan a.hours (take a.rooms rs) (take (a.calendars * a.hours) cs) (take a.tasks ts) (take a.tasks ws) (take (a.rooms * a.tasks) hs))
         (take (6 * a.tasks) bs)
         ≡ listing_of_text text
-    unfolding listing_of_text read_listing on_answer first_symbol
-    text-read all is = rw (is, ← e)
+    unfolding listing_of_text read_listing on_answer
+    text-read = rw (← e)

@@ -6,14 +6,14 @@ ghost use Rattle.std.specs.Prelude.{◌≡◌, ◌≤◌, IfOk, length};
 ghost use Rattle.plan_format.specs.Text.{most_bytes};
 ghost use Rattle.worked.specs.Logs.{cells};
 
-use plan::{Fault, Plan, Refusal, first_symbol};
-use plan_text::{MOST_BOUNDS, MOST_BYTES, MOST_HEIGHTS, MOST_SYMBOLS};
+use plan::{Fault, Plan, Refusal};
+use plan_text::{MOST_BOUNDS, MOST_BYTES, PlanMemory};
 use std::fs::File;
 use std::io;
 use std::rt::Files;
-use steps::{Accepted, Ending, Filtered, Step};
+use steps::{Accepted, Filtered, Step};
 use text::fields::end_of;
-use units::{Bounds, Duration, Hour, MOST_ROOMS};
+use units::{Bounds, Hour};
 
 fn print_word(rt: &impl Print, word: &[u8]) -> io::Result<()> {
     rt.write_all(word)
@@ -196,14 +196,7 @@ fn print_count(rt: &impl Print, word: &[u8], count: usize) -> io::Result<()> {
 fn report_filtered(rt: &impl Print, answer: Result<Filtered, Refusal>) -> io::Result<()> {
     match answer {
         Err(refusal) => report_refusal(rt, refusal),
-        Ok(filtered) => {
-            let word: &[u8] = match filtered.ending {
-                Ending::NoRoom => b"room",
-                Ending::Settled => b"settled",
-                Ending::Impossible => b"impossible",
-            };
-            print_count(rt, word, filtered.count)
-        }
+        Ok(filtered) => print_count(rt, listing::ending_word(filtered.ending), filtered.count),
     }
 }
 
@@ -331,33 +324,14 @@ fn report_writing(rt: &impl Print, answer: Result<usize, Refusal>) -> io::Result
 
 // Reads a plan text and writes the plan back.
 fn rewrite(text: &[u8], out: &mut [u8]) -> Result<usize, Refusal> {
-    let mut capacities = [0u16; MOST_ROOMS];
-    let mut symbols = [0u8; MOST_SYMBOLS];
-    let mut task_calendars = [0u16; Bounds::MOST];
-    let mut work_times = [0u16; Bounds::MOST];
-    let mut heights = [0u16; MOST_HEIGHTS];
+    let mut memory = PlanMemory::EMPTY;
     let mut boxes = [0u16; MOST_BOUNDS];
-    let read = plan_text::read_plan(
-        text,
-        &mut capacities,
-        &mut symbols,
-        &mut task_calendars,
-        &mut work_times,
-        &mut heights,
-        &mut boxes,
-    )?;
-    let all = first_symbol(read.calendars as u16, Duration(read.hours));
-    let each = read.rooms * read.tasks;
-    let cells = Bounds::NUMBERS * read.tasks;
-    let plan = Plan::new(
-        read.hours,
-        &capacities[..read.rooms],
-        &symbols[..all],
-        &task_calendars[..read.tasks],
-        &work_times[..read.tasks],
-        &heights[..each],
-    );
-    plan_writing::write_plan(&plan, &boxes[..cells], out)
+    let read = memory.read(text, &mut boxes)?;
+    plan_writing::write_plan(
+        &memory.plan(read),
+        &boxes[..Bounds::NUMBERS * read.tasks],
+        out,
+    )
 }
 
 // What marks the bytes that writing left as they were: no plan text has it.

@@ -5,4 +5,4 @@ use Rattle.text_listing.proofs.list_plan.Goals as goal
 pub returns : goal.returns
 unfolding zeros
 returns c =
-    put_as _ (plan-listed _ _ _ _ _ _ _ c.filter-answer.ensures.answer) c.list_run.ensures.0 c.list_run.ensures.1
+    put_as _ (rw c.tasks.ensures (plan-listed _ _ _ _ _ _ _ c.filter-answer.ensures.answer)) c.list_run.ensures.0 c.list_run.ensures.1
