@@ -16,7 +16,7 @@ use Rattle.text.proofs.Lines.{Below, fields-width, line-length}
 use Rattle.steps.specs.Entry.{ending_answer, ending_of, filter_answer}
 use Rattle.steps.specs.declared.Ending.TheVariants.{Settled, Impossible, NoRoom}
 use Rattle.steps.specs.declared.Filtered.{Filtered}
-use Rattle.listing.specs.Inner.Endings.{word_of}
+use Rattle.listing.specs.Endings.{word_of}
 use Rattle.listing.specs.Listing.{task_line, task_lines, listing}
 
 -- a word and one number of up to 20 digits

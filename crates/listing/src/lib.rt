@@ -7,7 +7,7 @@ ghost use Rattle.units.specs.Cells.{written};
 ghost use Rattle.plan.specs.Refusals.{fault_of};
 ghost use Rattle.steps.specs.Entry.{filter_answer};
 ghost use Rattle.text.specs.Putting.{Put};
-ghost use Rattle.listing.specs.Inner.Endings.{word_of};
+ghost use Rattle.listing.specs.Endings.{word_of};
 ghost use Rattle.listing.specs.Listing.{task_lines, task_line, refused_line, listing};
 
 use plan::{Fault, Refusal, bounds_at};
@@ -25,6 +25,7 @@ fn put_task(out: &mut [u8], at: usize, boxes: &[u16], i: usize) -> usize
     ensures short { result ≤ at + 47 }
 {
     let b = bounds_at(boxes, i);
+    // The six bounds stand as numbers in `plan_writing` too, by themselves; here they are one array of seven with the task's number.
     let numbers = [
         i,
         b.earliest.0 as usize,

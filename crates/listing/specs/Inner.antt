@@ -1,2 +1,0 @@
--- What contracts of private functions cite and no public one does; 01 has no such terms.
-pub mod Endings
