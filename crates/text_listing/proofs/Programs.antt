@@ -29,11 +29,11 @@ module _ (text : List ℕ) where
   unfolding listing_of_text on_answer
   text-refused f rs cs ts ws hs bs e = rw (← e)
 
-  -- a plan that was read: within its limits, and listed from the first cells of what was lent
-  module _ (a : PlanRead) (rs cs ts ws hs bs : List ℕ) (e : end_with (answered a) rs cs ts ws hs bs ≡ read_end text) where
-    pub text-read : plan_listing
-        (plan a.hours (take a.rooms rs) (take (a.calendars * a.hours) cs) (take a.tasks ts) (take a.tasks ws) (take (a.rooms * a.tasks) hs))
-        (take (6 * a.tasks) bs)
-        ≡ listing_of_text text
-    unfolding listing_of_text read_listing on_answer
-    text-read = rw (← e)
+  -- a plan that was read, listed from the first cells of what was lent
+  pub text-read : (a : PlanRead) (rs cs ts ws hs bs : List ℕ) → end_with (answered a) rs cs ts ws hs bs ≡ read_end text
+      → plan_listing
+      (plan a.hours (take a.rooms rs) (take (a.calendars * a.hours) cs) (take a.tasks ts) (take a.tasks ws) (take (a.rooms * a.tasks) hs))
+      (take (6 * a.tasks) bs)
+      ≡ listing_of_text text
+  unfolding listing_of_text read_listing on_answer
+  text-read a rs cs ts ws hs bs e = rw (← e)

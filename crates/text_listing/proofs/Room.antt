@@ -1,12 +1,10 @@
 -- What was written lies within the memory. Assumes nothing.
 use mathlib.Core.Path.{◌≡◌, ap, ◌∙◌}
 use mathlib.Core.List.{List}
-use Prim.Native.Nat.{ℕ, ◌*◌, ◌≤◌}
+use Prim.Native.Nat.{ℕ, ◌≤◌}
 use native.Mathlib.Omega.{arith}
 use lib.ListN.{length, drop, take, length-append, length-take}
 use Rattle.units.specs.Cells.{written}
-use Rattle.units.specs.Limits.{most_tasks}
-use Rattle.plan_format.specs.Reading.{most_bounds}
 
 pub within-room : (xs cells left : List ℕ) (n : ℕ) → n ≡ length xs → left ≡ written xs cells → n ≤ length left
 unfolding written
@@ -15,11 +13,3 @@ within-room xs cells left n p q = omega (arith, ap length q ∙ length-append xs
 -- a part that is within the whole has the length that was asked for
 pub part_length : (xs : List ℕ) (n m : ℕ) → length xs ≡ m → n ≤ m → n ≡ length (take n xs)
 part_length xs n m p q = simp length-take (omega arith)
-
--- so many tasks, and six numbers a box for each
-pub parts-ready : (ts bs : List ℕ) (n : ℕ) → length ts ≡ most_tasks → length bs ≡ most_bounds → n ≤ most_tasks
-    → (length (take n ts) ≤ most_tasks) × (length (take (6 * n) bs) ≡ 6 * length (take n ts))
-parts-ready ts bs n p q l =
-    let e = part_length ts n most_tasks p l in
-    let f = part_length bs (6 * n) most_bounds q (omega arith) in
-    (omega arith, omega arith)

@@ -21,7 +21,7 @@ fn list_plan(plan: &Plan, boxes: &mut [u16], out: &mut [u8; ROOM]) -> usize
     requires { let P = plan_in plan.now in (task_count P ≤ most_tasks) × (length boxes.old ≡ box_numbers * task_count P) }
     ensures { let L = plan_listing (plan_in plan.now) boxes.old in (result ≡ length L) × (out.new ≡ written L out.old) }
 {
-    // Three slices, as the filter is lent its log.
+    // The log is three slices, as 01 orders of the core.
     let mut log_kinds = [0u8; STEPS];
     let mut log_tasks = [0u16; STEPS];
     let mut log_hours = [0u16; STEPS];

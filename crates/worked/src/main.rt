@@ -228,17 +228,18 @@ fn empty_log() -> [Step; CELLS]
     [empty; CELLS]
 }
 
-// Prints the steps before the first empty cell, and answers how many they are.
-fn print_steps(rt: &impl Print, log: [Step; CELLS]) -> io::Result<usize>
-    ensures { IfOk result (λ count. count ≤ cells) }
+// How many steps stand before the first empty cell: no step has the kind 0.
+fn step_count(log: &[Step]) -> usize
+    ensures { result ≤ length log.now }
 {
-    for (i, x) in log.iter().enumerate() {
-        if x.kind == 0 {
-            return Ok(i);
-        }
+    log.iter().position(|x| x.kind == 0).unwrap_or(log.len())
+}
+
+fn print_steps(rt: &impl Print, steps: &[Step]) -> io::Result<()> {
+    for x in steps {
         print_step(rt, *x)?;
     }
-    Ok(CELLS)
+    Ok(())
 }
 
 // The filter of crate `step_log` on a week, with room for so many steps: prints the answer and the boxes left, and gives the log.
@@ -259,18 +260,10 @@ fn filter_week(
     Ok(log)
 }
 
-// The log checker of crate `step_log` on so many steps of a log of a week: prints the answer and the boxes left.
-fn check_week(
-    rt: &impl Print,
-    plan: &Plan,
-    opening: [u16; 12],
-    log: [Step; CELLS],
-    count: usize,
-) -> io::Result<()>
-    requires { (count ≤ cells) × (length log ≡ cells) }
-{
+// The log checker of crate `step_log` on a log of a week: prints the answer and the boxes left.
+fn check_week(rt: &impl Print, plan: &Plan, opening: [u16; 12], log: &[Step]) -> io::Result<()> {
     let mut boxes = opening;
-    let checked = step_log::check_log(plan, &mut boxes, &log[..count]);
+    let checked = step_log::check_log(plan, &mut boxes, log);
     report_checked(rt, checked)?;
     print_boxes(rt, &boxes)
 }
@@ -280,8 +273,9 @@ fn week_log(rt: &impl Print, plan: &Plan, opening: [u16; 12], room: usize) -> io
     requires { room ≤ cells }
 {
     let log = filter_week(rt, plan, opening, room)?;
-    let count = print_steps(rt, log)?;
-    check_week(rt, plan, opening, log, count)
+    let steps = &log[..step_count(&log)];
+    print_steps(rt, steps)?;
+    check_week(rt, plan, opening, steps)
 }
 
 // The printed week.
@@ -309,10 +303,10 @@ fn log_of_two_parts(rt: &impl Print) -> io::Result<()> {
     let opening: [u16; 12] = [0, 128, 2, 2, 0, 0, 0, 128, 2, 2, 0, 0];
     let plan = week(130, &[0], &calendar, &HEIGHTS);
     let mut log = filter_week(rt, &plan, opening, CELLS)?;
-    check_week(rt, &plan, opening, log, 128)?;
+    check_week(rt, &plan, opening, &log[..128])?;
     let first = log[0];
     log[128] = first;
-    check_week(rt, &plan, opening, log, 129)
+    check_week(rt, &plan, opening, &log[..129])
 }
 
 fn report_writing(rt: &impl Print, answer: Result<usize, Refusal>) -> io::Result<()> {
