@@ -15,34 +15,15 @@ use steps::{Accepted, Filtered, Step};
 use text::fields::end_of;
 use units::{Bounds, Hour};
 
-fn print_word(rt: &impl Print, word: &[u8]) -> io::Result<()> {
-    rt.write_all(word)
-}
-
-fn print_field(rt: &impl Print, number: u64) -> io::Result<()> {
-    print!(rt; "\t{number}")
-}
-
-fn end_line(rt: &impl Print) -> io::Result<()> {
-    print_word(rt, b"\n")
-}
-
 fn report_refusal(rt: &impl Print, refusal: Refusal) -> io::Result<()> {
-    let fault = Fault::from(refusal);
-    print_word(rt, b"refused")?;
-    print_field(rt, fault.number as u64)?;
-    print_field(rt, fault.place as u64)?;
-    end_line(rt)
+    let Fault { number, place } = Fault::from(refusal);
+    println!(rt; "refused\t{number}\t{place}")
 }
 
 fn report(rt: &impl Print, answer: Result<Hour, Refusal>) -> io::Result<()> {
     match answer {
         Err(refusal) => report_refusal(rt, refusal),
-        Ok(end) => {
-            print_word(rt, b"feasible")?;
-            print_field(rt, end.0 as u64)?;
-            end_line(rt)
-        }
+        Ok(Hour(end)) => println!(rt; "feasible\t{end}"),
     }
 }
 
@@ -168,29 +149,22 @@ fn print_larger_weeks(rt: &(impl Files + Print)) -> io::Result<()> {
 }
 
 fn print_step(rt: &impl Print, x: Step) -> io::Result<()> {
-    let kind = [x.kind];
-    print_word(rt, &kind)?;
-    print_field(rt, x.task as u64)?;
-    print_field(rt, x.hour as u64)?;
-    end_line(rt)
-}
-
-fn print_bound(rt: &impl Print, bound: u16) -> io::Result<()> {
-    print_field(rt, bound as u64)
+    let Step { kind, task, hour } = x;
+    let letter = kind as char;
+    println!(rt; "{letter}\t{task}\t{hour}")
 }
 
 fn print_boxes(rt: &impl Print, boxes: &[u16]) -> io::Result<()> {
-    print_word(rt, b"boxes")?;
+    print!(rt; "boxes")?;
     for bound in boxes {
-        print_bound(rt, *bound)?;
+        print!(rt; "\t{bound}")?;
     }
-    end_line(rt)
+    println!(rt;)
 }
 
 fn print_count(rt: &impl Print, word: &[u8], count: usize) -> io::Result<()> {
-    print_word(rt, word)?;
-    print_field(rt, count as u64)?;
-    end_line(rt)
+    rt.write_all(word)?;
+    println!(rt; "\t{count}")
 }
 
 fn report_filtered(rt: &impl Print, answer: Result<Filtered, Refusal>) -> io::Result<()> {
@@ -203,13 +177,9 @@ fn report_filtered(rt: &impl Print, answer: Result<Filtered, Refusal>) -> io::Re
 fn report_checked(rt: &impl Print, answer: Result<Accepted, Refusal>) -> io::Result<()> {
     match answer {
         Err(refusal) => report_refusal(rt, refusal),
-        Ok(accepted) => {
-            print_word(rt, b"accepted")?;
-            print_field(rt, accepted.steps as u64)?;
-            if accepted.impossible {
-                print_word(rt, b"\timpossible")?;
-            }
-            end_line(rt)
+        Ok(Accepted { steps, impossible }) => {
+            let ending = if impossible { "\timpossible" } else { "" };
+            println!(rt; "accepted\t{steps}{ending}")
         }
     }
 }
