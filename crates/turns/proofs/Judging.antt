@@ -1,7 +1,7 @@
 -- What each test of a step decides, over the answers that are kept. Assumes nothing.
 use Rattle.std.specs.Prelude.{Option, None, Some}
 use Rattle.std.specs.Prelude.{if◌then◌else◌}
-use mathlib.Core.Path.{◌≡◌, sym, ap, ◌∙◌}
+use mathlib.Core.Path.{◌≡◌, refl, sym, ap, ◌∙◌}
 use mathlib.Core.Bool.{Bool, true, false}
 use mathlib.Core.List.{List}
 use Prim.Native.Nat.{ℕ, ◌+◌, ◌-◌, ◌≤◌, ◌<◌}
@@ -40,11 +40,12 @@ module _ (w : Window) (height load capacity t : ℕ) where
 
 -- in a room, from what the code has found there
 module _ (tasks : ℕ) (capacities heights : List ℕ) (fits : List (Option Window)) (w : Window) (i t room : ℕ) where
-  pub room-excess : (own : List ℕ) (load : ℕ) {of-task limit : Height} (r : Bool) → own ≡ room_part tasks heights room
-      → of-task ≡ height (get_or own i 0) → load ≡ load_of fits own t → limit ≡ height (get_or capacities room 0)
-      → r ≡ exceeds w of-task.0 load limit.0 t → r ≡ excess_in tasks capacities heights fits w i t room
+  pub room-excess : {load : ℕ} {own : Height} {r : Bool} → own ≡ height (get_or (room_part tasks heights room) i 0)
+      → load ≡ load_of fits (room_part tasks heights room) t
+      → r ≡ exceeds w own.0 load (get_or capacities room 0) t
+      → r ≡ excess_in tasks capacities heights fits w i t room
   unfolding excess_in
-  room-excess own load r is-own is-height is-load is-limit q = rw (is-height, is-load, is-limit, is-own) at q
+  room-excess is-height is-load q = rw (is-height, is-load) at q
 
 -- ---- a task with no valid triple, and one with a window
 
@@ -74,22 +75,25 @@ module _ (fit : Option Window) (i : ℕ) (b : Bounds) where
 
 -- ---- L and U
 
-module _ (w : Window) (i : ℕ) (b : Bounds) (excess : Bool) (t : ℕ) where
-  pub lower-ended : ect w ≤ t → lower_by w i b excess t ≡ NotAdmitted
+-- without the excess
+move-none : (lower : Bool) (w : Window) (i : ℕ) (b : Bounds) (t : ℕ) → move_by lower w i b false t ≡ NotAdmitted
+unfolding move_by lower_by upper_by
+move-none true w i b t = if-false _ _ _ (not_right _ _ (not_right _ _ refl))
+move-none false w i b t = if-false _ _ _ (not_right _ _ (not_right _ _ refl))
+
+-- with it
+module _ (w : Window) (i : ℕ) (b : Bounds) (t : ℕ) where
+  pub lower-ended : ect w ≤ t → lower_by w i b true t ≡ NotAdmitted
   unfolding lower_by
   lower-ended h = if-false _ _ _ (not_left _ _ (le-ltb _ _ h))
 
-  pub lower-later : t < b.earliest.0 → lower_by w i b excess t ≡ NotAdmitted
+  pub lower-later : t < b.earliest.0 → lower_by w i b true t ≡ NotAdmitted
   unfolding lower_by
   lower-later h = if-false _ _ _ (not_right _ _ (not_left _ _ (lt-leb _ _ h)))
 
-  pub lower-room : excess ≡ false → lower_by w i b excess t ≡ NotAdmitted
-  unfolding lower_by
-  lower-room e = if-false _ _ _ (not_right _ _ (not_right _ _ e))
-
-  module _ (holds : (t < ect w) × (b.earliest.0 ≤ t) × (excess ≡ true)) where
-    lower-holds : ltb t (ect w) and leb b.earliest.0 t and excess ≡ true
-    lower-holds = and_both _ _ (lt-ltb _ _ holds.0) (and_both _ _ (le-leb _ _ holds.1) holds.2)
+  module _ (holds : (t < ect w) × (b.earliest.0 ≤ t)) where
+    lower-holds : ltb t (ect w) and leb b.earliest.0 t and true ≡ true
+    lower-holds = and_both _ _ (lt-ltb _ _ holds.0) (and_both _ _ (le-leb _ _ holds.1) refl)
 
     -- the box with the next hour as its lower S, as its constructor makes it
     module _ (next : Hour) (made : Option Bounds) (is-next : next ≡ hour (t + 1))
@@ -97,46 +101,42 @@ module _ (w : Window) (i : ℕ) (b : Bounds) (excess : Bool) (t : ℕ) where
       at_next : made ≡ some_if (leb (t + 1) b.latest.0) (with_earliest b (t + 1))
       at_next = rw is-next at is
 
-      pub lower-stops : made ≡ None → lower_by w i b excess t ≡ Impossible
+      pub lower-stops : made ≡ None → lower_by w i b true t ≡ Impossible
       unfolding lower_by
       lower-stops e =
           let above : b.latest.0 < t + 1 = leb-false _ _ (if_none _ _ (sym at_next ∙ e)) in
           if-true _ _ _ lower-holds ∙ if-true _ _ _ (le-leb b.latest.0 t (omega arith))
 
-      pub lower-moves : (v : Bounds) → made ≡ Some v → lower_by w i b excess t ≡ Moved i v
+      pub lower-moves : (v : Bounds) → made ≡ Some v → lower_by w i b true t ≡ Moved i v
       unfolding lower_by
       lower-moves v e =
           let (below, is-box) = if_some _ _ _ (sym at_next ∙ e) in
           let later : t < b.latest.0 = omega (arith, leb-true (t + 1) b.latest.0 below) in
           if-true _ _ _ lower-holds ∙ if-false _ _ _ (lt-leb b.latest.0 t later) ∙ ap (Moved i) is-box
 
-  pub upper-before : t < lst w → upper_by w i b excess t ≡ NotAdmitted
+  pub upper-before : t < lst w → upper_by w i b true t ≡ NotAdmitted
   unfolding upper_by
   upper-before h = if-false _ _ _ (not_left _ _ (lt-leb _ _ h))
 
-  pub upper-earlier : b.latest.0 + b.shortest.0 ≤ t → upper_by w i b excess t ≡ NotAdmitted
+  pub upper-earlier : b.latest.0 + b.shortest.0 ≤ t → upper_by w i b true t ≡ NotAdmitted
   unfolding upper_by
   upper-earlier h = if-false _ _ _ (not_right _ _ (not_left _ _ (le-ltb _ _ h)))
 
-  pub upper-room : excess ≡ false → upper_by w i b excess t ≡ NotAdmitted
-  unfolding upper_by
-  upper-room e = if-false _ _ _ (not_right _ _ (not_right _ _ e))
+  module _ (holds : (lst w ≤ t) × (t < b.latest.0 + b.shortest.0)) where
+    upper-holds : leb (lst w) t and ltb t (b.latest.0 + b.shortest.0) and true ≡ true
+    upper-holds = and_both _ _ (le-leb _ _ holds.0) (and_both _ _ (lt-ltb _ _ holds.1) refl)
 
-  module _ (holds : (lst w ≤ t) × (t < b.latest.0 + b.shortest.0) × (excess ≡ true)) where
-    upper-holds : leb (lst w) t and ltb t (b.latest.0 + b.shortest.0) and excess ≡ true
-    upper-holds = and_both _ _ (le-leb _ _ holds.0) (and_both _ _ (lt-ltb _ _ holds.1) holds.2)
-
-    stops : t < b.earliest.0 + b.shortest.0 → upper_by w i b excess t ≡ Impossible
+    stops : t < b.earliest.0 + b.shortest.0 → upper_by w i b true t ≡ Impossible
     unfolding upper_by
     stops h = if-true _ _ _ upper-holds ∙ if-true _ _ _ (lt-ltb _ _ h)
 
-    moves : b.earliest.0 + b.shortest.0 ≤ t → upper_by w i b excess t ≡ Moved i (with_latest b (t - b.shortest.0))
+    moves : b.earliest.0 + b.shortest.0 ≤ t → upper_by w i b true t ≡ Moved i (with_latest b (t - b.shortest.0))
     unfolding upper_by
     moves h = if-true _ _ _ upper-holds ∙ if-false _ _ _ (le-ltb _ _ h)
 
     -- the hour minus the lower E, and the box with it as its upper S, as their constructors make them
     module _ (earlier : Option Hour) (is-earlier : earlier ≡ some_if (leb b.shortest.0 t) (hour (t - b.shortest.0))) where
-      pub upper-negative : earlier ≡ None → upper_by w i b excess t ≡ Impossible
+      pub upper-negative : earlier ≡ None → upper_by w i b true t ≡ Impossible
       upper-negative e = stops (omega (arith, leb-false b.shortest.0 t (if_none _ _ (sym is-earlier ∙ e))))
 
       module _ (latest : Hour) (there : earlier ≡ Some latest) (made : Option Bounds)
@@ -150,10 +150,10 @@ module _ (w : Window) (i : ℕ) (b : Bounds) (excess : Bool) (t : ℕ) where
         at-latest : made ≡ some_if (leb b.earliest.0 (t - b.shortest.0)) (with_latest b (t - b.shortest.0))
         at-latest = rw (sym from_start.1) at is
 
-        pub upper-stops : made ≡ None → upper_by w i b excess t ≡ Impossible
+        pub upper-stops : made ≡ None → upper_by w i b true t ≡ Impossible
         upper-stops e = stops (omega (arith, leb-false b.earliest.0 (t - b.shortest.0) (if_none _ _ (sym at-latest ∙ e)), shorter))
 
-        pub upper-moves : (v : Bounds) → made ≡ Some v → upper_by w i b excess t ≡ Moved i v
+        pub upper-moves : (v : Bounds) → made ≡ Some v → upper_by w i b true t ≡ Moved i v
         upper-moves v e =
             let (above, is-box) = if_some _ _ _ (sym at-latest ∙ e) in
             moves (omega (arith, leb-true b.earliest.0 (t - b.shortest.0) above, shorter)) ∙ ap (Moved i) is-box
@@ -164,15 +164,20 @@ module _ (hours tasks : ℕ) (capacities heights boxes : List ℕ) (fits : List 
   unfolding bound_by
   bound-never lower e q = q ∙ sym (on-never _ _ _ e)
 
-  module _ (lower : Bool) (w : Window) (excess : Bool) (b : Bounds) (told : get_or fits i None ≡ Some w)
-      (over : excess ≡ excess_by tasks capacities heights fits w i t) (is-box : b ≡ bounds_at boxes i) where
-    pub bound-lower : lower ≡ true → r ≡ lower_by w i b excess t → r ≡ bound_by hours tasks capacities heights boxes fits lower i t
-    unfolding bound_by move_by
-    bound-lower l q = rw (over, is-box) at q ∙ sym (on-within _ _ _ w told ∙ rw l)
+  module _ (lower : Bool) (w : Window) (excess : Bool) (told : get_or fits i None ≡ Some w)
+      (over : excess ≡ excess_by tasks capacities heights fits w i t) where
+    pub bound-none : excess ≡ false → r ≡ NotAdmitted → r ≡ bound_by hours tasks capacities heights boxes fits lower i t
+    unfolding bound_by
+    bound-none e q = q ∙ sym (on-within _ _ _ w told ∙ rw (← over, e) (move-none lower w i (bounds_at boxes i) t))
 
-    pub bound-upper : lower ≡ false → r ≡ upper_by w i b excess t → r ≡ bound_by hours tasks capacities heights boxes fits lower i t
-    unfolding bound_by move_by
-    bound-upper l q = rw (over, is-box) at q ∙ sym (on-within _ _ _ w told ∙ rw l)
+    module _ (b : Bounds) (e : excess ≡ true) (is-box : b ≡ bounds_at boxes i) where
+      pub bound-lower : lower ≡ true → r ≡ lower_by w i b true t → r ≡ bound_by hours tasks capacities heights boxes fits lower i t
+      unfolding bound_by move_by
+      bound-lower l q = rw is-box at q ∙ sym (on-within _ _ _ w told ∙ rw (← over, e, l) refl)
+
+      pub bound-upper : lower ≡ false → r ≡ upper_by w i b true t → r ≡ bound_by hours tasks capacities heights boxes fits lower i t
+      unfolding bound_by move_by
+      bound-upper l q = rw is-box at q ∙ sym (on-within _ _ _ w told ∙ rw (← over, e, l) refl)
 
 -- ---- by the kind
 

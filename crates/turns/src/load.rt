@@ -1,15 +1,14 @@
 // The load of each hour, from the answers of the calendar rule that are kept.
 ghost use Rattle.std.specs.Prelude.{◌≡◌, ℕ, ◌+◌, ◌*◌, ◌≤◌, ◌<◌, length, get_or, Some};
-ghost use Rattle.plan.specs.Plan.{room_count, task_count};
+ghost use Rattle.plan.specs.Plan.{room_count, task_count, heights_of};
 ghost use Rattle.plan.specs.Lent.{plan_in};
 ghost use Rattle.steps.specs.Load.{must_run};
 ghost use Rattle.turns.specs.Inner.Kept.{load_of};
 ghost use Rattle.turns.specs.Inner.Finding.{part_at, Loaded};
-ghost use Rattle.turns.specs.Inner.Ready.{RoomReady, RoomsReady};
+ghost use Rattle.turns.specs.Inner.Ready.{RoomReady};
 
-use crate::Fits;
+use crate::{Fits, State};
 use calendar::Window;
-use plan::Plan;
 use units::{Height, Hour};
 
 // Whether the compulsory part of a task with the window holds the hour.
@@ -21,7 +20,7 @@ pub fn must_run(w: Window, t: Hour) -> bool
 }
 
 // The heights in a room of the tasks whose compulsory part holds the hour, added. A task with no valid triple has none.
-pub fn load_at(fits: &Fits, heights: &[u16], t: Hour) -> Height
+fn load_at(fits: &Fits, heights: &[u16], t: Hour) -> Height
     requires { RoomReady heights.now }
     ensures { result.0 ≡ load_of fits.now heights.now t.0 }
 {
@@ -60,18 +59,31 @@ fn fill_room(loads: &mut [u16], fits: &Fits, heights: &[u16])
     }
 }
 
-// The numbers, which are 0, become the loads of the hours, room by room.
-pub fn fill_loads(loads: &mut [u16], plan: &Plan, fits: &Fits)
-    requires { let P = plan_in plan.now in
-        (length loads.old ≡ room_count P * P.shifts.hours)
-        × ((k : ℕ) → k < length loads.old → get_or loads.old k 0 ≡ 0)
-        × RoomsReady (room_count P) (task_count P) P.heights }
-    ensures { let P = plan_in plan.now in
-        (length loads.new ≡ length loads.old) × Loaded P.shifts.hours (room_count P) (task_count P) loads.new fits.now P.heights }
-{
-    let hours = plan.shifts.hours.0 as usize;
-    for room in 0..plan.capacities.len() {
-        let from = room * hours;
-        fill_room(&mut loads[from..from + hours], fits, plan.heights_of(room));
+impl State<'_> {
+    // The load of a room in the hour.
+    pub(crate) fn load_in(&self, room: usize, t: Hour) -> Height
+        requires { room < room_count (plan_in self.now.plan.now) }
+        ensures { result.0 ≡ load_of self.now.fits.now (heights_of (plan_in self.now.plan.now) room) t.0 }
+    {
+        load_at(self.fits, self.plan.heights_of(room), t)
+    }
+
+    // The numbers, which are 0, become the loads of the hours, room by room.
+    pub(crate) fn fill_loads(&self, loads: &mut [u16])
+        requires { let P = plan_in self.now.plan.now in
+            (length loads.old ≡ room_count P * P.shifts.hours) × ((k : ℕ) → k < length loads.old → get_or loads.old k 0 ≡ 0) }
+        ensures { let P = plan_in self.now.plan.now in
+            (length loads.new ≡ length loads.old)
+            × Loaded P.shifts.hours (room_count P) (task_count P) loads.new self.now.fits.now P.heights }
+    {
+        let hours = self.plan.shifts.hours.0 as usize;
+        for room in 0..self.plan.rooms() {
+            let from = room * hours;
+            fill_room(
+                &mut loads[from..from + hours],
+                self.fits,
+                self.plan.heights_of(room),
+            );
+        }
     }
 }

@@ -1,14 +1,11 @@
 // One turn of the filter, apart from the log: the first admitted step, and what it comes to.
-ghost use Rattle.std.specs.Prelude.{◌≡◌, ℕ, ◌≤◌, ◌<◌, Some};
-ghost use Rattle.units.specs.Limits.{most_hours};
-ghost use Rattle.plan.specs.Plan.{room_count, task_count};
+ghost use Rattle.std.specs.Prelude.{◌≡◌, ℕ, ◌<◌, Some};
+ghost use Rattle.plan.specs.Plan.{task_count};
 ghost use Rattle.plan.specs.Lent.{plan_in};
 ghost use Rattle.steps.specs.Filter.{next};
-ghost use Rattle.turns.specs.Inner.Ready.{Ready};
 ghost use Rattle.turns.specs.Inner.Kept.{Keeping, turn, turn_of};
 
-use crate::{Fits, judge, search};
-use plan::Plan;
+use crate::State;
 use steps::{Judged, Step};
 use units::Bounds;
 
@@ -19,15 +16,16 @@ pub struct Turn {
     pub judged: Judged,
 }
 
-// The turn, where the answers are kept so, or none where no step is admitted; a task whose bounds it moves is one of the plan's.
-pub fn next_turn(plan: &Plan, boxes: &[u16], fits: &Fits) -> Option<Turn>
-    requires { let P = plan_in plan.now in
-        Ready (room_count P) (task_count P) P.heights boxes.now × (P.shifts.hours ≤ most_hours) }
-    ensures answer { let P = plan_in plan.now in
-        Keeping P boxes.now fits.now → turn_of boxes.now result ≡ next P boxes.now }
-    ensures there { (x : Step) (i : ℕ) (b : Bounds) → result ≡ Some (turn x (Judged.Moved i b)) → i < task_count (plan_in plan.now) }
-{
-    let step = search::next_step(plan, boxes, fits)?;
-    let judged = judge::judge_step(plan, boxes, fits, step);
-    Some(Turn { step, judged })
+impl State<'_> {
+    // The turn, where the answers are kept so, or none where no step is admitted; a task whose bounds it moves is one of the plan's.
+    pub fn next_turn(&self) -> Option<Turn>
+        ensures answer { let P = plan_in self.now.plan.now in
+            Keeping P self.now.boxes.now self.now.fits.now → turn_of self.now.boxes.now result ≡ next P self.now.boxes.now }
+        ensures there { (x : Step) (i : ℕ) (b : Bounds) → result ≡ Some (turn x (Judged.Moved i b))
+            → i < task_count (plan_in self.now.plan.now) }
+    {
+        let step = self.next_step()?;
+        let judged = self.judge_step(step);
+        Some(Turn { step, judged })
+    }
 }

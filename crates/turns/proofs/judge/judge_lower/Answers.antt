@@ -1,32 +1,26 @@
-use mathlib.Core.Path.{◌≡◌, sym, ◌∙◌}
-use mathlib.Core.Bool.{true}
+use mathlib.Core.Path.{sym, ◌∙◌}
 use Prim.Native.Nat.{◌≤◌, ◌<◌}
 use Rattle.units.proofs.Hours.{le-cmp, lt-cmp, before, not-before, at-most, not-at-most}
 use Rattle.calendar.specs.Rule.{ect}
-use Rattle.turns.proofs.Judging.{lower-ended, lower-later, lower-room, lower-stops, lower-moves}
+use Rattle.turns.proofs.Judging.{lower-ended, lower-later, lower-stops, lower-moves}
 use Rattle.turns.proofs.judge.judge_lower.Goals as goal
 
 pub returns-then-le : goal.returns-then-le
-returns-then-le c = sym (lower-ended _ _ _ _ _ (at-most _ _ (c.le.ensures ∙ le-cmp _ _) c.if-le.true))
+returns-then-le c = sym (lower-ended _ _ _ _ (at-most _ _ (c.le.ensures ∙ le-cmp _ _) c.if-le.true))
 
 pub returns-then-lt : goal.returns-then-lt
-returns-then-lt c = sym (lower-later _ _ _ _ _ (before _ _ (c.lt.ensures ∙ lt-cmp _ _) c.if-lt.true))
-
-pub returns-then-not-excess : goal.returns-then-not-excess
-returns-then-not-excess c = sym (lower-room _ _ _ _ _ c.if-not-excess.true)
+returns-then-lt c = sym (lower-later _ _ _ _ (before _ _ (c.lt.ensures ∙ lt-cmp _ _) c.if-lt.true))
 
 pub returns-in_default : goal.returns-in_default
 returns-in_default c =
-    sym (lower-stops _ _ _ _ _ (let known : let a = c.args in (a.t.0 < ect a.w) × (a.b.earliest.0 ≤ a.t.0) × (a.excess ≡ true) = (
+    sym (lower-stops _ _ _ _ (let known : let a = c.args in (a.t.0 < ect a.w) × (a.b.earliest.0 ≤ a.t.0) = (
       not-at-most _ _ (c.le.ensures ∙ le-cmp _ _) c.if-le.false,
       not-before _ _ (c.lt.ensures ∙ lt-cmp _ _) c.if-lt.false,
-      c.if-not-excess.false,
     ) in known) _ _ c.plus.ensures c.starting_from.ensures c.in_default.is)
 
 pub returns : goal.returns
 returns c =
-    sym (lower-moves _ _ _ _ _ (let known : let a = c.args in (a.t.0 < ect a.w) × (a.b.earliest.0 ≤ a.t.0) × (a.excess ≡ true) = (
+    sym (lower-moves _ _ _ _ (let known : let a = c.args in (a.t.0 < ect a.w) × (a.b.earliest.0 ≤ a.t.0) = (
       not-at-most _ _ (c.le.ensures ∙ le-cmp _ _) c.if-le.false,
       not-before _ _ (c.lt.ensures ∙ lt-cmp _ _) c.if-lt.false,
-      c.if-not-excess.false,
     ) in known) _ _ c.plus.ensures c.starting_from.ensures _ c.in-Some.is)

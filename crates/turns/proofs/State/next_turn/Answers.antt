@@ -2,11 +2,11 @@ use mathlib.Core.Path.{ap, ◌∙◌}
 use Rattle.turns.specs.Inner.Kept.{turn_of}
 use Rattle.turns.proofs.Keeping.{moved-there}
 use Rattle.turns.proofs.Turning.{turn-settles, turn-found, judged-of}
-use Rattle.turns.proofs.turn.next_turn.Goals as goal
+use Rattle.turns.proofs.State.next_turn.Goals as goal
 
 pub returns-in_err-step-clause-answer : goal.returns-in_err-step-clause-answer
 returns-in_err-step-clause-answer c k =
-    ap (turn_of c.args.boxes.now) c.from_residual.ensures ∙ turn-settles _ _ _ k _ c.next_step.ensures (c.in_err-step.was)
+    ap (turn_of c.args.self.now.boxes.now) c.from_residual.ensures ∙ turn-settles _ _ _ k _ c.next_step.ensures (c.in_err-step.was)
 
 pub returns-clause-answer : goal.returns-clause-answer
 returns-clause-answer c k = turn-found _ _ _ k _ c.next_step.ensures _ _ c.in_ok-step.was c.judge_step-judged.ensures

@@ -1,7 +1,7 @@
 use mathlib.Core.Path.{sym, ◌∙◌}
 use Rattle.units.proofs.Choices.{else-none, else-some}
 use Rattle.turns.proofs.Searching.{by-load}
-use Rattle.turns.proofs.search.first_with_loads.Goals as goal
+use Rattle.turns.proofs.State.first_with_loads.Goals as goal
 
 pub returns-in-Some : goal.returns-in-Some
 returns-in-Some c =

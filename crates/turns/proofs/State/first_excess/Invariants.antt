@@ -6,15 +6,18 @@ use Rattle.plan.specs.Plan.{task_count}
 use Rattle.plan.specs.Lent.{plan_in}
 use Rattle.turns.specs.Inner.Kept.{is_lower}
 use Rattle.turns.proofs.Searching.{at_hour, of_task}
-use Rattle.turns.proofs.search.first_excess.Given as goal
+use Rattle.turns.proofs.State.first_excess.Given as goal
 
 abbrev pub invariant-loop-t : goal.invariant-loop-t
 invariant-loop-t l =
-    let P = plan_in l.plan in
-    (l.found ≡ None) × (first_of (at_hour P.shifts.hours (task_count P) P.capacities P.heights l.boxes l.fits (is_lower l.side) l.i) l.t ≡ None)
+    let s = l.self in
+    let P = plan_in s.plan.now in
+    let tested = at_hour P.shifts.hours (task_count P) P.capacities P.heights s.boxes.now s.fits.now (is_lower l.side) l.i in
+    (l.found ≡ None) × (first_of tested l.t ≡ None)
 
 abbrev pub invariant-outer : goal.invariant-outer
 invariant-outer l =
-    let P = plan_in l.plan in
+    let s = l.self in
+    let P = plan_in s.plan.now in
     (l.found ≡ None)
-    × Unfound (of_task P.shifts.hours (task_count P) P.capacities P.heights l.boxes l.fits (is_lower l.side)) (task_count P) l.i
+    × Unfound (of_task P.shifts.hours (task_count P) P.capacities P.heights s.boxes.now s.fits.now (is_lower l.side)) (task_count P) l.i

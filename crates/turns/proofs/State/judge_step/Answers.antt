@@ -1,12 +1,11 @@
-use mathlib.Core.Path.{◌≡◌, sym, ap}
+use mathlib.Core.Path.{◌≡◌, refl, sym, ap}
 use native.Mathlib.Omega.{arith}
 use Rattle.std.specs.Prelude.{Some}
 use Rattle.plan.specs.Plan.{heights_of}
-use Rattle.plan.proofs.Passed.{room_in}
 use Rattle.steps.specs.Steps.{kind_in}
 use Rattle.steps.specs.declared.StepKind.{StepKind}
 use Rattle.turns.proofs.Judging.{there-C, there-O, there-L, there-U, by-nameless, by-absent, by-C, by-O, by-L, by-U}
-use Rattle.turns.proofs.judge.judge_step.Goals as goal
+use Rattle.turns.proofs.State.judge_step.Goals as goal
 
 -- the kind that the letter names, as the arm has it
 as-kind : {k l : StepKind} → k ≡ l → kind_in (Some k) ≡ kind_in (Some l)
@@ -19,39 +18,31 @@ pub returns-then-not-is_step : goal.returns-then-not-is_step
 returns-then-not-is_step c = by-absent _ _ _ _ _ _ _ _ c.in-Some.ensures c.is_step.ensures c.if-not-is_step.true
 
 -- 11 does not apply to the step, so its task, its room and its hour exist
-pub bounds-fits-i : goal.bounds-fits-i
-bounds-fits-i c =
+pub bounds-self-i : goal.bounds-self-i
+bounds-self-i c =
     let there = there-C _ _ _ _ _ _ (sym c.if-not-is_step.ensures) (as-kind c.in-Calendar.is) in
-    omega (arith, there, c.requires.0.rooms_ready.few_tasks)
+    omega (arith, there, c.args.self.now.ready.rooms_ready.few_tasks)
 
 pub bounds_at-requires : goal.bounds_at-requires
 bounds_at-requires c =
     let there = there-C _ _ _ _ _ _ (sym c.if-not-is_step.ensures) (as-kind c.in-Calendar.is) in
-    omega (arith, there, c.requires.0.sized)
+    omega (arith, there, c.args.self.now.ready.sized)
 
 pub capacity_of-requires : goal.capacity_of-requires
 capacity_of-requires c = (there-O _ _ _ _ _ _ (sym c.if-not-is_step.ensures) (as-kind c.in-Overload.is)).0
 
-pub heights_of-requires : goal.heights_of-requires
-heights_of-requires c =
-    let there = there-O _ _ _ _ _ _ (sym c.if-not-is_step.ensures) (as-kind c.in-Overload.is) in
-    room_in _ _ c.args.plan.now.heights.now c.requires.0.rooms_ready.each _ there.0
-
-pub load_at-requires : goal.load_at-requires
-unfolding heights_of
-load_at-requires c =
-    let there = there-O _ _ _ _ _ _ (sym c.if-not-is_step.ensures) (as-kind c.in-Overload.is) in
-    rw c.heights_of.ensures (c.requires.0.rooms_ready.room _ there.0)
+pub load_in-requires : goal.load_in-requires
+load_in-requires c = (there-O _ _ _ _ _ _ (sym c.if-not-is_step.ensures) (as-kind c.in-Overload.is)).0
 
 pub judge_bound-requires : goal.judge_bound-requires
 judge_bound-requires c =
     let there = there-L _ _ _ _ _ _ (sym c.if-not-is_step.ensures) (as-kind c.in-Lower.is) in
-    (c.requires.0, there.0, omega (arith, there.1, c.requires.1))
+    (there.0, omega (arith, there.1, c.args.self.now.short))
 
 pub judge_bound-requires-in-Upper : goal.judge_bound-requires-in-Upper
 judge_bound-requires-in-Upper c =
     let there = there-U _ _ _ _ _ _ (sym c.if-not-is_step.ensures) (as-kind c.in-Upper.is) in
-    (c.requires.0, there.0, omega (arith, there.1, c.requires.1))
+    (there.0, omega (arith, there.1, c.args.self.now.short))
 
 pub returns-in-Calendar : goal.returns-in-Calendar
 returns-in-Calendar c =
@@ -60,8 +51,8 @@ returns-in-Calendar c =
 pub returns-in-Overload : goal.returns-in-Overload
 unfolding heights_of
 returns-in-Overload c =
-    by-O _ _ _ _ _ _ _ _ c.in-Some.ensures (sym c.if-not-is_step.ensures) _ _ (as-kind c.in-Overload.is) c.capacity_of.ensures c.heights_of.ensures
-    c.load_at.ensures c.judge_load.ensures
+    by-O _ _ _ _ _ _ _ _ c.in-Some.ensures (sym c.if-not-is_step.ensures) _ _ (as-kind c.in-Overload.is) c.capacity_of.ensures refl
+    c.load_in.ensures c.judge_load.ensures
 
 pub returns-in-Lower : goal.returns-in-Lower
 returns-in-Lower c =
