@@ -1,7 +1,5 @@
 use mathlib.Core.Path.{sym, ◌∙◌}
-use Prim.Native.Nat.{◌≤◌, ◌<◌}
 use Rattle.units.proofs.Hours.{le-cmp, lt-cmp, before, not-before, at-most, not-at-most}
-use Rattle.calendar.specs.Rule.{ect}
 use Rattle.turns.proofs.Judging.{lower-ended, lower-later, lower-stops, lower-moves}
 use Rattle.turns.proofs.judge.judge_lower.Goals as goal
 
@@ -13,14 +11,14 @@ returns-then-lt c = sym (lower-later _ _ _ _ (before _ _ (c.lt.ensures ∙ lt-cm
 
 pub returns-in_default : goal.returns-in_default
 returns-in_default c =
-    sym (lower-stops _ _ _ _ (let known : let a = c.args in (a.t.0 < ect a.w) × (a.b.earliest.0 ≤ a.t.0) = (
+    sym (lower-stops _ _ _ _ (
       not-at-most _ _ (c.le.ensures ∙ le-cmp _ _) c.if-le.false,
       not-before _ _ (c.lt.ensures ∙ lt-cmp _ _) c.if-lt.false,
-    ) in known) _ _ c.plus.ensures c.starting_from.ensures c.in_default.is)
+    ) _ _ c.plus.ensures c.starting_from.ensures c.in_default.is)
 
 pub returns : goal.returns
 returns c =
-    sym (lower-moves _ _ _ _ (let known : let a = c.args in (a.t.0 < ect a.w) × (a.b.earliest.0 ≤ a.t.0) = (
+    sym (lower-moves _ _ _ _ (
       not-at-most _ _ (c.le.ensures ∙ le-cmp _ _) c.if-le.false,
       not-before _ _ (c.lt.ensures ∙ lt-cmp _ _) c.if-lt.false,
-    ) in known) _ _ c.plus.ensures c.starting_from.ensures _ c.in-Some.is)
+    ) _ _ c.plus.ensures c.starting_from.ensures _ c.in-Some.is)

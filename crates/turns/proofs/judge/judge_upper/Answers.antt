@@ -1,7 +1,5 @@
 use mathlib.Core.Path.{sym, ◌∙◌}
-use Prim.Native.Nat.{◌+◌, ◌≤◌, ◌<◌}
 use Rattle.units.proofs.Hours.{le-cmp, lt-cmp, before, not-before, end-at-most, not-end-at-most}
-use Rattle.calendar.specs.Rule.{lst}
 use Rattle.turns.proofs.Judging.{upper-before, upper-earlier, upper-negative, upper-stops, upper-moves}
 use Rattle.turns.proofs.judge.judge_upper.Goals as goal
 
@@ -14,25 +12,25 @@ returns-then-le c =
 
 pub returns-in_default : goal.returns-in_default
 returns-in_default c =
-    sym (upper-negative _ _ _ _ (let known : let a = c.args in (lst a.w ≤ a.t.0) × (a.t.0 < a.b.latest.0 + a.b.shortest.0) = (
+    sym (upper-negative _ _ _ _ (
       not-before _ _ (c.lt.ensures ∙ lt-cmp _ _) c.if-lt.false,
       not-end-at-most _ c.plus.ensures (c.le.ensures ∙ le-cmp _ _) c.if-le.false,
-    ) in known) _ c.minus.ensures c.in_default.is)
+    ) _ c.minus.ensures c.in_default.is)
 
 pub returns-in_default-starting_by : goal.returns-in_default-starting_by
 returns-in_default-starting_by c =
     sym
-    (upper-stops _ _ _ _ (let known : let a = c.args in (lst a.w ≤ a.t.0) × (a.t.0 < a.b.latest.0 + a.b.shortest.0) = (
+    (upper-stops _ _ _ _ (
       not-before _ _ (c.lt.ensures ∙ lt-cmp _ _) c.if-lt.false,
       not-end-at-most _ c.plus.ensures (c.le.ensures ∙ le-cmp _ _) c.if-le.false,
-    ) in known) _ c.minus.ensures _ c.in-Some.is _
+    ) _ c.minus.ensures _ c.in-Some.is _
     c.starting_by.ensures c.in_default-starting_by.is)
 
 pub returns : goal.returns
 returns c =
     sym
-    (upper-moves _ _ _ _ (let known : let a = c.args in (lst a.w ≤ a.t.0) × (a.t.0 < a.b.latest.0 + a.b.shortest.0) = (
+    (upper-moves _ _ _ _ (
       not-before _ _ (c.lt.ensures ∙ lt-cmp _ _) c.if-lt.false,
       not-end-at-most _ c.plus.ensures (c.le.ensures ∙ le-cmp _ _) c.if-le.false,
-    ) in known) _ c.minus.ensures _ c.in-Some.is _
+    ) _ c.minus.ensures _ c.in-Some.is _
     c.starting_by.ensures _ c.in-Some-starting_by.is)
