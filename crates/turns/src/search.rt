@@ -57,6 +57,7 @@ impl State<'_> {
     fn first_calendar(&self) -> Option<Step>
         ensures { result ≡ first_calendar self.now.boxes.now self.now.fits.now (task_count (plan_in self.now.plan.now)) }
     {
+        // By number: an answer is kept for each of the most tasks, and a box is six numbers.
         for i in 0..self.plan.tasks() {
             if is_narrowed(self.fits[i], plan::bounds_at(self.boxes, i)) {
                 return Some(Step {
