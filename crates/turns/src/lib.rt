@@ -11,7 +11,7 @@ use calendar::Window;
 use plan::Plan;
 use units::Bounds;
 
-pub mod judge;
+mod judge;
 mod load;
 mod search;
 mod side;
