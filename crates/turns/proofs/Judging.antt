@@ -1,7 +1,7 @@
 -- What each test of a step decides, over the answers that are kept. Assumes nothing.
 use Rattle.std.specs.Prelude.{Option, None, Some}
 use Rattle.std.specs.Prelude.{if◌then◌else◌}
-use mathlib.Core.Path.{◌≡◌, refl, sym, ap, ◌∙◌}
+use mathlib.Core.Path.{◌≡◌, sym, ap, ◌∙◌}
 use mathlib.Core.Bool.{Bool, true, false}
 use mathlib.Core.List.{List}
 use Prim.Native.Nat.{ℕ, ◌+◌, ◌-◌, ◌≤◌, ◌<◌}
@@ -9,7 +9,7 @@ use native.Mathlib.Omega.{arith}
 use lib.Dec.{leb, ltb}
 use lib.ListN.{length, get_or}
 use borrow.Author.Tests.{ltb-true, lt-ltb, le-ltb, le-leb, lt-leb, leb-true, leb-false}
-use Rattle.units.specs.Choice.{◌and◌, some_if}
+use Rattle.units.specs.Choice.{some_if}
 use Rattle.units.specs.Limits.{hour, height, with_earliest, with_latest}
 use Rattle.units.specs.declared.Hour.{Hour}
 use Rattle.units.specs.declared.Height.{Height}
@@ -18,13 +18,12 @@ use Rattle.units.proofs.Choices.{and_both, and_left, and_right, if-true, if-fals
 use Rattle.plan.specs.Plan.{room_part}
 use Rattle.plan.specs.Boxes.{bounds_at}
 use Rattle.calendar.specs.declared.Window.{Window}
-use Rattle.calendar.specs.Rule.{lst, ect}
 use Rattle.steps.specs.declared.Step.{Step}
 use Rattle.steps.specs.declared.Judged.{Judged}
 use Rattle.steps.specs.declared.Judged.TheVariants.{Unknown, NotAdmitted, Impossible, Moved}
 use Rattle.steps.specs.Load.{must_run}
 use Rattle.steps.specs.Steps.{Kind, kind_c, kind_o, kind_l, kind_u, unknown_kind, kind_of, is_step, on_fit, same_bounds}
-use Rattle.turns.specs.Inner.Ready.{Ready}
+use Rattle.turns.specs.Inner.Finding.{first_hour, end_hour}
 use Rattle.turns.specs.Inner.Kept.{load_of, exceeds, excess_in, excess_by, calendar_by, lower_by, upper_by, move_by, bound_by, judge_kind_by, judge_by}
 
 -- ---- the excess
@@ -75,109 +74,97 @@ module _ (fit : Option Window) (i : ℕ) (b : Bounds) where
 
 -- ---- L and U
 
--- without the excess
-move-none : (lower : Bool) (w : Window) (i : ℕ) (b : Bounds) (t : ℕ) → move_by lower w i b false t ≡ NotAdmitted
-unfolding move_by lower_by upper_by
-move-none true w i b t = if-false _ _ _ (not_right _ _ (not_right _ _ refl))
-move-none false w i b t = if-false _ _ _ (not_right _ _ (not_right _ _ refl))
-
--- with it
 module _ (w : Window) (i : ℕ) (b : Bounds) (t : ℕ) where
-  pub lower-ended : ect w ≤ t → lower_by w i b true t ≡ NotAdmitted
-  unfolding lower_by
-  lower-ended h = if-false _ _ _ (not_left _ _ (le-ltb _ _ h))
+  -- before the first hour in which the step can be admitted, from the end of these on, and without the excess
+  pub move-before : (lower excess : Bool) → t < first_hour lower w b → move_by lower w i b excess t ≡ NotAdmitted
+  unfolding first_hour move_by lower_by upper_by
+  move-before true excess l = if-false _ _ _ (not_right _ _ (not_left _ _ (lt-leb _ _ l)))
+  move-before false excess l = if-false _ _ _ (not_left _ _ (lt-leb _ _ l))
 
-  pub lower-later : t < b.earliest.0 → lower_by w i b true t ≡ NotAdmitted
-  unfolding lower_by
-  lower-later h = if-false _ _ _ (not_right _ _ (not_left _ _ (lt-leb _ _ h)))
+  pub move-after : (lower excess : Bool) → end_hour lower w b ≤ t → move_by lower w i b excess t ≡ NotAdmitted
+  unfolding end_hour move_by lower_by upper_by
+  move-after true excess l = if-false _ _ _ (not_left _ _ (le-ltb _ _ l))
+  move-after false excess l = if-false _ _ _ (not_right _ _ (not_left _ _ (le-ltb _ _ l)))
 
-  module _ (holds : (t < ect w) × (b.earliest.0 ≤ t)) where
-    lower-holds : ltb t (ect w) and leb b.earliest.0 t and true ≡ true
-    lower-holds = and_both _ _ (lt-ltb _ _ holds.0) (and_both _ _ (le-leb _ _ holds.1) refl)
+  pub move-none : (lower excess : Bool) → excess ≡ false → move_by lower w i b excess t ≡ NotAdmitted
+  unfolding move_by lower_by upper_by
+  move-none true excess e = if-false _ _ _ (not_right _ _ (not_right _ _ e))
+  move-none false excess e = if-false _ _ _ (not_right _ _ (not_right _ _ e))
 
-    -- the box with the next hour as its lower S, as its constructor makes it
-    module _ (next : Hour) (made : Option Bounds) (is-next : next ≡ hour (t + 1))
-        (is : made ≡ some_if (leb next.0 b.latest.0) (with_earliest b next.0)) where
-      at_next : made ≡ some_if (leb (t + 1) b.latest.0) (with_earliest b (t + 1))
-      at_next = rw is-next at is
+  -- else it is admitted
+  module _ (lower excess : Bool) (from : first_hour lower w b ≤ t) (below : t < end_hour lower w b) (e : excess ≡ true) where
+    pub move-lower : lower ≡ true
+        → move_by lower w i b excess t ≡ (if leb b.latest.0 t then Impossible else Moved i (with_earliest b (t + 1)))
+    unfolding first_hour end_hour move_by lower_by
+    move-lower l = rw l (if-true _ _ _ (and_both _ _ (lt-ltb _ _ (rw l at below)) (and_both _ _ (le-leb _ _ (rw l at from)) e)))
 
-      pub lower-stops : made ≡ None → lower_by w i b true t ≡ Impossible
-      unfolding lower_by
-      lower-stops e =
-          let above : b.latest.0 < t + 1 = leb-false _ _ (if_none _ _ (sym at_next ∙ e)) in
-          if-true _ _ _ lower-holds ∙ if-true _ _ _ (le-leb b.latest.0 t (omega arith))
+    pub move-upper : lower ≡ false
+        → move_by lower w i b excess t
+        ≡ (if ltb t (b.earliest.0 + b.shortest.0) then Impossible else Moved i (with_latest b (t - b.shortest.0)))
+    unfolding first_hour end_hour move_by upper_by
+    move-upper l = rw l (if-true _ _ _ (and_both _ _ (le-leb _ _ (rw l at from)) (and_both _ _ (lt-ltb _ _ (rw l at below)) e)))
 
-      pub lower-moves : (v : Bounds) → made ≡ Some v → lower_by w i b true t ≡ Moved i v
-      unfolding lower_by
-      lower-moves v e =
-          let (below, is-box) = if_some _ _ _ (sym at_next ∙ e) in
-          let later : t < b.latest.0 = omega (arith, leb-true (t + 1) b.latest.0 below) in
-          if-true _ _ _ lower-holds ∙ if-false _ _ _ (lt-leb b.latest.0 t later) ∙ ap (Moved i) is-box
+module _ (i : ℕ) (b : Bounds) (t : ℕ) where
+  -- the box with the next hour as its lower S, as its constructor makes it
+  module _ (next : Hour) (made : Option Bounds) (is-next : next ≡ hour (t + 1))
+      (is : made ≡ some_if (leb next.0 b.latest.0) (with_earliest b next.0)) where
+    at_next : made ≡ some_if (leb (t + 1) b.latest.0) (with_earliest b (t + 1))
+    at_next = rw is-next at is
 
-  pub upper-before : t < lst w → upper_by w i b true t ≡ NotAdmitted
-  unfolding upper_by
-  upper-before h = if-false _ _ _ (not_left _ _ (lt-leb _ _ h))
+    pub lower-stops : made ≡ None → Impossible ≡ (if leb b.latest.0 t then Impossible else Moved i (with_earliest b (t + 1)))
+    lower-stops e =
+        let above : b.latest.0 < t + 1 = leb-false _ _ (if_none _ _ (sym at_next ∙ e)) in
+        sym (if-true _ _ _ (le-leb b.latest.0 t (omega arith)))
 
-  pub upper-earlier : b.latest.0 + b.shortest.0 ≤ t → upper_by w i b true t ≡ NotAdmitted
-  unfolding upper_by
-  upper-earlier h = if-false _ _ _ (not_right _ _ (not_left _ _ (le-ltb _ _ h)))
+    pub lower-moves : (v : Bounds) → made ≡ Some v → Moved i v ≡ (if leb b.latest.0 t then Impossible else Moved i (with_earliest b (t + 1)))
+    lower-moves v e =
+        let moved = if_some _ _ _ (sym at_next ∙ e) in
+        let below : t + 1 ≤ b.latest.0 = leb-true (t + 1) b.latest.0 moved.0 in
+        sym (if-false _ _ _ (lt-leb b.latest.0 t (omega arith)) ∙ ap (Moved i) moved.1)
 
-  module _ (holds : (lst w ≤ t) × (t < b.latest.0 + b.shortest.0)) where
-    upper-holds : leb (lst w) t and ltb t (b.latest.0 + b.shortest.0) and true ≡ true
-    upper-holds = and_both _ _ (le-leb _ _ holds.0) (and_both _ _ (lt-ltb _ _ holds.1) refl)
+  stops : t < b.earliest.0 + b.shortest.0
+      → Impossible ≡ (if ltb t (b.earliest.0 + b.shortest.0) then Impossible else Moved i (with_latest b (t - b.shortest.0)))
+  stops h = sym (if-true _ _ _ (lt-ltb _ _ h))
 
-    stops : t < b.earliest.0 + b.shortest.0 → upper_by w i b true t ≡ Impossible
-    unfolding upper_by
-    stops h = if-true _ _ _ upper-holds ∙ if-true _ _ _ (lt-ltb _ _ h)
+  -- the hour minus the lower E, and the box with it as its upper S, as their constructors make them
+  module _ (earlier : Option Hour) (is-earlier : earlier ≡ some_if (leb b.shortest.0 t) (hour (t - b.shortest.0))) where
+    pub upper-negative : earlier ≡ None
+        → Impossible ≡ (if ltb t (b.earliest.0 + b.shortest.0) then Impossible else Moved i (with_latest b (t - b.shortest.0)))
+    upper-negative e = stops (omega (arith, leb-false b.shortest.0 t (if_none _ _ (sym is-earlier ∙ e))))
 
-    moves : b.earliest.0 + b.shortest.0 ≤ t → upper_by w i b true t ≡ Moved i (with_latest b (t - b.shortest.0))
-    unfolding upper_by
-    moves h = if-true _ _ _ upper-holds ∙ if-false _ _ _ (le-ltb _ _ h)
+    module _ (latest : Hour) (there : earlier ≡ Some latest) (made : Option Bounds)
+        (is : made ≡ some_if (leb b.earliest.0 latest.0) (with_latest b latest.0)) where
+      from_start : (leb b.shortest.0 t ≡ true) × (hour (t - b.shortest.0) ≡ latest)
+      from_start = if_some _ _ _ (sym is-earlier ∙ there)
 
-    -- the hour minus the lower E, and the box with it as its upper S, as their constructors make them
-    module _ (earlier : Option Hour) (is-earlier : earlier ≡ some_if (leb b.shortest.0 t) (hour (t - b.shortest.0))) where
-      pub upper-negative : earlier ≡ None → upper_by w i b true t ≡ Impossible
-      upper-negative e = stops (omega (arith, leb-false b.shortest.0 t (if_none _ _ (sym is-earlier ∙ e))))
+      shorter : b.shortest.0 ≤ t
+      shorter = leb-true b.shortest.0 t from_start.0
 
-      module _ (latest : Hour) (there : earlier ≡ Some latest) (made : Option Bounds)
-          (is : made ≡ some_if (leb b.earliest.0 latest.0) (with_latest b latest.0)) where
-        from_start : (leb b.shortest.0 t ≡ true) × (hour (t - b.shortest.0) ≡ latest)
-        from_start = if_some _ _ _ (sym is-earlier ∙ there)
+      at-latest : made ≡ some_if (leb b.earliest.0 (t - b.shortest.0)) (with_latest b (t - b.shortest.0))
+      at-latest = rw (sym from_start.1) at is
 
-        shorter : b.shortest.0 ≤ t
-        shorter = leb-true b.shortest.0 t from_start.0
+      pub upper-stops : made ≡ None
+          → Impossible ≡ (if ltb t (b.earliest.0 + b.shortest.0) then Impossible else Moved i (with_latest b (t - b.shortest.0)))
+      upper-stops e = stops (omega (arith, leb-false b.earliest.0 (t - b.shortest.0) (if_none _ _ (sym at-latest ∙ e)), shorter))
 
-        at-latest : made ≡ some_if (leb b.earliest.0 (t - b.shortest.0)) (with_latest b (t - b.shortest.0))
-        at-latest = rw (sym from_start.1) at is
-
-        pub upper-stops : made ≡ None → upper_by w i b true t ≡ Impossible
-        upper-stops e = stops (omega (arith, leb-false b.earliest.0 (t - b.shortest.0) (if_none _ _ (sym at-latest ∙ e)), shorter))
-
-        pub upper-moves : (v : Bounds) → made ≡ Some v → upper_by w i b true t ≡ Moved i v
-        upper-moves v e =
-            let (above, is-box) = if_some _ _ _ (sym at-latest ∙ e) in
-            moves (omega (arith, leb-true b.earliest.0 (t - b.shortest.0) above, shorter)) ∙ ap (Moved i) is-box
+      pub upper-moves : (v : Bounds) → made ≡ Some v
+          → Moved i v ≡ (if ltb t (b.earliest.0 + b.shortest.0) then Impossible else Moved i (with_latest b (t - b.shortest.0)))
+      upper-moves v e =
+          let moved = if_some _ _ _ (sym at-latest ∙ e) in
+          let above : b.earliest.0 ≤ t - b.shortest.0 = leb-true b.earliest.0 (t - b.shortest.0) moved.0 in
+          sym (if-false _ _ _ (le-ltb t (b.earliest.0 + b.shortest.0) (omega (arith, shorter))) ∙ ap (Moved i) moved.1)
 
 -- L or U, from what the code has found of the task
-module _ (hours tasks : ℕ) (capacities heights boxes : List ℕ) (fits : List (Option Window)) (i t : ℕ) (r : Judged) where
-  pub bound-never : (lower : Bool) → get_or fits i None ≡ None → r ≡ NotAdmitted → r ≡ bound_by hours tasks capacities heights boxes fits lower i t
+module _ (hours tasks : ℕ) (capacities heights boxes : List ℕ) (fits : List (Option Window)) (i t : ℕ) (r : Judged) (lower : Bool) where
+  pub bound-never : get_or fits i None ≡ None → r ≡ NotAdmitted → r ≡ bound_by hours tasks capacities heights boxes fits lower i t
   unfolding bound_by
-  bound-never lower e q = q ∙ sym (on-never _ _ _ e)
+  bound-never e q = q ∙ sym (on-never _ _ _ e)
 
-  module _ (lower : Bool) (w : Window) (excess : Bool) (told : get_or fits i None ≡ Some w)
-      (over : excess ≡ excess_by tasks capacities heights fits w i t) where
-    pub bound-none : excess ≡ false → r ≡ NotAdmitted → r ≡ bound_by hours tasks capacities heights boxes fits lower i t
-    unfolding bound_by
-    bound-none e q = q ∙ sym (on-within _ _ _ w told ∙ rw (← over, e) (move-none lower w i (bounds_at boxes i) t))
-
-    module _ (b : Bounds) (e : excess ≡ true) (is-box : b ≡ bounds_at boxes i) where
-      pub bound-lower : lower ≡ true → r ≡ lower_by w i b true t → r ≡ bound_by hours tasks capacities heights boxes fits lower i t
-      unfolding bound_by move_by
-      bound-lower l q = rw is-box at q ∙ sym (on-within _ _ _ w told ∙ rw (← over, e, l) refl)
-
-      pub bound-upper : lower ≡ false → r ≡ upper_by w i b true t → r ≡ bound_by hours tasks capacities heights boxes fits lower i t
-      unfolding bound_by move_by
-      bound-upper l q = rw is-box at q ∙ sym (on-within _ _ _ w told ∙ rw (← over, e, l) refl)
+  pub bound-within : (w : Window) (b : Bounds) → get_or fits i None ≡ Some w → b ≡ bounds_at boxes i
+      → r ≡ move_by lower w i b (excess_by tasks capacities heights fits w i t) t
+      → r ≡ bound_by hours tasks capacities heights boxes fits lower i t
+  unfolding bound_by
+  bound-within w b told is-box q = rw is-box at q ∙ sym (on-within _ _ _ w told)
 
 -- ---- by the kind
 
@@ -241,9 +228,3 @@ module _ (hours tasks : ℕ) (capacities heights boxes : List ℕ) (fits : List 
         → r ≡ judge_by hours tasks capacities heights boxes fits x
     unfolding judge_kind_by
     by-U n q = by-kind (q ∙ rw n)
-
--- the sum of U's test fits a number of the code
-pub sum_fits : {rooms tasks : ℕ} {heights boxes : List ℕ} → Ready rooms tasks heights boxes → (i : ℕ) (b : Bounds) → i < tasks
-    → b ≡ bounds_at boxes i
-    → b.latest.0 + b.shortest.0 < 65536
-sum_fits ready i b l e = rw e (omega (arith, ready.latest i l, ready.shortest i l))

@@ -1,12 +1,12 @@
 // What a step comes to at its turn.
-ghost use Rattle.std.specs.Prelude.{true, ◌≡◌, ℕ, ◌+◌, ◌<◌, ltb, Some, if◌then◌else◌};
+ghost use Rattle.std.specs.Prelude.{◌≡◌, ℕ, ◌+◌, ◌-◌, ◌<◌, leb, ltb, Some, if◌then◌else◌};
 ghost use Rattle.units.specs.Choice.{◌and◌};
-ghost use Rattle.units.specs.Limits.{most_hours, is_hour, is_room_number};
+ghost use Rattle.units.specs.Limits.{most_hours, is_hour, is_room_number, with_earliest, with_latest};
 ghost use Rattle.units.specs.declared.Height.{Height};
 ghost use Rattle.plan.specs.Plan.{room_count, task_count, heights_of};
 ghost use Rattle.plan.specs.Lent.{plan_in};
 ghost use Rattle.steps.specs.Steps.{kind_in, is_step};
-ghost use Rattle.turns.specs.Inner.Kept.{load_of, exceeds, excess_by, calendar_by, lower_by, upper_by, bound_by, judge_by, is_lower};
+ghost use Rattle.turns.specs.Inner.Kept.{load_of, exceeds, excess_by, calendar_by, bound_by, judge_by, is_lower};
 
 use crate::side::Side;
 use crate::{State, load};
@@ -51,35 +51,22 @@ fn judge_load(capacity: Height, load: Height) -> Judged
     Judged::NotAdmitted
 }
 
-// L of a task with the bounds and the window, in an hour with the excess.
-fn judge_lower(w: Window, task: u16, b: Bounds, t: Hour) -> Judged
+// L of a task with the bounds, where it is admitted in the hour.
+fn judge_lower(task: u16, b: Bounds, t: Hour) -> Judged
     requires { t.0 < most_hours }
-    ensures { result ≡ lower_by w task b true t.0 }
+    ensures { result ≡ (if leb b.latest.0 t.0 then Judged.Impossible else Judged.Moved task (with_earliest b (t.0 + 1))) }
 {
-    if w.ect <= t {
-        return Judged::NotAdmitted;
-    }
-    if t < b.earliest {
-        return Judged::NotAdmitted;
-    }
     let Some(bounds) = b.starting_from(t.plus(Duration(1))) else {
         return Judged::Impossible;
     };
     Judged::Moved { task, bounds }
 }
 
-// U of a task with the bounds and the window, in an hour with the excess. Where the hour minus the lower E would be before the plan, it is below
-// the lower S.
-fn judge_upper(w: Window, task: u16, b: Bounds, t: Hour) -> Judged
-    requires { b.latest.0 + b.shortest.0 < 65536 }
-    ensures { result ≡ upper_by w task b true t.0 }
+// U likewise. Where the hour minus the lower E would be before the plan, it is below the lower S.
+fn judge_upper(task: u16, b: Bounds, t: Hour) -> Judged
+    ensures { result ≡
+        (if ltb t.0 (b.earliest.0 + b.shortest.0) then Judged.Impossible else Judged.Moved task (with_latest b (t.0 - b.shortest.0))) }
 {
-    if t < w.bounds.latest {
-        return Judged::NotAdmitted;
-    }
-    if b.latest.plus(b.shortest) <= t {
-        return Judged::NotAdmitted;
-    }
     let Some(latest) = t.minus(b.shortest) else {
         return Judged::Impossible;
     };
@@ -152,13 +139,16 @@ impl State<'_> {
         let Some(w) = self.fits[i] else {
             return Judged::NotAdmitted;
         };
+        let b = plan::bounds_at(self.boxes, i);
+        if t < side.first_hour(w, b) || side.end_hour(w, b) <= t {
+            return Judged::NotAdmitted;
+        }
         if !self.has_excess(w, i, t, |room| self.load_in(room, t)) {
             return Judged::NotAdmitted;
         }
-        let b = plan::bounds_at(self.boxes, i);
         match side {
-            Side::Lower => judge_lower(w, task, b, t),
-            Side::Upper => judge_upper(w, task, b, t),
+            Side::Lower => judge_lower(task, b, t),
+            Side::Upper => judge_upper(task, b, t),
         }
     }
 
