@@ -1,6 +1,6 @@
 // The search for the first admitted step, in the filter's order.
 ghost use Rattle.std.specs.Prelude.{◌≡◌, ℕ, ◌*◌, ◌≤◌, ◌<◌, length, get_or};
-ghost use Rattle.units.specs.Limits.{most_hours, most_rooms};
+ghost use Rattle.units.specs.Limits.{most_hours};
 ghost use Rattle.plan.specs.Plan.{room_count, task_count};
 ghost use Rattle.plan.specs.Lent.{plan_in};
 ghost use Rattle.steps.specs.Filter.{first_by, filter_order};
@@ -35,20 +35,6 @@ fn room_overload(room: u16, loads: &[u16], capacity: Height) -> Option<Step>
         })
 }
 
-// The first O, by room, then hour.
-fn first_overload(hours: usize, loads: &[u16], capacities: &[u16]) -> Option<Step>
-    requires { (hours ≤ most_hours) × (length capacities.now ≤ most_rooms) × (length loads.now ≡ length capacities.now * hours) }
-    ensures { result ≡ first_overload hours loads.now capacities.now }
-{
-    for (room, capacity) in capacities.iter().enumerate() {
-        let in_room = plan::room_part(loads, hours, room);
-        if let Some(overload) = room_overload(room as u16, in_room, Height(*capacity)) {
-            return Some(overload);
-        }
-    }
-    None
-}
-
 // The most loads: one an hour in each room.
 const MOST_LOADS: usize = MOST_ROOMS * Duration::MOST as usize;
 
@@ -70,8 +56,23 @@ impl State<'_> {
         None
     }
 
-    // The first L, or the first U, by task, then hour. A task with no valid triple is skipped, and so are the hours in which no step of its can be
-    // admitted.
+    // The first O, by room, then hour, by the loads.
+    fn first_overload(&self, loads: &[u16]) -> Option<Step>
+        requires { let P = plan_in self.now.plan.now in length loads.now ≡ room_count P * P.shifts.hours }
+        ensures { let P = plan_in self.now.plan.now in result ≡ first_overload P.shifts.hours loads.now P.capacities }
+    {
+        let hours = self.plan.shifts.hours.0 as usize;
+        for (room, capacity) in self.plan.capacities.iter().enumerate() {
+            let in_room = plan::room_part(loads, hours, room);
+            if let Some(overload) = room_overload(room as u16, in_room, Height(*capacity)) {
+                return Some(overload);
+            }
+        }
+        None
+    }
+
+    // The first L, or the first U, by task, then hour, by the loads. A task with no valid triple is skipped, and so are the hours in which no step of
+    // its can be admitted.
     fn first_excess(&self, side: Side, loads: &[u16]) -> Option<Step>
         requires { let P = plan_in self.now.plan.now in Loaded P.shifts.hours (room_count P) (task_count P) loads.now self.now.fits.now P.heights }
         ensures { let P = plan_in self.now.plan.now in
@@ -111,9 +112,8 @@ impl State<'_> {
             (admitted_by P.shifts.hours (task_count P) P.capacities P.heights self.now.boxes.now self.now.fits.now) load_order }
     {
         self.fill_loads(loads);
-        let hours = self.plan.shifts.hours.0 as usize;
         // Tried as a chain of or_else: without clauses, nothing is proved of what its closures answer.
-        if let Some(overload) = first_overload(hours, loads, self.plan.capacities) {
+        if let Some(overload) = self.first_overload(loads) {
             return Some(overload);
         }
         if let Some(lower) = self.first_excess(Side::Lower, loads) {
