@@ -46,14 +46,3 @@ module _ (s t : ℕ) {r : Bool} (is : r ≡ leb s t) where
 
   pub not-at-most : r ≡ false → t < s
   not-at-most e = leb-false s t (sym is ∙ e)
-
--- of an end that was worked out
-module _ (t : ℕ) {n : ℕ} {end : Hour} {r : Bool} (is-end : end ≡ hour n) (is : r ≡ leb end.0 t) where
-  at_end : r ≡ leb n t
-  at_end = is ∙ ap (λ (h : Hour). leb h.0 t) is-end
-
-  pub end-at-most : r ≡ true → n ≤ t
-  end-at-most = at-most n t at_end
-
-  pub not-end-at-most : r ≡ false → t < n
-  not-end-at-most = not-at-most n t at_end
