@@ -13,29 +13,28 @@ use plan::{Plan, Refusal};
 use steps::{Accepted, Judged, Step};
 use turns::judge;
 
-// The replay of a log on a plan that passed its tests, from the boxes that the step before its first left, and whether that one said impossible;
-// its first step has the number `from`. The answers of the calendar rule are kept, and only the moved task's is worked out anew.
+// The replay of a log on a plan that passed its tests, after the steps that were accepted before its first, from the boxes that they left. The
+// answers of the calendar rule are kept, and only the moved task's is worked out anew.
 fn replay_log(
     plan: &Plan,
     boxes: &mut [u16],
     log_kinds: &[u8],
     log_tasks: &[u16],
     log_hours: &[u16],
-    from: usize,
-    said: bool,
+    after: Accepted,
 ) -> Result<Accepted, Refusal>
     requires passed { Passed (plan_in plan.now) boxes.old
         × (one_for_each_step log_kinds.now log_tasks.now log_hours.now ≡ true) }
-    requires count_fits { from + length log_kinds.now < 2 ^ 64 }
+    requires count_fits { after.steps + length log_kinds.now < 2 ^ 64 }
     ensures { let P = plan_in plan.now in
-        let e = replay_from P from said boxes.old (steps_in log_kinds.now log_tasks.now log_hours.now) in
+        let e = replay_from P after.steps after.impossible boxes.old (steps_in log_kinds.now log_tasks.now log_hours.now) in
         (answer_of result ≡ check_answer e) × (boxes.new ≡ e.boxes) }
 {
     let mut fits = kept::all_fits(&plan.shifts, boxes);
-    let mut impossible = said;
+    let mut impossible = after.impossible;
     for k in 0..log_kinds.len() {
         if impossible {
-            return Err(Refusal::AfterImpossible(from + k));
+            return Err(Refusal::AfterImpossible(after.steps + k));
         }
         let x = Step {
             kind: log_kinds[k],
@@ -45,10 +44,10 @@ fn replay_log(
         let judged = judge::judge_step(plan, boxes, &fits, x);
         match judged {
             Judged::Unknown => {
-                return Err(Refusal::UnknownStep(from + k));
+                return Err(Refusal::UnknownStep(after.steps + k));
             }
             Judged::NotAdmitted => {
-                return Err(Refusal::NotAdmitted(from + k));
+                return Err(Refusal::NotAdmitted(after.steps + k));
             }
             Judged::Impossible => {
                 impossible = true;
@@ -60,30 +59,34 @@ fn replay_log(
         }
     }
     Ok(Accepted {
-        steps: from + log_kinds.len(),
+        steps: after.steps + log_kinds.len(),
         impossible,
     })
 }
 
-// The log checker from a step on: over the log's steps from number `from`, on the boxes that the step before it left, and whether that one said
-// impossible. The answer counts from the log's first step.
+// The log checker from a step on: after the steps that were accepted before it, on the boxes that they left. The answer counts those steps too.
 pub fn check_from(
     plan: &Plan,
     boxes: &mut [u16],
     log_kinds: &[u8],
     log_tasks: &[u16],
     log_hours: &[u16],
-    from: usize,
-    said: bool,
+    after: Accepted,
 ) -> Result<Accepted, Refusal>
-    requires { from + length log_kinds.now < 2 ^ 64 }
+    requires { after.steps + length log_kinds.now < 2 ^ 64 }
     ensures { let P = plan_in plan.now in
-        let e = check_from P boxes.old log_kinds.now log_tasks.now log_hours.now from said in
+        let e = check_from P boxes.old log_kinds.now log_tasks.now log_hours.now after.steps after.impossible in
         (answer_of result ≡ check_answer e) × (boxes.new ≡ e.boxes) }
 {
     entry::test_entry(plan, boxes, log_kinds, log_tasks, log_hours)?;
-    replay_log(plan, boxes, log_kinds, log_tasks, log_hours, from, said)
+    replay_log(plan, boxes, log_kinds, log_tasks, log_hours, after)
 }
+
+// Before a log's first step.
+pub const NO_STEPS: Accepted = Accepted {
+    steps: 0,
+    impossible: false,
+};
 
 // The log checker. Accepted or refused by 11, 12 or 13, the boxes become those at the log's end; any other refusal changes nothing.
 pub fn check_log(
@@ -101,5 +104,5 @@ pub fn check_log(
         let steps = steps_in log_kinds.now log_tasks.now log_hours.now in
         CheckedHolds P boxes.old refusal steps (answer_of result) boxes.new }
 {
-    check_from(plan, boxes, log_kinds, log_tasks, log_hours, 0, false)
+    check_from(plan, boxes, log_kinds, log_tasks, log_hours, NO_STEPS)
 }

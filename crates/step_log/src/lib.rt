@@ -14,6 +14,7 @@ ghost use Rattle.step_log.specs.Inner.Parts.{no_step, part_size, part_steps, Siz
 
 use part::Part;
 use plan::{Plan, Refusal};
+use propagation::replay::NO_STEPS;
 use steps::{Accepted, Filtered, Step};
 
 mod part;
@@ -49,17 +50,14 @@ pub fn check_log(plan: &Plan, boxes: &mut [u16], log: &[Step]) -> Result<Accepte
     ensures holds { let P = plan_in plan.now in
         CheckedHolds P boxes.old (input_fault P boxes.old) log.now (answer_of result) boxes.new }
 {
-    let mut from = 0;
-    let mut said = false;
+    let mut accepted = NO_STEPS;
     loop {
-        let steps = part_at(log, from);
-        let accepted = part::check_part(plan, boxes, from, said, steps)?;
+        let steps = part_at(log, accepted.steps);
+        accepted = part::check_part(plan, boxes, accepted, steps)?;
         // A part that is not full is the last one.
         if steps.count < Part::SIZE {
             return Ok(accepted);
         }
-        from = accepted.steps;
-        said = accepted.impossible;
     }
 }
 

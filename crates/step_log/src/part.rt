@@ -75,18 +75,16 @@ pub fn step_of(part: Part, k: usize) -> Step
     }
 }
 
-// The log checker from a step of the log on, over one part: on the boxes that the step before it left, and whether that one said impossible.
-// Accepting, it counts the steps from the log's first.
+// The log checker over one part, after the steps that were accepted before it, on the boxes that they left. Accepting, it counts those steps too.
 pub fn check_part(
     plan: &Plan,
     boxes: &mut [u16],
-    from: usize,
-    said: bool,
+    after: Accepted,
     part: Part,
 ) -> Result<Accepted, Refusal>
-    requires { (part.count ≤ part_size) × Sized part × (from + part.count < 2 ^ 64) }
+    requires { (part.count ≤ part_size) × Sized part × (after.steps + part.count < 2 ^ 64) }
     ensures { let P = plan_in plan.now in
-        CheckedAs (check_steps_from P from said boxes.old (part_steps part)) result boxes.new }
+        CheckedAs (check_steps_from P after.steps after.impossible boxes.old (part_steps part)) result boxes.new }
 {
     let count = part.count;
     let kinds = part.kinds;
@@ -98,8 +96,7 @@ pub fn check_part(
         &kinds[..count],
         &tasks[..count],
         &task_hours[..count],
-        from,
-        said,
+        after,
     )
 }
 

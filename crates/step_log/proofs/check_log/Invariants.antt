@@ -7,7 +7,7 @@ use Rattle.step_log.proofs.check_log.Given as goal
 abbrev pub invariant-loop-accepted : goal.invariant-loop-accepted
 invariant-loop-accepted l =
     Going (plan_in l.plan)
-    l.initial.boxes l.log l.from l.said l.boxes
+    l.initial.boxes l.log l.accepted.steps l.accepted.impossible l.boxes
 
 abbrev pub decreases-loop-accepted : goal.decreases-loop-accepted
-decreases-loop-accepted l = length l.log - l.from
+decreases-loop-accepted l = length l.log - l.accepted.steps

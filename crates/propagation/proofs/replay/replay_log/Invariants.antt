@@ -9,5 +9,5 @@ abbrev pub invariant-loop-k : goal.invariant-loop-k
 invariant-loop-k l =
     (l.k ≤ l.k-end)
     × (l.k-end ≡ length l.log_kinds)
-    × Replaying (plan_in l.plan) l.from l.said l.initial.boxes
+    × Replaying (plan_in l.plan) l.after.steps l.after.impossible l.initial.boxes
     l.log_kinds l.log_tasks l.log_hours l.k l.impossible l.boxes l.fits
