@@ -23,7 +23,8 @@ use Rattle.steps.specs.Inner.From.{check_from}
 use Rattle.steps.proofs.Contracts.{same-fault}
 use Rattle.step_log.specs.declared.part.Part.{Part}
 use Rattle.step_log.specs.Entry.{check_steps}
-use Rattle.step_log.specs.Inner.Parts.{part_size, part_steps, Sized, check_steps_from, CheckedAs}
+use Rattle.step_log.specs.Inner.Size.{part_size}
+use Rattle.step_log.specs.Inner.Parts.{part_steps, check_steps_from, CheckedAs}
 use Rattle.step_log.proofs.Copying.{part_length, steps-lent}
 use Rattle.step_log.proofs.Passing.{replay-passes}
 use Rattle.step_log.proofs.Appending.{replay-append, goes_on, ends_there, replay-reaches}
@@ -73,16 +74,17 @@ module _ (P : Plan) (boxes : List ℕ) (k : ℕ) (said : Bool) (steps : List Ste
   from-refused f e = rw e
 
 -- by the core, lent the first cells of the part's arrays
-module _ (P : Plan) (boxes : List ℕ) (from : ℕ) (said : Bool) (part : Part) (few : part.count ≤ part_size) (size : Sized part) where
+module _ (P : Plan) (boxes : List ℕ) (from : ℕ) (said : Bool) (part : Part) (all_kinds : length part.kinds ≡ part_size)
+    (all_tasks : length part.tasks ≡ part_size) (all_hours : length part.hours ≡ part_size) where
   abbrev core : LogEnd
   core = check_from P boxes (take part.count part.kinds) (take part.count part.tasks) (take part.count part.hours) from said
 
   core_is : core ≡ check_steps_from P from said boxes (part_steps part)
   unfolding check_from check_steps_from part_steps
   core_is =
-      let l : part.count ≤ length part.kinds = omega (arith, size.all_kinds) in
-      let m : part.count ≤ length part.tasks = omega (arith, size.all_tasks) in
-      let o : part.count ≤ length part.hours = omega (arith, size.all_hours) in
+      let l : part.count ≤ length part.kinds = omega (arith, part.counted, all_kinds) in
+      let m : part.count ≤ length part.tasks = omega (arith, part.counted, all_tasks) in
+      let o : part.count ≤ length part.hours = omega (arith, part.counted, all_hours) in
       rw (
         lent-fault P boxes part.kinds part.tasks part.hours part.count l m o,
         steps-lent part.kinds part.tasks part.hours
@@ -159,8 +161,8 @@ module _ (P : Plan) (opening : List ℕ) (log : List Step) (from : ℕ) (said : 
   count-is =
       sym (part_length steps) ∙ ap length is ∙ length-take part_size (drop from log) ∙ ap (min part_size) (length-drop from log)
 
-  pub part-inside : (steps.count ≤ part_size) × (from + steps.count ≤ length log)
-  part-inside = (omega (arith, count-is), omega (arith, count-is, g.inside))
+  pub part-inside : from + steps.count ≤ length log
+  part-inside = omega (arith, count-is, g.inside)
 
   parts : part_steps steps ++ drop part_size (drop from log) ≡ drop from log
   parts = ap (λ (l : List Step). l ++ drop part_size (drop from log)) is ∙ take-append-drop part_size (drop from log)
@@ -197,9 +199,9 @@ module _ (P : Plan) (opening : List ℕ) (log : List Step) (from : ℕ) (said : 
       part-goes-on kept full =
           let (accepted, number, said-is) = accepted-end part_end a c.answers in
           let rest = part-accepted P from said boxes (part_steps steps) (drop part_size (drop from log)) accepted in
-          let at : a.steps ≡ from + part_size = omega (arith, number, rest.all, part_length steps, full, part-inside.0) in (
+          let at : a.steps ≡ from + part_size = omega (arith, number, rest.all, part_length steps, full, steps.counted) in (
             record {
-              inside = omega (arith, at, full, part-inside.1);
+              inside = omega (arith, at, full, part-inside);
               ends =
                   ap (λ (n : ℕ). check_steps_from P a.steps a.impossible left (drop n log)) at
                   ∙ ap (λ (l : List Step). check_steps_from P a.steps a.impossible left l) (sym (drop-drop part_size from log))

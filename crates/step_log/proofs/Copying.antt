@@ -16,7 +16,8 @@ use Rattle.steps.specs.declared.Step.{Step}
 use Rattle.steps.specs.Steps.{step}
 use Rattle.steps.specs.Entry.{step_at, steps_from, steps_in}
 use Rattle.step_log.specs.declared.part.Part.{Part}
-use Rattle.step_log.specs.Inner.Parts.{no_step, part_size, part_steps, Sized}
+use Rattle.step_log.specs.Inner.Size.{part_size}
+use Rattle.step_log.specs.Inner.Parts.{no_step, part_steps}
 
 -- ---- the steps in three lists
 
@@ -87,33 +88,22 @@ module _ (ks ts hs : List ℕ) (n : ℕ) where
           ∙ ap (λ (a : ℕ). step (get_or ks i 0) a (get_or (take n hs) i 0)) (get_or-take n ts i 0 q)
           ∙ ap (λ (a : ℕ). step (get_or ks i 0) (get_or ts i 0) a) (get_or-take n hs i 0 q)
 
-pub sized-more : (p q : Part) (n a b c : ℕ) → q.kinds ≡ set p.kinds n a → q.tasks ≡ set p.tasks n b → q.hours ≡ set p.hours n c
-    → Sized p → Sized q
-sized-more p q n a b c k t h size =
-    record {
-      all_kinds = ap length k ∙ length-set p.kinds n a ∙ size.all_kinds;
-      all_tasks = ap length t ∙ length-set p.tasks n b ∙ size.all_tasks;
-      all_hours = ap length h ∙ length-set p.hours n c ∙ size.all_hours;
-    }
-
 -- ---- out of a lent log
 
 -- what is copied of the steps by the turn of number i
 pub record Copied (l : List Step) (i : ℕ) (p : Part) : Type 0 where
   pub steps : part_steps p ≡ take i l
   pub number : p.count ≡ i
-  pub sized : Sized p
 
 pub one-copied : (l : List Step) (i : ℕ) (p q : Part) → Copied l i p → i < length l
-    → part_steps q ≡ part_steps p ++ (get_or l i no_step ∷ []) → q.count ≡ p.count + 1 → Sized q → Copied l (i + 1) q
-one-copied l i p q c inside s n size =
+    → part_steps q ≡ part_steps p ++ (get_or l i no_step ∷ []) → q.count ≡ p.count + 1 → Copied l (i + 1) q
+one-copied l i p q c inside s n =
     record {
       steps = s
           ∙ ap (λ (m : List Step). m ++ (get_or l i no_step ∷ [])) c.steps
           ∙ sym (take-suc l i no_step inside)
           ∙ ap (λ (k : ℕ). take k l) (sym (add-one i));
       number = omega (arith, n, c.number);
-      sized = size;
     }
 
 module _ (log : List Step) (from : ℕ) where

@@ -31,7 +31,8 @@ use Rattle.steps.proofs.Runs.{run_settled, run-stops, run-moves, run-all, run-re
 use Rattle.steps.proofs.Contracts.{steps-written}
 use Rattle.step_log.specs.declared.part.PartFiltered.{PartFiltered}
 use Rattle.step_log.specs.Entry.{StepsEnd, steps_end, logged_steps, filter_steps}
-use Rattle.step_log.specs.Inner.Parts.{part_size, part_steps, does_go_on, part_run, RanAs, FilteredAs}
+use Rattle.step_log.specs.Inner.Size.{part_size}
+use Rattle.step_log.specs.Inner.Parts.{part_steps, does_go_on, part_run, RanAs, FilteredAs}
 use Rattle.step_log.proofs.Passing.{replay-passes}
 use Rattle.step_log.proofs.Checking.{lent-fault}
 
@@ -182,7 +183,11 @@ module _ (cells : ℕ) (l : cells ≤ part_size) where
       unfolding logged_from
       count-is = counted f ran.ending (taken + count ran) (ap (λ (x : FilterEnd). x.answer) core-is)
 
-      pub ran-as : cells ≡ min part_size (room - taken)
+      -- the part's steps are as many as a part holds
+      pub count-inside : f.count - taken ≤ part_size
+      count-inside = omega (arith, count-is, run_fits (next P) boxes cells, l)
+
+      pub ran-as : (fits : f.count - taken ≤ part_size) → cells ≡ min part_size (room - taken)
           → FilteredAs P boxes taken room
           (Ok (record {
             steps = record {
@@ -190,12 +195,13 @@ module _ (cells : ℕ) (l : cells ≤ part_size) where
               tasks = ts ++ drop cells blank;
               hours = hs ++ drop cells blank;
               count = f.count - taken;
+              counted = fits;
             };
             filtered = f;
           }))
           left
       unfolding part_run part_steps logged_from written
-      ran-as few =
+      ran-as fits few =
           let past : List ℕ → List ℕ = λ l. drop (length l) (take cells blank) in
           let number : f.count - taken ≡ count ran = omega (arith, count-is) in
           let kinds = ks ++ drop cells blank in
@@ -204,7 +210,7 @@ module _ (cells : ℕ) (l : cells ≤ part_size) where
             passed-core,
             subst
                 (λ (n : ℕ). RanAs (run P boxes n) taken
-                (record { steps = record { kinds = kinds; tasks = tasks; hours = hours; count = f.count - taken }; filtered = f }) left)
+                (record { steps = record { kinds = kinds; tasks = tasks; hours = hours; count = f.count - taken; counted = fits }; filtered = f }) left)
                 few
                 record {
                   answers = ap (λ (x : FilterEnd). x.answer) core-is;
@@ -284,11 +290,9 @@ module _ (P : Plan) (opening : List ℕ) (cells : List Step) (taken : ℕ) (boxe
     as_run = c.1
 
     -- the part's steps fit the log
-    pub steps-inside : (taken + f.steps.count ≤ length log) × (f.steps.count ≤ part_size)
+    pub steps-inside : taken + f.steps.count ≤ length log
     unfolding part_run
-    steps-inside =
-        let fits = run_fits (next P) boxes (min part_size (room - taken)) in
-        (omega (arith, same_log, t.inside, fits, as_run.number), omega (arith, fits, as_run.number))
+    steps-inside = omega (arith, same_log, t.inside, run_fits (next P) boxes (min part_size (room - taken)), as_run.number)
 
     module _ (new : List Step) (is : new ≡ take taken log ++ written (part_steps f.steps) (drop taken log)) where
       -- the log with the part's steps

@@ -1,2 +1,3 @@
 -- What only contracts of private functions cite.
+pub mod Size
 pub mod Parts

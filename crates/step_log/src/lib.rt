@@ -10,9 +10,10 @@ ghost use Rattle.plan.specs.Refusals.{answer_of};
 ghost use Rattle.steps.specs.Claim.{CheckedHolds, FilterHolds};
 ghost use Rattle.steps.specs.Entry.{check_answer, filter_answer};
 ghost use Rattle.step_log.specs.Entry.{check_steps, steps_end, filter_steps};
-ghost use Rattle.step_log.specs.Inner.Parts.{no_step, part_size, part_steps, Sized};
+ghost use Rattle.step_log.specs.Inner.Size.{part_size};
+ghost use Rattle.step_log.specs.Inner.Parts.{no_step, part_steps};
 
-use part::Part;
+use part::{Part, PartFiltered};
 use plan::{Plan, Refusal};
 use propagation::replay::NO_STEPS;
 use steps::{Accepted, Filtered, Step};
@@ -22,23 +23,23 @@ mod part;
 // The steps from one on, as many as a part holds or the log has.
 fn part_at(log: &[Step], from: usize) -> Part
     requires { from ≤ length log.now }
-    ensures { (part_steps result ≡ take part_size (drop from log.now)) × Sized result }
+    ensures { part_steps result ≡ take part_size (drop from log.now) }
 {
     let end = part::part_end(from, log.len());
-    let mut steps = part::no_steps();
+    let mut steps = Part::no_steps();
     for x in &log[from..end] {
-        steps = part::with_step(steps, *x);
+        steps = steps.with_step(*x);
     }
     steps
 }
 
 // The steps of a part become those of the log from one on.
 fn put_part(log: &mut [Step], from: usize, steps: Part)
-    requires { (from + steps.count ≤ length log.old) × (steps.count ≤ part_size) }
+    requires { from + steps.count ≤ length log.old }
     ensures { log.new ≡ (take from log.old ++ written (part_steps steps) (drop from log.old)) }
 {
     for k in 0..steps.count {
-        log[from + k] = part::step_of(steps, k);
+        log[from + k] = steps.step(k);
     }
 }
 
@@ -53,7 +54,7 @@ pub fn check_log(plan: &Plan, boxes: &mut [u16], log: &[Step]) -> Result<Accepte
     let mut accepted = NO_STEPS;
     loop {
         let steps = part_at(log, accepted.steps);
-        accepted = part::check_part(plan, boxes, accepted, steps)?;
+        accepted = steps.check(plan, boxes, accepted)?;
         // A part that is not full is the last one.
         if steps.count < Part::SIZE {
             return Ok(accepted);
@@ -71,9 +72,9 @@ pub fn filter(plan: &Plan, boxes: &mut [u16], log: &mut [Step]) -> Result<Filter
     let room = log.len();
     let mut taken = 0;
     loop {
-        let part = part::filter_part(plan, boxes, taken, room)?;
+        let part = PartFiltered::run(plan, boxes, taken, room)?;
         put_part(log, taken, part.steps);
-        if !part::goes_on(part.filtered, room) {
+        if !part.goes_on(room) {
             return Ok(part.filtered);
         }
         taken = part.filtered.count;

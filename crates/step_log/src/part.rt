@@ -2,7 +2,7 @@
 ghost use Rattle.std.specs.Prelude.{◌≡◌, [], ◌∷◌, ◌++◌, ◌+◌, ◌-◌, ◌^◌, ◌≤◌, ◌<◌, min, Ok};
 ghost use Rattle.plan.specs.Lent.{plan_in};
 ghost use Rattle.steps.specs.Entry.{step_at, filter_answer};
-ghost use Rattle.step_log.specs.Inner.Parts.{part_size, part_steps, Sized, check_steps_from, CheckedAs, does_go_on, FilteredAs};
+ghost use Rattle.step_log.specs.Inner.Size.{part_size};
 
 use plan::{Plan, Refusal};
 use steps::{Accepted, Ending, Filtered, Step};
@@ -15,18 +15,72 @@ pub struct Part {
     pub tasks: [u16; Part::SIZE],
     pub hours: [u16; Part::SIZE],
     pub count: usize,
+    ghost counted: { count ≤ part_size },
 }
 
 impl Part {
+    ghost use Rattle.step_log.specs.Inner.Parts.{part_steps, check_steps_from, CheckedAs};
+
     // The most steps.
     pub const SIZE: usize = 64;
-}
 
-// What the filter comes to with a part: its steps, and how the run stands with them, which counts the steps of the parts before it too.
-#[derive(Clone, Copy)]
-pub struct PartFiltered {
-    pub steps: Part,
-    pub filtered: Filtered,
+    #[tactic(auto, unfolding(crate::specs::Inner::Parts::part_steps, steps::specs::Entry::steps_from))]
+    pub fn no_steps() -> Part
+        ensures { (part_steps result ≡ []) × (result.count ≡ 0) }
+    {
+        Part {
+            kinds: [0; Part::SIZE],
+            tasks: [0; Part::SIZE],
+            hours: [0; Part::SIZE],
+            count: 0,
+        }
+    }
+
+    // One step more.
+    pub fn with_step(self, x: Step) -> Part
+        requires { self.count < part_size }
+        ensures { (part_steps result ≡ (part_steps self ++ (x ∷ []))) × (result.count ≡ self.count + 1) }
+    {
+        let mut longer = self;
+        let at = self.count;
+        longer.kinds[at] = x.kind;
+        longer.tasks[at] = x.task;
+        longer.hours[at] = x.hour;
+        longer.count = at + 1;
+        longer
+    }
+
+    #[tactic(auto, unfolding(steps::specs::Entry::step_at))]
+    pub fn step(self, k: usize) -> Step
+        requires { k < part_size }
+        ensures { result ≡ step_at self.kinds self.tasks self.hours k }
+    {
+        Step {
+            kind: self.kinds[k],
+            task: self.tasks[k],
+            hour: self.hours[k],
+        }
+    }
+
+    // The log checker over one part, after the steps that were accepted before it, on the boxes that they left. Accepting, it counts those steps too.
+    pub fn check(self, plan: &Plan, boxes: &mut [u16], after: Accepted) -> Result<Accepted, Refusal>
+        requires { after.steps + self.count < 2 ^ 64 }
+        ensures { let P = plan_in plan.now in
+            CheckedAs (check_steps_from P after.steps after.impossible boxes.old (part_steps self)) result boxes.new }
+    {
+        let count = self.count;
+        let kinds = self.kinds;
+        let tasks = self.tasks;
+        let task_hours = self.hours;
+        propagation::replay::check_from(
+            plan,
+            boxes,
+            &kinds[..count],
+            &tasks[..count],
+            &task_hours[..count],
+            after,
+        )
+    }
 }
 
 // Where a part from one step on ends, in a log of so many steps.
@@ -37,108 +91,56 @@ pub fn part_end(from: usize, length: usize) -> usize
     from + Part::SIZE.min(length - from)
 }
 
-#[tactic(auto, unfolding(crate::specs::Inner::Parts::part_steps, steps::specs::Entry::steps_from))]
-pub fn no_steps() -> Part
-    ensures { (part_steps result ≡ []) × (result.count ≡ 0) × Sized result }
-{
-    Part {
-        kinds: [0; Part::SIZE],
-        tasks: [0; Part::SIZE],
-        hours: [0; Part::SIZE],
-        count: 0,
+// What the filter comes to with a part: its steps, and how the run stands with them, which counts the steps of the parts before it too.
+#[derive(Clone, Copy)]
+pub struct PartFiltered {
+    pub steps: Part,
+    pub filtered: Filtered,
+}
+
+impl PartFiltered {
+    ghost use Rattle.step_log.specs.Inner.Parts.{does_go_on, FilteredAs};
+
+    // The filter over one part, after so many steps and with room for so many in all, on the boxes that those steps left.
+    pub fn run(
+        plan: &Plan,
+        boxes: &mut [u16],
+        taken: usize,
+        room: usize,
+    ) -> Result<PartFiltered, Refusal>
+        requires { taken ≤ room }
+        ensures { let P = plan_in plan.now in
+            FilteredAs P boxes.old taken room result boxes.new }
+    {
+        let mut kinds = [0u8; Part::SIZE];
+        let mut tasks = [0u16; Part::SIZE];
+        let mut task_hours = [0u16; Part::SIZE];
+        let cells = part_end(taken, room) - taken;
+        let filtered = propagation::filter::filter_from(
+            plan,
+            boxes,
+            &mut kinds[..cells],
+            &mut tasks[..cells],
+            &mut task_hours[..cells],
+            taken,
+        )?;
+        let steps = Part {
+            kinds,
+            tasks,
+            hours: task_hours,
+            count: filtered.count - taken,
+        };
+        Ok(PartFiltered { steps, filtered })
     }
-}
 
-// One step more.
-pub fn with_step(part: Part, x: Step) -> Part
-    requires { (part.count < part_size) × Sized part }
-    ensures { (part_steps result ≡ (part_steps part ++ (x ∷ []))) × (result.count ≡ part.count + 1) × Sized result }
-{
-    let mut longer = part;
-    let at = part.count;
-    longer.kinds[at] = x.kind;
-    longer.tasks[at] = x.task;
-    longer.hours[at] = x.hour;
-    longer.count = at + 1;
-    longer
-}
-
-#[tactic(auto, unfolding(steps::specs::Entry::step_at))]
-pub fn step_of(part: Part, k: usize) -> Step
-    requires { k < part_size }
-    ensures { result ≡ step_at part.kinds part.tasks part.hours k }
-{
-    Step {
-        kind: part.kinds[k],
-        task: part.tasks[k],
-        hour: part.hours[k],
+    // Whether the run goes on: it stopped for room, and there is room in all.
+    #[tactic(auto, unfolding(steps::specs::Entry::ending_answer))]
+    pub fn goes_on(self, room: usize) -> bool
+        ensures { result ≡ does_go_on room (filter_answer (Ok self.filtered)) }
+    {
+        match self.filtered.ending {
+            Ending::NoRoom => self.filtered.count < room,
+            Ending::Settled | Ending::Impossible => false,
+        }
     }
-}
-
-// The log checker over one part, after the steps that were accepted before it, on the boxes that they left. Accepting, it counts those steps too.
-pub fn check_part(
-    plan: &Plan,
-    boxes: &mut [u16],
-    after: Accepted,
-    part: Part,
-) -> Result<Accepted, Refusal>
-    requires { (part.count ≤ part_size) × Sized part × (after.steps + part.count < 2 ^ 64) }
-    ensures { let P = plan_in plan.now in
-        CheckedAs (check_steps_from P after.steps after.impossible boxes.old (part_steps part)) result boxes.new }
-{
-    let count = part.count;
-    let kinds = part.kinds;
-    let tasks = part.tasks;
-    let task_hours = part.hours;
-    propagation::replay::check_from(
-        plan,
-        boxes,
-        &kinds[..count],
-        &tasks[..count],
-        &task_hours[..count],
-        after,
-    )
-}
-
-// Whether the run goes on: it stopped for room, and there is room in all.
-#[tactic(auto, unfolding(steps::specs::Entry::ending_answer))]
-pub fn goes_on(filtered: Filtered, room: usize) -> bool
-    ensures { result ≡ does_go_on room (filter_answer (Ok filtered)) }
-{
-    match filtered.ending {
-        Ending::NoRoom => filtered.count < room,
-        Ending::Settled | Ending::Impossible => false,
-    }
-}
-
-// The filter over one part, after so many steps and with room for so many in all, on the boxes that those steps left.
-pub fn filter_part(
-    plan: &Plan,
-    boxes: &mut [u16],
-    taken: usize,
-    room: usize,
-) -> Result<PartFiltered, Refusal>
-    requires { taken ≤ room }
-    ensures { let P = plan_in plan.now in
-        FilteredAs P boxes.old taken room result boxes.new }
-{
-    let mut kinds = [0u8; Part::SIZE];
-    let mut tasks = [0u16; Part::SIZE];
-    let mut task_hours = [0u16; Part::SIZE];
-    let cells = part_end(taken, room) - taken;
-    let filtered = propagation::filter::filter_from(
-        plan,
-        boxes,
-        &mut kinds[..cells],
-        &mut tasks[..cells],
-        &mut task_hours[..cells],
-        taken,
-    )?;
-    let steps = Part {
-        kinds,
-        tasks,
-        hours: task_hours,
-        count: filtered.count - taken,
-    };
-    Ok(PartFiltered { steps, filtered })
 }

@@ -8,15 +8,14 @@ use Rattle.step_log.proofs.check_log.Goals as goal
 pub loop-accepted-init : goal.loop-accepted-init
 loop-accepted-init c = going-opens _ _ _
 
-pub check_part-requires : goal.check_part-requires
-check_part-requires c =
-    let inside = part-inside _ _ _ _ _ _ c.loop-accepted.invariant c.part_at-steps.result c.part_at-steps.ensures.0 in
-    (inside.0, c.part_at-steps.ensures.1, omega (arith, c.well_formed, inside.1))
+pub check-requires : goal.check-requires
+check-requires c =
+    omega (arith, c.well_formed, part-inside _ _ _ _ _ _ c.loop-accepted.invariant c.part_at-steps.result c.part_at-steps.ensures)
 
 pub returns-in_err-accepted : goal.returns-in_err-accepted
 returns-in_err-accepted c =
     let (is, leaves) =
-    part-refuses _ _ _ _ _ _ c.loop-accepted.invariant _ c.part_at-steps.ensures.0 _ _ c.in_err-accepted.ensures in
+    part-refuses _ _ _ _ _ _ c.loop-accepted.invariant _ c.part_at-steps.ensures _ _ c.in_err-accepted.ensures in
     let (answer, holds) = checks-steps _ _ _ _ _ (refused-on _ _ c.from_residual.ensures.1 ∙ is, leaves) in
     record { answer = answer; holds = holds }
 
@@ -24,18 +23,18 @@ pub returns-then-steps-lt-SIZE : goal.returns-then-steps-lt-SIZE
 returns-then-steps-lt-SIZE c =
     let (answer, holds) =
     checks-steps _ _ _ _ _
-    (part-ends _ _ _ _ _ _ c.loop-accepted.invariant _ c.part_at-steps.ensures.0 _ _ c.in_ok-accepted.ensures c.if-steps-lt-SIZE.true) in
+    (part-ends _ _ _ _ _ _ c.loop-accepted.invariant _ c.part_at-steps.ensures _ _ c.in_ok-accepted.ensures c.if-steps-lt-SIZE.true) in
     record { answer = answer; holds = holds }
 
 pub loop-accepted-smaller : goal.loop-accepted-smaller
 loop-accepted-smaller c =
     let (going, further) =
-    part-goes-on _ _ _ _ _ _ c.loop-accepted.invariant _ c.part_at-steps.ensures.0 _ _ c.in_ok-accepted.ensures
-    c.check_part.auto.boxes c.if-steps-lt-SIZE.false in
+    part-goes-on _ _ _ _ _ _ c.loop-accepted.invariant _ c.part_at-steps.ensures _ _ c.in_ok-accepted.ensures
+    c.check.auto.boxes c.if-steps-lt-SIZE.false in
     omega (arith, further, going.inside)
 
 pub loop-accepted-preserved : goal.loop-accepted-preserved
 loop-accepted-preserved c =
-    (part-goes-on _ _ _ _ _ _ c.loop-accepted.invariant _ c.part_at-steps.ensures.0 _ _ c.in_ok-accepted.ensures
-    c.check_part.auto.boxes c.if-steps-lt-SIZE.false
+    (part-goes-on _ _ _ _ _ _ c.loop-accepted.invariant _ c.part_at-steps.ensures _ _ c.in_ok-accepted.ensures
+    c.check.auto.boxes c.if-steps-lt-SIZE.false
     ).0

@@ -25,12 +25,12 @@ returns-then-not-goes_on c =
 pub loop-part-smaller : goal.loop-part-smaller
 loop-part-smaller c =
     let (going, further) =
-    part-runs-on _ _ _ _ _ _ c.loop-part.invariant _ _ c.in_ok-part.ensures _ c.put_part.ensures c.filter_part.auto.boxes
+    part-runs-on _ _ _ _ _ _ c.loop-part.invariant _ _ c.in_ok-part.ensures _ c.put_part.ensures c.run.auto.boxes
     (sym c.goes_on.ensures ∙ c.if-not-goes_on.false) in
     omega (arith, further, going.inside)
 
 pub loop-part-preserved : goal.loop-part-preserved
 loop-part-preserved c =
-    (part-runs-on _ _ _ _ _ _ c.loop-part.invariant _ _ c.in_ok-part.ensures _ c.put_part.ensures c.filter_part.auto.boxes
+    (part-runs-on _ _ _ _ _ _ c.loop-part.invariant _ _ c.in_ok-part.ensures _ c.put_part.ensures c.run.auto.boxes
     (sym c.goes_on.ensures ∙ c.if-not-goes_on.false)
     ).0

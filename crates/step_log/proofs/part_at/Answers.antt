@@ -7,10 +7,7 @@ pub loop-x-preserved : goal.loop-x-preserved
 unfolding no_step
 loop-x-preserved c =
     one-copied _ _ _ _ c.loop-x.invariant c.loop-x-test.true
-    c.with_step-steps.ensures.0 c.with_step-steps.ensures.1 c.with_step-steps.ensures.2
+    c.with_step-steps.ensures.0 c.with_step-steps.ensures.1
 
 pub returns : goal.returns
-returns c = (
-  all-copied _ _ _ _ _ c.loop-x.invariant (omega (arith, c.loop-x-test.false)) c.part_end-end.ensures,
-  c.loop-x.invariant.sized,
-)
+returns c = all-copied _ _ _ _ _ c.loop-x.invariant (omega (arith, c.loop-x-test.false)) c.part_end-end.ensures

@@ -14,9 +14,9 @@ pub loop-k-preserved : goal.loop-k-preserved
 loop-k-preserved c =
     let a = c.args in
     let k = c.loop-k.k in
-    one-put a.log.now a.from a.steps k _ (omega (arith, c.loop-k-test.true, c.requires.0))
-    (ap (λ (l : List Step). set l (a.from + k) c.step_of.result) c.loop-k.invariant
-    ∙ ap (λ (y : Step). set (put_in a.log.now a.from a.steps k) (a.from + k) y) c.step_of.ensures)
+    one-put a.log.now a.from a.steps k _ (omega (arith, c.loop-k-test.true, c.requires))
+    (ap (λ (l : List Step). set l (a.from + k) c.step.result) c.loop-k.invariant
+    ∙ ap (λ (y : Step). set (put_in a.log.now a.from a.steps k) (a.from + k) y) c.step.ensures)
 
 pub returns : goal.returns
 returns c =

@@ -1,6 +1,6 @@
 -- A part of a log: the steps that the core is called with at a time, and what the log checker and the filter come to with them. No public contract
 -- names a part.
-use Rattle.std.specs.Prelude.{Bool, false, ◌≡◌, List, ℕ, ◌+◌, ◌-◌, min, ltb, length}
+use Rattle.std.specs.Prelude.{Bool, false, ◌≡◌, List, ℕ, ◌+◌, ◌-◌, min, ltb}
 use Rattle.std.specs.Prelude.{None, Some, Result, Ok, Err}
 use Rattle.units.specs.Choice.{on_option}
 use Rattle.plan.specs.Plan.{Plan}
@@ -16,21 +16,13 @@ use Rattle.steps.specs.Entry.{steps_from, check_answer, FilterAnswer, refused_by
 use Rattle.steps.specs.Entry.{no_room_for, settled_after, impossible_after, ending_answer, filter_answer}
 use Rattle.step_log.specs.declared.part.Part.{Part}
 use Rattle.step_log.specs.declared.part.PartFiltered.{PartFiltered}
+use Rattle.step_log.specs.Inner.Size.{part_size}
 
 abbrev pub no_step : Step
 no_step = steps.step 0 0 0
 
-abbrev pub part_size : ℕ
-part_size = 64
-
 unfoldable pub part_steps : Part → List Step
 part_steps p = steps_from p.kinds p.tasks p.hours 0 p.count
-
--- its arrays are whole
-pub record Sized (p : Part) : Type 0 where
-  pub all_kinds : length p.kinds ≡ part_size
-  pub all_tasks : length p.tasks ≡ part_size
-  pub all_hours : length p.hours ≡ part_size
 
 -- ---- the log checker
 
