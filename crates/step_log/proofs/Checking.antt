@@ -155,7 +155,7 @@ going-opens P opening log =
       same = refl;
     }
 
-module _ (P : Plan) (opening : List ℕ) (log : List Step) (from : ℕ) (said : Bool) (boxes : List ℕ) (g : Going P opening log from said boxes)
+module _ {P : Plan} {opening : List ℕ} {log : List Step} {from : ℕ} {said : Bool} {boxes : List ℕ} (g : Going P opening log from said boxes)
     (steps : Part) (is : part_steps steps ≡ take part_size (drop from log)) where
   count-is : steps.count ≡ min part_size (length log - from)
   count-is =
@@ -173,42 +173,49 @@ module _ (P : Plan) (opening : List ℕ) (log : List Step) (from : ℕ) (said : 
   abbrev LogEnds : Answer Accepted → List ℕ → Type 0
   LogEnds answer left = (answer ≡ check_answer (check_steps P opening log)) × (left ≡ (check_steps P opening log).boxes)
 
-  module _ (left : List ℕ) where
+  module _ {left : List ℕ} where
     -- a part's end that is the log's
     ends-log : (answer : Result Accepted Refusal) → CheckedAs part_end answer left → part_end ≡ check_steps P opening log
         → LogEnds (answer_of answer) left
     ends-log answer c q = (c.answers ∙ ap check_answer q, c.leaves ∙ ap (λ (e : LogEnd). e.boxes) q)
 
     -- a part that is refused is the log's end
-    pub part-refuses : (d : Refusal) → CheckedAs part_end (Err d) left → LogEnds (refused (fault_of d)) left
-    part-refuses d c =
+    pub part-refuses : {d : Refusal} → CheckedAs part_end (Err d) left → LogEnds (refused (fault_of d)) left
+    part-refuses {d} c =
         ends-log (Err d) c
         (part-refused P from said boxes (part_steps steps) (drop part_size (drop from log)) (fault_of d) (refused_end part_end (fault_of d) c.answers)
         ∙ ap (check_steps_from P from said boxes) parts
         ∙ g.ends)
 
-    module _ (a : Accepted) (c : CheckedAs part_end (Ok a) left) where
+    module _ {a : Accepted} (c : CheckedAs part_end (Ok a) left) where
       -- a part that is not full is the last one
       pub part-ends : steps.count < part_size → LogEnds (answered a) left
       part-ends few =
           let short : length (drop from log) ≤ part_size = rw (length-drop from log) (omega (arith, few, count-is)) in
           ends-log (Ok a) c (ap (check_steps_from P from said boxes) (is ∙ take_all part_size (drop from log) short) ∙ g.ends)
 
-      -- after a full part that is accepted the log goes on
-      pub part-goes-on : length left ≡ length boxes → part_size ≤ steps.count → Going P opening log a.steps a.impossible left × (from < a.steps)
-      part-goes-on kept full =
-          let (accepted, number, said-is) = accepted-end part_end a c.answers in
-          let rest = part-accepted P from said boxes (part_steps steps) (drop part_size (drop from log)) accepted in
-          let at : a.steps ≡ from + part_size = omega (arith, number, rest.all, part_length steps, full, steps.counted) in (
+      -- after a full part that is accepted the log goes on, from a part further on
+      module _ (full : part_size ≤ steps.count) where
+        further : a.steps ≡ from + part_size
+        further =
+            let (accepted, number, said-is) = accepted-end part_end a c.answers in
+            let rest = part-accepted P from said boxes (part_steps steps) (drop part_size (drop from log)) accepted in
+            omega (arith, number, rest.all, part_length steps, full, steps.counted)
+
+        pub part-goes-on : length left ≡ length boxes → Going P opening log a.steps a.impossible left
+        part-goes-on kept =
+            let (accepted, number, said-is) = accepted-end part_end a c.answers in
+            let rest = part-accepted P from said boxes (part_steps steps) (drop part_size (drop from log)) accepted in
             record {
-              inside = omega (arith, at, full, part-inside);
+              inside = omega (arith, further, full, part-inside);
               ends =
-                  ap (λ (n : ℕ). check_steps_from P a.steps a.impossible left (drop n log)) at
+                  ap (λ (n : ℕ). check_steps_from P a.steps a.impossible left (drop n log)) further
                   ∙ ap (λ (l : List Step). check_steps_from P a.steps a.impossible left l) (sym (drop-drop part_size from log))
                   ∙ rw (number, said-is, c.leaves) rest.rest
                   ∙ ap (check_steps_from P from said boxes) parts
                   ∙ g.ends;
               same = kept ∙ g.same;
-            },
-            omega (arith, at),
-          )
+            }
+
+        pub part-shortens : length log - a.steps < length log - from
+        part-shortens = omega (arith, further, full, part-inside)

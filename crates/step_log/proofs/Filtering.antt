@@ -126,17 +126,27 @@ steps_back log ks ts hs xs ys zs rest p q s =
 unfoldable pub blank : List ℕ
 blank = replicate part_size 0
 
-module _ (cells : ℕ) (l : cells ≤ part_size) where
+-- the cells of a part that ends there
+module _ (taken room end : ℕ) (ends : end ≡ taken + min part_size (room - taken)) where
+  abbrev cells : ℕ
+  cells = end - taken
+
+  few : cells ≡ min part_size (room - taken)
+  few = omega (arith, ends)
+
+  fits : cells ≤ part_size
+  fits = omega (arith, ends)
+
   lent_length : cells ≡ length (take cells blank)
   unfolding blank
-  lent_length = sym (length-take-le cells blank l)
+  lent_length = sym (length-take-le cells blank fits)
 
   inside : cells ≤ length blank
   unfolding blank
-  inside = l
+  inside = fits
 
   -- the core, lent the first cells of three arrays, after so many steps
-  module _ (P : Plan) (boxes : List ℕ) (taken room : ℕ) where
+  module _ (P : Plan) (boxes : List ℕ) where
     abbrev core : FilterEnd
     core = filter_from P boxes (take cells blank) (take cells blank) (take cells blank) taken
 
@@ -185,23 +195,22 @@ module _ (cells : ℕ) (l : cells ≤ part_size) where
 
       -- the part's steps are as many as a part holds
       pub count-inside : f.count - taken ≤ part_size
-      count-inside = omega (arith, count-is, run_fits (next P) boxes cells, l)
+      count-inside = omega (arith, count-is, run_fits (next P) boxes cells, fits)
 
-      pub ran-as : (fits : f.count - taken ≤ part_size) → cells ≡ min part_size (room - taken)
-          → FilteredAs P boxes taken room
+      pub ran-as : (held : f.count - taken ≤ part_size) → FilteredAs P boxes taken room
           (Ok (record {
             steps = record {
               kinds = ks ++ drop cells blank;
               tasks = ts ++ drop cells blank;
               hours = hs ++ drop cells blank;
               count = f.count - taken;
-              counted = fits;
+              counted = held;
             };
             filtered = f;
           }))
           left
       unfolding part_run part_steps logged_from written
-      ran-as fits few =
+      ran-as held =
           let past : List ℕ → List ℕ = λ l. drop (length l) (take cells blank) in
           let number : f.count - taken ≡ count ran = omega (arith, count-is) in
           let kinds = ks ++ drop cells blank in
@@ -210,7 +219,7 @@ module _ (cells : ℕ) (l : cells ≤ part_size) where
             passed-core,
             subst
                 (λ (n : ℕ). RanAs (run P boxes n) taken
-                (record { steps = record { kinds = kinds; tasks = tasks; hours = hours; count = f.count - taken; counted = fits }; filtered = f }) left)
+                (record { steps = record { kinds = kinds; tasks = tasks; hours = hours; count = f.count - taken; counted = held }; filtered = f }) left)
                 few
                 record {
                   answers = ap (λ (x : FilterEnd). x.answer) core-is;

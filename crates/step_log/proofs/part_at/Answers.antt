@@ -4,7 +4,6 @@ use Rattle.step_log.proofs.Copying.{one-copied, all-copied}
 use Rattle.step_log.proofs.part_at.Goals as goal
 
 pub loop-x-preserved : goal.loop-x-preserved
-unfolding no_step
 loop-x-preserved c =
     one-copied _ _ _ _ c.loop-x.invariant c.loop-x-test.true
     c.with_step-steps.ensures.0 c.with_step-steps.ensures.1
