@@ -1,14 +1,16 @@
 -- Laws of the answers of the calendar rule, one for each task: how one is taken from memory, and how they fill an array. Assumes nothing.
 use Rattle.std.specs.Prelude.{Option}
 use Rattle.calendar.specs.declared.Window.{Window}
-use mathlib.Core.Path.{◌≡◌, ap, ◌∙◌}
+use mathlib.Core.Path.{◌≡◌, refl, sym, ap, ◌∙◌, subst}
 use mathlib.Core.Bool.{true}
 use mathlib.Core.List.{List}
-use Prim.Native.Nat.{ℕ, ◌+◌, ◌<◌}
+use Prim.Native.Nat.{ℕ, zero, suc, ◌+◌, ◌≤◌, ◌<◌}
 use native.Mathlib.Decide.{ℕ_discrete}
 use native.Mathlib.Omega.{arith}
-use lib.ListN.{length, get_or, set, length-take, length-drop}
-use lib.Seq.{get_or-set_same, get_or-set_other}
+use lib.ListN.{length, get_or, length-take, length-drop}
+use denote.Param.Members.{Mut}
+use Rattle.std.specs.Fn.{Called}
+use Rattle.std.specs.Array.{IsFromFnResultFrom, IsFromFnResult}
 use Rattle.units.specs.Limits.{duration}
 use Rattle.units.specs.declared.Bounds.{Bounds}
 use Rattle.units.specs.declared.Duration.{Duration}
@@ -57,12 +59,19 @@ fitting P boxes p i l =
       shortest = t.box.shortest;
     }
 
--- one cell more of an array is filled
-pub filled_more : {A : Type 0} (f : ℕ → A) (l : List A) (d : A) (n : ℕ) (x : A) → ((k : ℕ) → k < n → get_or l k d ≡ f k) → x ≡ f n
-    → n < length l
-    → (k : ℕ) → k < n + 1 → get_or (set l n x) k d ≡ f k
-filled_more {A} f l d n x below e small k h = go (ℕ_discrete k n)
-  where
-    go : Dec (k ≡ n) → get_or (set l n x) k d ≡ f k
-    go (yes q) = rw q (get_or-set_same l n x d small ∙ e)
-    go (no q) = get_or-set_other l n k x d q ∙ below k (omega arith)
+-- an array that is filled by the answers of a closure which no call changes
+module _ {F A : Type 0} (g : Mut F (ℕ × Unit {0}) A) (P : ℕ → A → Type 0) (f : F)
+    (h : (i : ℕ) (x : A) (f' : F) → Called g f (i, tt) x f' → P i x × (f' ≡ f)) where
+  filled_from : (l : List A) (i n : ℕ) (q : F) → q ≡ f → IsFromFnResultFrom g q l i n → (k : ℕ) (d : A) → i ≤ k → k < i + n
+      → P k (get_or l k d)
+  filled_from l i zero q same t k d after before = absurd (omega arith)
+  filled_from l i (suc n) q same (q', x, there, call, rest) k d after before =
+      let (holds, kept) = h i x q' (subst (λ (y : F). Called g y (i, tt) x q') same call) in
+      go holds (λ m. filled_from l (i + 1) n q' kept rest k d m (omega arith)) (ℕ_discrete k i)
+    where
+      go : P i x → (i + 1 ≤ k → P k (get_or l k d)) → Dec (k ≡ i) → P k (get_or l k d)
+      go holds further (yes e) = rw e (subst (P i) (sym (there.1 d)) holds)
+      go holds further (no e) = further (omega arith)
+
+  pub filled : (l : List A) (n : ℕ) → IsFromFnResult g f l n → (k : ℕ) (d : A) → k < n → P k (get_or l k d)
+  filled l n made k d before = filled_from l 0 n f refl made.each k d (omega arith) (omega arith)

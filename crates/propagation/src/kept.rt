@@ -8,6 +8,7 @@ ghost use Rattle.propagation.specs.Inner.Fitting.{Fitting};
 
 use calendar::Window;
 use plan::Shifts;
+use std::array;
 use turns::Fits;
 use units::Bounds;
 
@@ -21,18 +22,21 @@ pub fn fit_of(shifts: &Shifts, boxes: &[u16], i: usize) -> Option<Window>
     calendar::without_witnesses(found)
 }
 
-// The answers for all tasks.
+// The answers for all tasks; past the last, none.
 pub fn all_fits(shifts: &Shifts, boxes: &[u16]) -> Fits
     requires { let S = shifts_in shifts.now in
         (length S.task_calendars ≤ most_tasks) × ((i : ℕ) → i < length S.task_calendars → Fitting S boxes.now i) }
     ensures { let S = shifts_in shifts.now in
         (length result ≡ most_tasks) × ((i : ℕ) → i < length S.task_calendars → get_or result i None ≡ fit_at S boxes.now i) }
 {
-    let mut fits = [None; Bounds::MOST];
-    for i in 0..shifts.task_calendars.len() {
-        fits[i] = fit_of(shifts, boxes, i);
-    }
-    fits
+    let tasks = shifts.tasks();
+    array::from_fn(|i| {
+        if i < tasks {
+            fit_of(shifts, boxes, i)
+        } else {
+            None
+        }
+    })
 }
 
 // Stores the bounds that a task has now, and works its answer out anew.

@@ -2,14 +2,16 @@
 use mathlib.Core.Path.{◌≡◌, refl, sym, ap, ◌∙◌}
 use mathlib.Core.Logic.{◌≢◌}
 use mathlib.Core.Bool.{Bool, true, false}
-use mathlib.Core.List.{List, [], ◌∷◌, ◌++◌, append_assoc}
+use mathlib.Core.List.{List, [], ◌∷◌, ◌++◌, append_assoc, append-nil}
 use Prim.Native.Nat.{ℕ, zero, suc, ◌+◌, ◌-◌, ◌≤◌, ◌<◌, min}
 use native.Mathlib.Nat.{zero-add, add-zero}
 use native.Mathlib.Numerals.{add-one}
 use native.Mathlib.Omega.{arith}
 use lib.Dec.{leb}
-use lib.ListN.{length, get_or, set, take, drop, take-append-drop, length-append, length-drop, length-set}
+use lib.ListN.{length, get_or, set, take, drop, length-drop}
 use lib.Seq.{get_or-set_same, get_or-set_other, get_or-take, take-suc, drop-cons, set_at, length-take-le, take_all}
+use borrow.Rule.Slice.PartMut.{put_mid}
+use Rattle.std.proofs.lemmas.List.{drop_all}
 use borrow.Author.Tests.{leb-true, leb-false}
 use Rattle.units.specs.Cells.{written}
 use Rattle.steps.specs.declared.Step.{Step}
@@ -126,38 +128,36 @@ module _ (log : List Step) (from : ℕ) where
 
 -- ---- into a lent log
 
--- the log with k of the part's steps in it
-unfoldable pub put_in : List Step → ℕ → Part → ℕ → List Step
-put_in log from p k = take from log ++ (steps_from p.kinds p.tasks p.hours 0 k ++ drop k (drop from log))
+-- the cells lent, with k of the part's steps in the first of them
+unfoldable pub put_in : List Step → Part → ℕ → List Step
+put_in cells p k = steps_from p.kinds p.tasks p.hours 0 k ++ drop k cells
 
-module _ (log : List Step) (from : ℕ) (p : Part) where
-  pub none-put : log ≡ put_in log from p 0
-  unfolding put_in steps_from
-  none-put = sym (take-append-drop from log)
-
-  pub one-put : (k : ℕ) (new : List Step) → from + k < length log
-      → new ≡ set (put_in log from p k) (from + k) (step_at p.kinds p.tasks p.hours k) → new ≡ put_in log from p (k + 1)
+module _ (cells : List Step) (p : Part) (k : ℕ) where
+  pub one-put : (held : List Step) (x : Step) → held ≡ put_in cells p k → x ≡ step_at p.kinds p.tasks p.hours k → k < length cells
+      → set held k x ≡ put_in cells p (k + 1)
   unfolding put_in
-  one-put k new l e =
+  one-put held x so is inside =
       let s = steps_from p.kinds p.tasks p.hours 0 k in
-      let x = step_at p.kinds p.tasks p.hours k in
-      let rest = drop (suc k) (drop from log) in
-      let inside : k < length (drop from log) = rw (length-drop from log) (omega arith) in
-      let long : length (take from log ++ s) ≡ from + k = length-append (take from log) s
-      ∙ (omega (arith, length-take-le from log (omega arith), steps-length p.kinds p.tasks p.hours 0 k)) in
-      e
-      ∙ ap (λ (r : List Step). set (take from log ++ (s ++ r)) (from + k) x) (drop-cons (drop from log) k no_step inside)
-      ∙ ap (λ (r : List Step). set r (from + k) x) (sym (append_assoc (take from log) s (get_or (drop from log) k no_step ∷ rest)))
-      ∙ set_at (take from log ++ s) (get_or (drop from log) k no_step) rest x (from + k) long
-      ∙ append_assoc (take from log) s (x ∷ rest)
-      ∙ ap (λ (r : List Step). take from log ++ r) (sym (append_assoc s (x ∷ []) rest))
-      ∙ ap (λ (y : ℕ). take from log ++ ((s ++ (step_at p.kinds p.tasks p.hours y ∷ [])) ++ rest)) (sym (zero-add k))
-      ∙ ap (λ (r : List Step). take from log ++ (r ++ rest)) (sym (steps-last p.kinds p.tasks p.hours 0 k))
-      ∙ ap (λ (n : ℕ). take from log ++ (steps_from p.kinds p.tasks p.hours 0 n ++ drop n (drop from log))) (sym (add-one k))
+      let rest = drop (suc k) cells in
+      ap (λ (l : List Step). set l k x) (so ∙ ap (λ (l : List Step). s ++ l) (drop-cons cells k no_step inside))
+      ∙ set_at s (get_or cells k no_step) rest x k (steps-length p.kinds p.tasks p.hours 0 k)
+      ∙ sym (append_assoc s (x ∷ []) rest)
+      ∙ ap (λ (y : Step). (s ++ (y ∷ [])) ++ rest) (is ∙ ap (step_at p.kinds p.tasks p.hours) (sym (zero-add k)))
+      ∙ ap (λ (l : List Step). l ++ rest) (sym (steps-last p.kinds p.tasks p.hours 0 k))
+      ∙ ap (λ (n : ℕ). steps_from p.kinds p.tasks p.hours 0 n ++ drop n cells) (sym (add-one k))
 
-  pub all-put : (k : ℕ) → k ≡ p.count → put_in log from p k ≡ take from log ++ written (part_steps p) (drop from log)
-  unfolding put_in written part_steps
-  all-put k e =
-      ap (λ (n : ℕ). take from log ++ (steps_from p.kinds p.tasks p.hours 0 n ++ drop n (drop from log))) e
-      ∙ ap (λ (n : ℕ). take from log ++ (steps_from p.kinds p.tasks p.hours 0 p.count ++ drop n (drop from log)))
-      (sym (steps-length p.kinds p.tasks p.hours 0 p.count))
+-- the log, once the cells of it that were lent hold all of the part's steps
+pub all-put : (log : List Step) (from : ℕ) (p : Part) (n k : ℕ) (held : List Step) → from + p.count ≤ length log → n ≡ p.count
+    → held ≡ put_in (take n (drop from log)) p k → k ≡ length (take n (drop from log))
+    → put_mid from n log held ≡ take from log ++ written (part_steps p) (drop from log)
+unfolding put_in written part_steps
+all-put log from p n k held inside all so last =
+    let long : length (take n (drop from log)) ≡ n =
+    length-take-le n (drop from log) (rw (length-drop from log) (omega (arith, inside, all))) in
+    let steps : held ≡ part_steps p =
+    so
+    ∙ ap (λ (l : List Step). steps_from p.kinds p.tasks p.hours 0 k ++ l) (drop_all k (take n (drop from log)) (omega (arith, last)))
+    ∙ append-nil (steps_from p.kinds p.tasks p.hours 0 k)
+    ∙ ap (steps_from p.kinds p.tasks p.hours 0) (last ∙ long ∙ all) in
+    ap (λ (l : List Step). take from log ++ (l ++ drop n (drop from log))) steps
+    ∙ ap (λ (m : ℕ). take from log ++ (part_steps p ++ drop m (drop from log))) (all ∙ sym (part_length p))

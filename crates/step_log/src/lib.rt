@@ -38,8 +38,9 @@ fn put_part(log: &mut [Step], from: usize, steps: Part)
     requires { from + steps.count ≤ length log.old }
     ensures { log.new ≡ (take from log.old ++ written (part_steps steps) (drop from log.old)) }
 {
-    for k in 0..steps.count {
-        log[from + k] = steps.step(k);
+    let to = from + steps.count;
+    for (k, cell) in log[from..to].iter_mut().enumerate() {
+        *cell = steps.step(k);
     }
 }
 

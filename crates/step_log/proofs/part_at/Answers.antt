@@ -1,5 +1,4 @@
 use native.Mathlib.Omega.{arith}
-use Rattle.step_log.specs.Inner.Parts.{no_step}
 use Rattle.step_log.proofs.Copying.{one-copied, all-copied}
 use Rattle.step_log.proofs.part_at.Goals as goal
 

@@ -3,4 +3,4 @@ use Rattle.step_log.proofs.Copying.{put_in}
 use Rattle.step_log.proofs.put_part.Given as goal
 
 abbrev pub invariant-loop-k : goal.invariant-loop-k
-invariant-loop-k l = l.log ≡ put_in l.initial.log l.from l.steps l.k
+invariant-loop-k l = l.cell-items ≡ put_in l.initial.cell-items l.steps l.k
