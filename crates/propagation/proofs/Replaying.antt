@@ -116,9 +116,6 @@ pub record Replaying (P : Plan) (n : ℕ) (said₀ : Bool) (opening kinds tasks 
   pub each_task : length tasks ≡ length kinds
   pub each_hour : length hours ≡ length kinds
 
-pub below : {k n m : ℕ} → k < n → n ≡ m → k < m
-below l q = omega arith
-
 -- What the log checker answers and leaves.
 abbrev Replayed : Plan → ℕ → Bool → List ℕ → List ℕ → List ℕ → List ℕ → Answer Accepted → List ℕ → Type 0
 Replayed P n said₀ opening kinds tasks hours answer left =

@@ -31,6 +31,7 @@ fn run_filter(
         ≡ logged_from taken run log_kinds.old log_tasks.old log_hours.old }
 {
     let mut fits = kept::all_fits(&plan.shifts, boxes);
+    // Where the next step goes in each of the three slices, and how many steps the answer counts.
     let mut count: usize = 0;
     loop {
         let Some(next) = turn::next_turn(plan, boxes, &fits) else {

@@ -32,6 +32,7 @@ fn replay_log(
 {
     let mut fits = kept::all_fits(&plan.shifts, boxes);
     let mut impossible = after.impossible;
+    // By number: a step lies in three slices, and a refusal names its place.
     for k in 0..log_kinds.len() {
         if impossible {
             return Err(Refusal::AfterImpossible(after.steps + k));

@@ -15,4 +15,5 @@ pub returns : goal.returns
 returns c =
     c.test_plan.ensures
     ∙ sym
-    (right-size _ _ _ _ _ (sym c.has_one_for_each_task.ensures ∙ c.if-not-has_one_for_each_task.false) (sym c.has_one_for_each_step.ensures ∙ c.if-not-has_one_for_each_step.false))
+    (right-size _ _ _ _ _ (sym c.has_one_for_each_task.ensures ∙ c.if-not-has_one_for_each_task.false)
+    (sym c.has_one_for_each_step.ensures ∙ c.if-not-has_one_for_each_step.false))

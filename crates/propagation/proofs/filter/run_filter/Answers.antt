@@ -1,5 +1,4 @@
 use mathlib.Core.Path.{ap, ◌∙◌}
-use native.Mathlib.Omega.{arith}
 use Rattle.std.specs.Prelude.{Some}
 use Rattle.steps.specs.declared.Judged.{Judged}
 use Rattle.steps.specs.Entry.{ending_answer}
@@ -15,21 +14,6 @@ all_fits-fits-requires c = (c.requires.passed.0.tasks, λ i l. fitting _ _ c.req
 pub loop-next-init : goal.loop-next-init
 loop-next-init c = filter-opens c.requires.passed c.all_fits-fits.ensures.1 c.all_fits-fits.ensures.0
 
-pub bounds-log_kinds-count : goal.bounds-log_kinds-count
-bounds-log_kinds-count c = omega (arith, c.if-log_kinds-count.false)
-
-pub offset_bounds-log_tasks-count : goal.offset_bounds-log_tasks-count
-offset_bounds-log_tasks-count c = omega (arith, c.if-log_kinds-count.false, c.loop-next.invariant, c.well_formed)
-
-pub bounds-log_tasks-count : goal.bounds-log_tasks-count
-bounds-log_tasks-count c = omega (arith, c.if-log_kinds-count.false, c.loop-next.invariant)
-
-pub offset_bounds-log_hours-count : goal.offset_bounds-log_hours-count
-offset_bounds-log_hours-count c = omega (arith, c.if-log_kinds-count.false, c.loop-next.invariant, c.well_formed)
-
-pub bounds-log_hours-count : goal.bounds-log_hours-count
-bounds-log_hours-count c = omega (arith, c.if-log_kinds-count.false, c.loop-next.invariant)
-
 pub move_bounds-requires : goal.move_bounds-requires
 move_bounds-requires c =
     let inv = c.loop-next.invariant in
@@ -39,10 +23,6 @@ move_bounds-requires c =
 
 pub next_turn-requires : goal.next_turn-requires
 next_turn-requires c = let p = c.loop-next.invariant.keeps.passed in (ready _ _ p, p.hours)
-
-pub loop-next-smaller : goal.loop-next-smaller
-loop-next-smaller c =
-    omega (arith, c.if-log_kinds-count.false, c.loop-next.invariant.same_kinds)
 
 pub loop-next-preserved : goal.loop-next-preserved
 loop-next-preserved c =

@@ -1,82 +1,44 @@
-use mathlib.Core.Path.{refl}
 use native.Mathlib.Omega.{arith}
 use Rattle.steps.specs.Entry.{step_at}
 use Rattle.propagation.proofs.Fits.{fitting}
 use Rattle.propagation.proofs.Keeping.{ready}
-use Rattle.propagation.proofs.Replaying.{below, replay-opens, replay-done, replay-13}
-use Rattle.propagation.proofs.Replaying.{replay-11, replay-12, replay-stops, replay-may-move, replay-moves}
+use Rattle.propagation.proofs.Replaying.{replay-opens, replay-done, replay-13, replay-11, replay-12, replay-stops, replay-may-move, replay-moves}
 use Rattle.propagation.proofs.replay.replay_log.Goals as goal
 
 pub all_fits-fits-requires : goal.all_fits-fits-requires
 all_fits-fits-requires c = (c.requires.passed.0.tasks, λ i l. fitting _ _ c.requires.passed.0 i l)
 
 pub loop-k-init : goal.loop-k-init
-loop-k-init c =
-    (omega arith, refl, replay-opens c.requires.passed c.all_fits-fits.ensures.1 c.all_fits-fits.ensures.0)
-
-pub overflow_add-result : goal.overflow_add-result
-overflow_add-result c = omega (arith, c.loop-k-test.true, c.loop-k.invariant.1, c.requires.count_fits)
+loop-k-init c = replay-opens c.requires.passed c.all_fits-fits.ensures.1 c.all_fits-fits.ensures.0
 
 pub returns-then-impossible : goal.returns-then-impossible
-returns-then-impossible c = replay-13 c.loop-k.invariant.2 (omega arith) c.if-impossible.true
-
-pub bounds-log_tasks-k : goal.bounds-log_tasks-k
-bounds-log_tasks-k c = omega (arith, c.loop-k-test.true, c.loop-k.invariant)
-
-pub bounds-log_hours-k : goal.bounds-log_hours-k
-bounds-log_hours-k c = omega (arith, c.loop-k-test.true, c.loop-k.invariant)
+returns-then-impossible c = replay-13 c.loop-k.invariant c.loop-k-test.true c.if-impossible.true
 
 pub judge_step-judged-requires : goal.judge_step-judged-requires
-judge_step-judged-requires c =
-    let p = c.loop-k.invariant.2.keeps.passed in
-    (ready _ _ p, p.hours)
-
-pub overflow_add-result-in-Unknown : goal.overflow_add-result-in-Unknown
-overflow_add-result-in-Unknown c = omega (arith, c.loop-k-test.true, c.loop-k.invariant.1, c.requires.count_fits)
+judge_step-judged-requires c = let p = c.loop-k.invariant.keeps.passed in (ready _ _ p, p.hours)
 
 pub returns-in-Unknown : goal.returns-in-Unknown
 unfolding step_at
-returns-in-Unknown c =
-    replay-11 c.loop-k.invariant.2 (below c.loop-k-test.true c.loop-k.invariant.1) c.if-impossible.false
-    c.judge_step-judged.ensures c.in-Unknown.is
-
-pub overflow_add-result-in-NotAdmitted : goal.overflow_add-result-in-NotAdmitted
-overflow_add-result-in-NotAdmitted c = omega (arith, c.loop-k-test.true, c.loop-k.invariant.1, c.requires.count_fits)
+returns-in-Unknown c = replay-11 c.loop-k.invariant c.loop-k-test.true c.if-impossible.false c.judge_step-judged.ensures c.in-Unknown.is
 
 pub returns-in-NotAdmitted : goal.returns-in-NotAdmitted
 unfolding step_at
-returns-in-NotAdmitted c =
-    replay-12 c.loop-k.invariant.2 (below c.loop-k-test.true c.loop-k.invariant.1) c.if-impossible.false
-    c.judge_step-judged.ensures c.in-NotAdmitted.is
+returns-in-NotAdmitted c = replay-12 c.loop-k.invariant c.loop-k-test.true c.if-impossible.false c.judge_step-judged.ensures c.in-NotAdmitted.is
 
 pub loop-k-preserved-in-Impossible : goal.loop-k-preserved-in-Impossible
 unfolding step_at
-loop-k-preserved-in-Impossible c = (
-  omega (arith, c.loop-k-test.true),
-  c.loop-k.invariant.1,
-  replay-stops c.loop-k.invariant.2 (below c.loop-k-test.true c.loop-k.invariant.1) c.if-impossible.false
-      c.judge_step-judged.ensures c.in-Impossible.is,
-)
+loop-k-preserved-in-Impossible c =
+    replay-stops c.loop-k.invariant c.loop-k-test.true c.if-impossible.false c.judge_step-judged.ensures c.in-Impossible.is
 
 pub move_bounds-requires : goal.move_bounds-requires
 unfolding step_at
 move_bounds-requires c =
-    replay-may-move c.loop-k.invariant.2 (below c.loop-k-test.true c.loop-k.invariant.1) c.if-impossible.false c.judge_step-judged.ensures
-    c.in-Moved.is
+    replay-may-move c.loop-k.invariant c.loop-k-test.true c.if-impossible.false c.judge_step-judged.ensures c.in-Moved.is
 
 pub loop-k-preserved : goal.loop-k-preserved
 unfolding step_at
-loop-k-preserved c = (
-  omega (arith, c.loop-k-test.true),
-  c.loop-k.invariant.1,
-  replay-moves c.loop-k.invariant.2 (below c.loop-k-test.true c.loop-k.invariant.1) c.if-impossible.false c.judge_step-judged.ensures
-      c.in-Moved.is
-      c.move_bounds.ensures,
-)
-
-pub overflow_add-result-2 : goal.overflow_add-result-2
-overflow_add-result-2 c = omega (arith, c.requires.count_fits)
+loop-k-preserved c =
+    replay-moves c.loop-k.invariant c.loop-k-test.true c.if-impossible.false c.judge_step-judged.ensures c.in-Moved.is c.move_bounds.ensures
 
 pub returns : goal.returns
-returns c =
-    replay-done c.loop-k.invariant.2 (omega (arith, c.loop-k-test.false, c.loop-k.invariant.0, c.loop-k.invariant.1))
+returns c = replay-done c.loop-k.invariant (omega (arith, c.loop-k-test.false, c.loop-k.auto.k-end))

@@ -1,13 +1,8 @@
 use Rattle.plan.specs.Lent.{plan_in}
-use mathlib.Core.Path.{◌≡◌}
-use Prim.Native.Nat.{◌≤◌}
-use lib.ListN.{length}
 use Rattle.propagation.proofs.Replaying.{Replaying}
 use Rattle.propagation.proofs.replay.replay_log.Given as goal
 
 abbrev pub invariant-loop-k : goal.invariant-loop-k
 invariant-loop-k l =
-    (l.k ≤ l.k-end)
-    × (l.k-end ≡ length l.log_kinds)
-    × Replaying (plan_in l.plan) l.after.steps l.after.impossible l.initial.boxes
+    Replaying (plan_in l.plan) l.after.steps l.after.impossible l.initial.boxes
     l.log_kinds l.log_tasks l.log_hours l.k l.impossible l.boxes l.fits
