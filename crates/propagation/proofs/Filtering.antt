@@ -195,14 +195,14 @@ unfolding admitted_of on_judged
 admitted-moves boxes x e = rw e
 
 module _ {P : Plan} {opening kinds₀ tasks₀ hours₀ : List ℕ} {count : ℕ} {boxes kinds tasks hours : List ℕ} {fits : List (Option Window)}
-    (at : Filtering P opening kinds₀ tasks₀ hours₀ count boxes kinds tasks hours fits) {r : Option Turn} (is : turn_of boxes r ≡ next P boxes)
-    (n : ℕ) where
+    (at : Filtering P opening kinds₀ tasks₀ hours₀ count boxes kinds tasks hours fits) {r : Option Turn}
+    (answers : Keeping P boxes fits → turn_of boxes r ≡ next P boxes) (n : ℕ) where
   pub settles : r ≡ None → Ends P n opening kinds₀ tasks₀ hours₀ (filter_end (settled_after (n + count)) boxes kinds tasks hours)
-  settles e = ends-settled P opening kinds₀ tasks₀ hours₀ count boxes kinds tasks hours at.taken n (sym is ∙ ap (turn_of boxes) e)
+  settles e = ends-settled P opening kinds₀ tasks₀ hours₀ count boxes kinds tasks hours at.taken n (sym (answers at.keeps) ∙ ap (turn_of boxes) e)
 
   module _ {x : Step} {j : Judged} (found : r ≡ Some (turn x j)) where
     next-is : next P boxes ≡ Some (admitted_of boxes x j)
-    next-is = sym is ∙ ap (turn_of boxes) found
+    next-is = sym (answers at.keeps) ∙ ap (turn_of boxes) found
 
     pub fills : length kinds ≤ count
         → Ends P n opening kinds₀ tasks₀ hours₀ (filter_end (no_room_for (fault 32 0) (n + count)) boxes kinds tasks hours)
@@ -217,7 +217,10 @@ module _ {P : Plan} {opening kinds₀ tasks₀ hours₀ : List ℕ} {count : ℕ
           (next-is ∙ ap Some (admitted-stops boxes x j still)) (omega (arith, at.same_kinds)) at.each_task at.each_hour
 
       -- the next turn, on the boxes and the answers once the bounds are moved
-      module _ {i : ℕ} {b : Bounds} (m : j ≡ Moved i b) (there : i < task_count P) where
+      module _ {i : ℕ} {b : Bounds} (m : j ≡ Moved i b) (tells : r ≡ Some (turn x (Moved i b)) → i < task_count P) where
+        there : i < task_count P
+        there = tells (found ∙ ap (λ (k : Judged). Some (turn x k)) m)
+
         next-moves : next P boxes ≡ Some (moves x (with_bounds boxes i b))
         next-moves = next-is ∙ ap Some (admitted-moves boxes x m)
 

@@ -1,8 +1,4 @@
-use mathlib.Core.Path.{ap, ◌∙◌}
-use Rattle.std.specs.Prelude.{Some}
-use Rattle.steps.specs.declared.Judged.{Judged}
 use Rattle.steps.specs.Entry.{ending_answer}
-use Rattle.turns.specs.Inner.Kept.{turn}
 use Rattle.propagation.proofs.Fits.{fitting}
 use Rattle.propagation.proofs.Keeping.{ready}
 use Rattle.propagation.proofs.Filtering.{filter-opens, settles, fills, stops_at, filter-may-move, goes_on}
@@ -14,38 +10,28 @@ all_fits-fits-requires c = (c.requires.passed.0.tasks, λ i l. fitting _ _ c.req
 pub loop-next-init : goal.loop-next-init
 loop-next-init c = filter-opens c.requires.passed c.all_fits-fits.ensures.1 c.all_fits-fits.ensures.0
 
-pub move_bounds-requires : goal.move_bounds-requires
-move_bounds-requires c =
-    let inv = c.loop-next.invariant in
-    filter-may-move inv (c.next_turn.ensures.answer inv.keeps) 0 c.in-Some.is c.if-log_kinds-count.false
-    c.in-Moved.is
-    (c.next_turn.ensures.there _ _ _ (c.in-Some.is ∙ ap (λ (j : Judged). Some (turn c.in-Some.next.step j)) c.in-Moved.is))
-
 pub next_turn-requires : goal.next_turn-requires
 next_turn-requires c = let p = c.loop-next.invariant.keeps.passed in (ready _ _ p, p.hours)
 
+pub move_bounds-requires : goal.move_bounds-requires
+move_bounds-requires c =
+    filter-may-move c.loop-next.invariant c.next_turn.ensures.answer 0 c.in-Some.is c.if-log_kinds-count.false c.in-Moved.is
+    (c.next_turn.ensures.there _ _ _)
+
 pub loop-next-preserved : goal.loop-next-preserved
 loop-next-preserved c =
-    let inv = c.loop-next.invariant in
-    goes_on inv (c.next_turn.ensures.answer inv.keeps) 0 c.in-Some.is c.if-log_kinds-count.false c.in-Moved.is
-    (c.next_turn.ensures.there _ _ _ (c.in-Some.is ∙ ap (λ (j : Judged). Some (turn c.in-Some.next.step j)) c.in-Moved.is))
-    c.move_bounds.ensures
+    goes_on c.loop-next.invariant c.next_turn.ensures.answer 0 c.in-Some.is c.if-log_kinds-count.false c.in-Moved.is
+    (c.next_turn.ensures.there _ _ _) c.move_bounds.ensures
 
 pub returns-in_default : goal.returns-in_default
 unfolding ending_answer
-returns-in_default c =
-    let inv = c.loop-next.invariant in
-    settles inv (c.next_turn.ensures.answer inv.keeps) _ c.in_default.is
+returns-in_default c = settles c.loop-next.invariant c.next_turn.ensures.answer _ c.in_default.is
 
 pub returns-then-log_kinds-count : goal.returns-then-log_kinds-count
 unfolding ending_answer
-returns-then-log_kinds-count c =
-    let inv = c.loop-next.invariant in
-    fills inv (c.next_turn.ensures.answer inv.keeps) _ c.in-Some.is c.if-log_kinds-count.true
+returns-then-log_kinds-count c = fills c.loop-next.invariant c.next_turn.ensures.answer _ c.in-Some.is c.if-log_kinds-count.true
 
 pub returns-in_default-judged : goal.returns-in_default-judged
 unfolding ending_answer
 returns-in_default-judged c =
-    let inv = c.loop-next.invariant in
-    stops_at inv (c.next_turn.ensures.answer inv.keeps) _ c.in-Some.is c.if-log_kinds-count.false
-    c.in_default-judged.not-Moved
+    stops_at c.loop-next.invariant c.next_turn.ensures.answer _ c.in-Some.is c.if-log_kinds-count.false c.in_default-judged.not-Moved
