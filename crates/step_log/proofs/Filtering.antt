@@ -255,7 +255,7 @@ pub record Running (P : Plan) (opening : List ℕ) (cells : List Step) (taken : 
   pub refuses : (f : Fault) → input_fault P opening ≡ Some f → (boxes ≡ opening) × (taken ≡ 0)
   pub same : length boxes ≡ length opening
 
-module _ (P : Plan) (opening : List ℕ) (cells : List Step) (taken : ℕ) (boxes : List ℕ) (log : List Step)
+module _ {P : Plan} {opening : List ℕ} {cells : List Step} {taken : ℕ} {boxes : List ℕ} {log : List Step}
     (t : Running P opening cells taken boxes log) where
   pub same_log : length log ≡ length cells
   same_log = ap length t.logs ∙ length-append t.steps (drop taken cells) ∙ (omega (arith, t.number, t.inside, length-drop taken cells))
@@ -317,21 +317,27 @@ module _ (P : Plan) (opening : List ℕ) (cells : List Step) (taken : ℕ) (boxe
           ∙ ap (λ (s : List Step). t.steps ++ (r.log ++ s)) (drop-drop (count r) taken cells)
           ∙ sym (append_assoc t.steps r.log (drop (taken + count r) cells))
 
-      pub part-runs-on : length left ≡ length boxes → does_go_on room (filter_answer (Ok f.filtered)) ≡ true
-          → Running P opening cells f.filtered.count left new × (taken < f.filtered.count)
-      unfolding part_run
-      part-runs-on kept more =
-          let number : f.filtered.count ≡ taken + count r = counted f.filtered r.ending (taken + count r) as_run.answers in
-          let (full, inside) = goes-ending r.ending room (taken + count r) (sym (ap (does_go_on room) as_run.answers) ∙ more) in
-          let m = min part_size (room - taken) in
-          let now = f.filtered.count in
-          let all : count r ≡ m = run-filled P m boxes full in
-          let rest : room - taken ≡ m + (room - now) = omega (arith, all, number, t.inside) in
-          let opened = passed-opening c.0 in (
+      -- a part after which the run goes on was full, with room after it
+      module _ (more : does_go_on room (filter_answer (Ok f.filtered)) ≡ true) where
+        part-full : (r.ending ≡ no_room) × (count r ≡ min part_size (room - taken)) × (f.filtered.count ≡ taken + count r) × (f.filtered.count < room)
+        unfolding part_run
+        part-full =
+            let number = counted f.filtered r.ending (taken + count r) as_run.answers in
+            let (full, inside) = goes-ending r.ending room (taken + count r) (sym (ap (does_go_on room) as_run.answers) ∙ more) in
+            (full, run-filled P (min part_size (room - taken)) boxes full, number, omega (arith, number, inside))
+
+        pub part-runs-on : length left ≡ length boxes → Running P opening cells f.filtered.count left new
+        unfolding part_run
+        part-runs-on kept =
+            let (full, all, number, inside) = part-full in
+            let m = min part_size (room - taken) in
+            let now = f.filtered.count in
+            let rest : room - taken ≡ m + (room - now) = omega (arith, all, number, t.inside) in
+            let opened = passed-opening c.0 in
             record {
               steps = t.steps ++ r.log;
               number = length-append t.steps r.log ∙ (omega (arith, t.number, number));
-              inside = omega (arith, number, inside);
+              inside = omega (arith, inside);
               logs = logs_more ∙ ap (λ (n : ℕ). (t.steps ++ r.log) ++ drop n cells) (sym number);
               goes_on = λ q. (
                 ap (input_fault P) as_run.leaves ∙ run-passes P m boxes c.0,
@@ -344,9 +350,10 @@ module _ (P : Plan) (opening : List ℕ) (cells : List Step) (taken : ℕ) (boxe
               );
               refuses = λ g q. None≢Some (sym opened ∙ q);
               same = kept ∙ t.same;
-            },
-            omega (arith, all, number, inside, t.inside),
-          )
+            }
+
+        pub part-shortens : room - f.filtered.count < room - taken
+        part-shortens = let (_, all, number, inside) = part-full in omega (arith, all, number, inside, t.inside)
 
       pub part-leaves : does_go_on room (filter_answer (Ok f.filtered)) ≡ false
           → steps_end (filter_answer (Ok f.filtered)) left new ≡ filter_steps P opening cells
