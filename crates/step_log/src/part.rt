@@ -51,9 +51,9 @@ impl Part {
     }
 
     #[tactic(auto, unfolding(steps::specs::Entry::step_at))]
-    pub fn step(self, k: usize) -> Step
+    pub fn step(&self, k: usize) -> Step
         requires { k < part_size }
-        ensures { result ≡ step_at self.kinds self.tasks self.hours k }
+        ensures { result ≡ step_at self.now.kinds self.now.tasks self.now.hours k }
     {
         Step {
             kind: self.kinds[k],
@@ -63,21 +63,23 @@ impl Part {
     }
 
     // The log checker over one part, after the steps that were accepted before it, on the boxes that they left. Accepting, it counts those steps too.
-    pub fn check(self, plan: &Plan, boxes: &mut [u16], after: Accepted) -> Result<Accepted, Refusal>
-        requires { after.steps + self.count < 2 ^ 64 }
+    pub fn check(
+        &self,
+        plan: &Plan,
+        boxes: &mut [u16],
+        after: Accepted,
+    ) -> Result<Accepted, Refusal>
+        requires { after.steps + self.now.count < 2 ^ 64 }
         ensures { let P = plan_in plan.now in
-            CheckedAs (check_steps_from P after.steps after.impossible boxes.old (part_steps self)) result boxes.new }
+            CheckedAs (check_steps_from P after.steps after.impossible boxes.old (part_steps self.now)) result boxes.new }
     {
         let count = self.count;
-        let kinds = self.kinds;
-        let tasks = self.tasks;
-        let task_hours = self.hours;
         propagation::replay::check_from(
             plan,
             boxes,
-            &kinds[..count],
-            &tasks[..count],
-            &task_hours[..count],
+            &self.kinds[..count],
+            &self.tasks[..count],
+            &self.hours[..count],
             after,
         )
     }
@@ -135,8 +137,8 @@ impl PartFiltered {
 
     // Whether the run goes on: it stopped for room, and there is room in all.
     #[tactic(auto, unfolding(steps::specs::Entry::ending_answer))]
-    pub fn goes_on(self, room: usize) -> bool
-        ensures { result ≡ does_go_on room (filter_answer (Ok self.filtered)) }
+    pub fn goes_on(&self, room: usize) -> bool
+        ensures { result ≡ does_go_on room (filter_answer (Ok self.now.filtered)) }
     {
         match self.filtered.ending {
             Ending::NoRoom => self.filtered.count < room,
