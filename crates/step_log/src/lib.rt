@@ -34,9 +34,9 @@ fn part_at(log: &[Step], from: usize) -> Part
 }
 
 // The steps of a part become those of the log from one on.
-fn put_part(log: &mut [Step], from: usize, steps: Part)
-    requires { from + steps.count ≤ length log.old }
-    ensures { log.new ≡ (take from log.old ++ written (part_steps steps) (drop from log.old)) }
+fn put_part(log: &mut [Step], from: usize, steps: &Part)
+    requires { from + steps.now.count ≤ length log.old }
+    ensures { log.new ≡ (take from log.old ++ written (part_steps steps.now) (drop from log.old)) }
 {
     let to = from + steps.count;
     for (k, cell) in log[from..to].iter_mut().enumerate() {
@@ -74,7 +74,7 @@ pub fn filter(plan: &Plan, boxes: &mut [u16], log: &mut [Step]) -> Result<Filter
     let mut taken = 0;
     loop {
         let part = PartFiltered::run(plan, boxes, taken, room)?;
-        put_part(log, taken, part.steps);
+        put_part(log, taken, &part.steps);
         if !part.goes_on(room) {
             return Ok(part.filtered);
         }
