@@ -11,7 +11,7 @@ use lib.ListN.{length, get_or, length-take, length-drop}
 use denote.Param.Members.{Mut}
 use Rattle.std.specs.Fn.{Called}
 use Rattle.std.specs.Array.{IsFromFnResultFrom, IsFromFnResult}
-use Rattle.units.specs.Limits.{duration}
+use Rattle.units.specs.Limits.{most_tasks, duration}
 use Rattle.units.specs.declared.Bounds.{Bounds}
 use Rattle.units.specs.declared.Duration.{Duration}
 use Rattle.plan.specs.Plan.{Shifts, Plan, task_count, first_symbol, calendar_at, calendar_of, work_time_of}
@@ -58,6 +58,11 @@ fitting P boxes p i l =
       latest = t.box.latest;
       shortest = t.box.shortest;
     }
+
+-- and what the answers for all its tasks ask
+pub all-fitting : (P : Plan) (boxes : List ℕ) → Passed P boxes
+    → (task_count P ≤ most_tasks) × ((i : ℕ) → i < task_count P → Fitting P.shifts boxes i)
+all-fitting P boxes p = (p.tasks, fitting P boxes p)
 
 -- an array that is filled by the answers of a closure which no call changes
 module _ {F A : Type 0} (g : Mut F (ℕ × Unit {0}) A) (P : ℕ → A → Type 0) (f : F)

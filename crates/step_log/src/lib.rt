@@ -26,9 +26,9 @@ fn part_at(log: &[Step], from: usize) -> Part
     ensures { part_steps result ≡ take part_size (drop from log.now) }
 {
     let end = part::part_end(from, log.len());
-    let mut steps = Part::no_steps();
+    let mut steps = Part::new();
     for x in &log[from..end] {
-        steps = steps.with_step(*x);
+        steps.push(*x);
     }
     steps
 }

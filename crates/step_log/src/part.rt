@@ -24,8 +24,9 @@ impl Part {
     // The most steps.
     pub const SIZE: usize = 64;
 
+    // No steps yet.
     #[tactic(auto, unfolding(crate::specs::Inner::Parts::part_steps, steps::specs::Entry::steps_from))]
-    pub fn no_steps() -> Part
+    pub fn new() -> Part
         ensures { (part_steps result ≡ []) × (result.count ≡ 0) }
     {
         Part {
@@ -37,17 +38,15 @@ impl Part {
     }
 
     // One step more.
-    pub fn with_step(self, x: Step) -> Part
-        requires { self.count < part_size }
-        ensures { (part_steps result ≡ (part_steps self ++ (x ∷ []))) × (result.count ≡ self.count + 1) }
+    pub fn push(&mut self, x: Step)
+        requires { self.old.count < part_size }
+        ensures { (part_steps self.new ≡ (part_steps self.old ++ (x ∷ []))) × (self.new.count ≡ self.old.count + 1) }
     {
-        let mut longer = self;
         let at = self.count;
-        longer.kinds[at] = x.kind;
-        longer.tasks[at] = x.task;
-        longer.hours[at] = x.hour;
-        longer.count = at + 1;
-        longer
+        self.kinds[at] = x.kind;
+        self.tasks[at] = x.task;
+        self.hours[at] = x.hour;
+        self.count = at + 1;
     }
 
     #[tactic(auto, unfolding(steps::specs::Entry::step_at))]

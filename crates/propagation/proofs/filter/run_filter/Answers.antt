@@ -1,11 +1,11 @@
 use Rattle.steps.specs.Entry.{ending_answer}
-use Rattle.propagation.proofs.Fits.{fitting}
+use Rattle.propagation.proofs.Fits.{all-fitting}
 use Rattle.propagation.proofs.Keeping.{ready}
 use Rattle.propagation.proofs.Filtering.{filter-opens, settles, fills, stops_at, filter-may-move, goes_on}
 use Rattle.propagation.proofs.filter.run_filter.Goals as goal
 
 pub all_fits-fits-requires : goal.all_fits-fits-requires
-all_fits-fits-requires c = (c.requires.passed.0.tasks, λ i l. fitting _ _ c.requires.passed.0 i l)
+all_fits-fits-requires c = all-fitting _ _ c.requires.passed.0
 
 pub loop-next-init : goal.loop-next-init
 loop-next-init c = filter-opens c.requires.passed c.all_fits-fits.ensures.1 c.all_fits-fits.ensures.0

@@ -1,12 +1,12 @@
 use native.Mathlib.Omega.{arith}
 use Rattle.steps.specs.Entry.{step_at}
-use Rattle.propagation.proofs.Fits.{fitting}
+use Rattle.propagation.proofs.Fits.{all-fitting}
 use Rattle.propagation.proofs.Keeping.{ready}
 use Rattle.propagation.proofs.Replaying.{replay-opens, replay-done, replay-13, replay-11, replay-12, replay-stops, replay-may-move, replay-moves}
 use Rattle.propagation.proofs.replay.replay_log.Goals as goal
 
 pub all_fits-fits-requires : goal.all_fits-fits-requires
-all_fits-fits-requires c = (c.requires.passed.0.tasks, λ i l. fitting _ _ c.requires.passed.0 i l)
+all_fits-fits-requires c = all-fitting _ _ c.requires.passed.0
 
 pub loop-k-init : goal.loop-k-init
 loop-k-init c = replay-opens c.requires.passed c.all_fits-fits.ensures.1 c.all_fits-fits.ensures.0

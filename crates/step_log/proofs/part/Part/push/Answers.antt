@@ -2,7 +2,7 @@ use mathlib.Core.Path.{refl}
 use native.Mathlib.Omega.{arith}
 use Rattle.step_log.specs.Inner.Parts.{part_steps}
 use Rattle.step_log.proofs.Copying.{steps-more}
-use Rattle.step_log.proofs.part.Part.with_step.Goals as goal
+use Rattle.step_log.proofs.part.Part.push.Goals as goal
 
 pub returns : goal.returns
 unfolding part_steps
