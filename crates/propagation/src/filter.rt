@@ -10,7 +10,7 @@ ghost use Rattle.steps.specs.Claim.{FilterHolds};
 use crate::{entry, kept};
 use plan::{Plan, Refusal};
 use steps::{Ending, Filtered, Judged};
-use turns::turn;
+use turns::State;
 
 // The run on a plan that passed its tests, after so many steps taken before. The answers of the calendar rule are kept, and only the moved
 // task's is worked out anew.
@@ -34,7 +34,12 @@ fn run_filter(
     // Where the next step goes in each of the three slices, and how many steps the answer counts.
     let mut count: usize = 0;
     loop {
-        let Some(next) = turn::next_turn(plan, boxes, &fits) else {
+        let state = State {
+            plan: &*plan,
+            boxes,
+            fits: &fits,
+        };
+        let Some(next) = state.next_turn() else {
             return Filtered {
                 ending: Ending::Settled,
                 count: taken + count,

@@ -9,6 +9,7 @@ ghost use Rattle.propagation.specs.Inner.Fitting.{Fitting};
 use calendar::Window;
 use plan::Shifts;
 use std::array;
+use stretches::Task;
 use turns::Fits;
 use units::Bounds;
 
@@ -17,9 +18,12 @@ pub fn fit_of(shifts: &Shifts, boxes: &[u16], i: usize) -> Option<Window>
     requires { Fitting (shifts_in shifts.now) boxes.now i }
     ensures { result ≡ fit_at (shifts_in shifts.now) boxes.now i }
 {
-    let b = plan::bounds_at(boxes, i);
-    let found = calendar::rule(shifts.calendar_of(i), shifts.work_time_of(i), b);
-    calendar::without_witnesses(found)
+    let task = Task {
+        calendar: shifts.calendar_of(i),
+        work_time: shifts.work_time_of(i),
+        bounds: plan::bounds_at(boxes, i),
+    };
+    calendar::without_witnesses(calendar::rule(&task))
 }
 
 // The answers for all tasks; past the last, none.

@@ -11,7 +11,7 @@ ghost use Rattle.steps.specs.Claim.{CheckedHolds};
 use crate::{entry, kept};
 use plan::{Plan, Refusal};
 use steps::{Accepted, Judged, Step};
-use turns::judge;
+use turns::State;
 
 // The replay of a log on a plan that passed its tests, after the steps that were accepted before its first, from the boxes that they left. The
 // answers of the calendar rule are kept, and only the moved task's is worked out anew.
@@ -42,8 +42,12 @@ fn replay_log(
             task: log_tasks[k],
             hour: log_hours[k],
         };
-        let judged = judge::judge_step(plan, boxes, &fits, x);
-        match judged {
+        let state = State {
+            plan: &*plan,
+            boxes,
+            fits: &fits,
+        };
+        match state.judge_step(x) {
             Judged::Unknown => {
                 return Err(Refusal::UnknownStep(after.steps + k));
             }

@@ -77,7 +77,7 @@ impl State<'_> {
             × Loaded P.shifts.hours (room_count P) (task_count P) loads.new self.now.fits.now P.heights }
     {
         let hours = self.plan.shifts.hours.0 as usize;
-        // By number: of what is written through chunks_mut, nothing is known after the loop.
+        // By number: `chunks_mut` would ask that H is not 0, which a state does not say.
         for room in 0..self.plan.rooms() {
             let from = room * hours;
             fill_room(

@@ -10,8 +10,8 @@ all_fits-fits-requires c = all-fitting _ _ c.requires.passed.0
 pub loop-next-init : goal.loop-next-init
 loop-next-init c = filter-opens c.requires.passed c.all_fits-fits.ensures.1 c.all_fits-fits.ensures.0
 
-pub next_turn-requires : goal.next_turn-requires
-next_turn-requires c = let p = c.loop-next.invariant.keeps.passed in (ready _ _ p, p.hours)
+pub invariant_of-state : goal.invariant_of-state
+invariant_of-state c = let p = c.loop-next.invariant.keeps.passed in record { ready = ready _ _ p; short = p.hours }
 
 pub move_bounds-requires : goal.move_bounds-requires
 move_bounds-requires c =

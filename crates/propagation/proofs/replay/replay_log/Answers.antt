@@ -14,31 +14,31 @@ loop-k-init c = replay-opens c.requires.passed c.all_fits-fits.ensures.1 c.all_f
 pub returns-then-impossible : goal.returns-then-impossible
 returns-then-impossible c = replay-13 c.loop-k.invariant c.loop-k-test.true c.if-impossible.true
 
-pub judge_step-judged-requires : goal.judge_step-judged-requires
-judge_step-judged-requires c = let p = c.loop-k.invariant.keeps.passed in (ready _ _ p, p.hours)
+pub invariant_of-state : goal.invariant_of-state
+invariant_of-state c = let p = c.loop-k.invariant.keeps.passed in record { ready = ready _ _ p; short = p.hours }
 
 pub returns-in-Unknown : goal.returns-in-Unknown
 unfolding step_at
-returns-in-Unknown c = replay-11 c.loop-k.invariant c.loop-k-test.true c.if-impossible.false c.judge_step-judged.ensures c.in-Unknown.is
+returns-in-Unknown c = replay-11 c.loop-k.invariant c.loop-k-test.true c.if-impossible.false c.judge_step.ensures c.in-Unknown.is
 
 pub returns-in-NotAdmitted : goal.returns-in-NotAdmitted
 unfolding step_at
-returns-in-NotAdmitted c = replay-12 c.loop-k.invariant c.loop-k-test.true c.if-impossible.false c.judge_step-judged.ensures c.in-NotAdmitted.is
+returns-in-NotAdmitted c = replay-12 c.loop-k.invariant c.loop-k-test.true c.if-impossible.false c.judge_step.ensures c.in-NotAdmitted.is
 
 pub loop-k-preserved-in-Impossible : goal.loop-k-preserved-in-Impossible
 unfolding step_at
 loop-k-preserved-in-Impossible c =
-    replay-stops c.loop-k.invariant c.loop-k-test.true c.if-impossible.false c.judge_step-judged.ensures c.in-Impossible.is
+    replay-stops c.loop-k.invariant c.loop-k-test.true c.if-impossible.false c.judge_step.ensures c.in-Impossible.is
 
 pub move_bounds-requires : goal.move_bounds-requires
 unfolding step_at
 move_bounds-requires c =
-    replay-may-move c.loop-k.invariant c.loop-k-test.true c.if-impossible.false c.judge_step-judged.ensures c.in-Moved.is
+    replay-may-move c.loop-k.invariant c.loop-k-test.true c.if-impossible.false c.judge_step.ensures c.in-Moved.is
 
 pub loop-k-preserved : goal.loop-k-preserved
 unfolding step_at
 loop-k-preserved c =
-    replay-moves c.loop-k.invariant c.loop-k-test.true c.if-impossible.false c.judge_step-judged.ensures c.in-Moved.is c.move_bounds.ensures
+    replay-moves c.loop-k.invariant c.loop-k-test.true c.if-impossible.false c.judge_step.ensures c.in-Moved.is c.move_bounds.ensures
 
 pub returns : goal.returns
 returns c = replay-done c.loop-k.invariant (omega (arith, c.loop-k-test.false, c.loop-k.auto.k-end))
