@@ -28,7 +28,8 @@ pub enum Section {
 }
 
 // What has been read of a text: the section reached, H, how many rooms, how many calendars, whether each calendar line has H symbols, how many
-// symbols and how many tasks. That flag is a fact of all lines so far, and says of no field whether it holds.
+// symbols and how many tasks. That flag is a fact of all lines so far, and says of no field whether it holds. That the counts stay below the text's
+// bytes is no fact of a scan alone: the place in the text bounds what one line more may add.
 #[derive(Clone, Copy)]
 pub struct Scan {
     pub reached: Section,

@@ -1,4 +1,5 @@
-// Bytes and numbers put into lent memory. Each function answers the place after what it put.
+// Bytes and numbers put into lent memory. Each function answers the place after what it put: a struct of memory and place would have to promise at
+// each step that it holds the same memory.
 ghost use Rattle.std.specs.Prelude.{[], ◌∷◌, ◌+◌, ◌≤◌, ◌<◌, length};
 ghost use Rattle.text.specs.Numbers.{decimal_text};
 ghost use Rattle.text.specs.Lines.{number_fields, line_of};

@@ -4,7 +4,6 @@
 
 ghost use Rattle.std.specs.Prelude.{◌≡◌, ◌≤◌, IfOk, length};
 ghost use Rattle.plan_format.specs.Text.{most_bytes};
-ghost use Rattle.worked.specs.Logs.{cells};
 
 use plan::{Fault, Plan, Refusal};
 use plan_text::{MOST_BOUNDS, MOST_BYTES, PlanMemory};
@@ -184,19 +183,15 @@ fn report_checked(rt: &impl Print, answer: Result<Accepted, Refusal>) -> io::Res
     }
 }
 
-// The cells of each log here.
+// The cells of a log here that is to hold every step.
 const CELLS: usize = 2048;
 
-fn empty_log() -> [Step; CELLS]
-    ensures { length result ≡ cells }
-{
-    let empty = Step {
-        kind: 0,
-        task: 0,
-        hour: 0,
-    };
-    [empty; CELLS]
-}
+// An empty cell of a log.
+const NO_STEP: Step = Step {
+    kind: 0,
+    task: 0,
+    hour: 0,
+};
 
 // How many steps stand before the first empty cell: no step has the kind 0.
 fn step_count(log: &[Step]) -> usize
@@ -212,22 +207,17 @@ fn print_steps(rt: &impl Print, steps: &[Step]) -> io::Result<()> {
     Ok(())
 }
 
-// The filter of crate `step_log` on a week, with room for so many steps: prints the answer and the boxes left, and gives the log.
+// The filter of crate `step_log` on a week, with an empty log lent as its room: prints the answer and the boxes left.
 fn filter_week(
     rt: &impl Print,
     plan: &Plan,
     opening: [u16; 12],
-    room: usize,
-) -> io::Result<[Step; CELLS]>
-    requires { room ≤ cells }
-    ensures { IfOk result (λ log. length log ≡ cells) }
-{
+    log: &mut [Step],
+) -> io::Result<()> {
     let mut boxes = opening;
-    let mut log = empty_log();
-    let answer = step_log::filter(plan, &mut boxes, &mut log[..room]);
+    let answer = step_log::filter(plan, &mut boxes, log);
     report_filtered(rt, answer)?;
-    print_boxes(rt, &boxes)?;
-    Ok(log)
+    print_boxes(rt, &boxes)
 }
 
 // The log checker of crate `step_log` on a log of a week: prints the answer and the boxes left.
@@ -238,21 +228,19 @@ fn check_week(rt: &impl Print, plan: &Plan, opening: [u16; 12], log: &[Step]) ->
     print_boxes(rt, &boxes)
 }
 
-// A week with room for so many steps, and its log printed, and checked from the opening boxes.
-fn week_log(rt: &impl Print, plan: &Plan, opening: [u16; 12], room: usize) -> io::Result<()>
-    requires { room ≤ cells }
-{
-    let log = filter_week(rt, plan, opening, room)?;
-    let steps = &log[..step_count(&log)];
+// A week with an empty log lent as its room, and the log printed, and checked from the opening boxes.
+fn week_log(rt: &impl Print, plan: &Plan, opening: [u16; 12], log: &mut [Step]) -> io::Result<()> {
+    filter_week(rt, plan, opening, log)?;
+    let steps = &log[..step_count(log)];
     print_steps(rt, steps)?;
     check_week(rt, plan, opening, steps)
 }
 
-// The printed week.
-fn printed_week_log(rt: &impl Print, room: usize) -> io::Result<()>
-    requires { room ≤ cells }
-{
-    week_log(rt, &week(6, &[1], b"rcrrrr", &HEIGHTS), OPENING, room)
+// The printed week, with room for every step and for two.
+fn printed_week_logs(rt: &impl Print) -> io::Result<()> {
+    let plan = week(6, &[1], b"rcrrrr", &HEIGHTS);
+    week_log(rt, &plan, OPENING, &mut [NO_STEP; CELLS])?;
+    week_log(rt, &plan, OPENING, &mut [NO_STEP; 2])
 }
 
 // Weeks of two rooms: task 0 fills the second in hours 0 and 1, so that task 1 starts in hour 2; both must run in hour 1.
@@ -260,10 +248,10 @@ fn two_rooms_logs(rt: &impl Print) -> io::Result<()> {
     let capacities: [u16; 2] = [2, 1];
     let later: [u16; 12] = [0, 0, 2, 2, 0, 0, 0, 3, 2, 4, 0, 0];
     let four_hours = week(4, &capacities, b"rrrr", &HEIGHTS_IN_TWO_ROOMS);
-    week_log(rt, &four_hours, later, CELLS)?;
+    week_log(rt, &four_hours, later, &mut [NO_STEP; CELLS])?;
     let together: [u16; 12] = [0, 1, 2, 2, 0, 0, 0, 1, 2, 2, 0, 0];
     let three_hours = week(3, &capacities, b"rrr", &HEIGHTS_IN_TWO_ROOMS);
-    week_log(rt, &three_hours, together, CELLS)
+    week_log(rt, &three_hours, together, &mut [NO_STEP; CELLS])
 }
 
 // 130 regular hours without capacity: the filter raises the earliest start of task 0 hour by hour, until its step 127, the last of the log's second
@@ -272,11 +260,11 @@ fn log_of_two_parts(rt: &impl Print) -> io::Result<()> {
     let calendar = [b'r'; 130];
     let opening: [u16; 12] = [0, 128, 2, 2, 0, 0, 0, 128, 2, 2, 0, 0];
     let plan = week(130, &[0], &calendar, &HEIGHTS);
-    let mut log = filter_week(rt, &plan, opening, CELLS)?;
-    check_week(rt, &plan, opening, &log[..128])?;
-    let first = log[0];
-    log[128] = first;
-    check_week(rt, &plan, opening, &log[..129])
+    let mut log = [NO_STEP; 129];
+    filter_week(rt, &plan, opening, &mut log)?;
+    check_week(rt, &plan, opening, &log[..step_count(&log)])?;
+    log[128] = log[0];
+    check_week(rt, &plan, opening, &log)
 }
 
 fn report_writing(rt: &impl Print, answer: Result<usize, Refusal>) -> io::Result<()> {
@@ -360,8 +348,7 @@ fn main(rt: HostRuntime) -> io::Result<()> {
     print_weeks(&rt)?;
     print_refusals(&rt)?;
     print_larger_weeks(&rt)?;
-    printed_week_log(&rt, CELLS)?;
-    printed_week_log(&rt, 2)?;
+    printed_week_logs(&rt)?;
     two_rooms_logs(&rt)?;
     log_of_two_parts(&rt)?;
     print_rewritings(&rt)
