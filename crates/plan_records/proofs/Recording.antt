@@ -51,12 +51,12 @@ module _ (fields : List ℕ) where
 -- what is found where the code looks for a byte and for a separator
 pub symbols-made : (symbols : Bor (List ℕ)) (test : Bool) → test ≡ (not (eqb (length symbols.now) 0) && not (list_any (λ b. eqb b tab) symbols.now))
     → MatchOption (some_if test symbols) (cal_of (parts tab symbols.now) ≡ None)
-        (λ s. (cal_of (parts tab symbols.now) ≡ Some (cal_record s.now)) × (length s.now ≤ length symbols.now))
+    (λ s. (cal_of (parts tab symbols.now) ≡ Some (cal_record s.now)) × (length s.now ≤ length symbols.now))
 symbols-made symbols test e = rw e (go (eqb (length symbols.now) 0) refl (list_any (λ b. eqb b tab) symbols.now) refl)
   where
     go : (t : Bool) → eqb (length symbols.now) 0 ≡ t → (u : Bool) → list_any (λ b. eqb b tab) symbols.now ≡ u
         → MatchOption (some_if (not t && not u) symbols) (cal_of (parts tab symbols.now) ≡ None)
-            (λ s. (cal_of (parts tab symbols.now) ≡ Some (cal_record s.now)) × (length s.now ≤ length symbols.now))
+        (λ s. (cal_of (parts tab symbols.now) ≡ Some (cal_record s.now)) × (length s.now ≤ length symbols.now))
     go true q u r = symbols-empty symbols.now (eqb-true (length symbols.now) 0 q)
     go false q true r = symbols-parted symbols.now r
     go false q false r = (symbols-are symbols.now r q, omega arith)

@@ -80,7 +80,7 @@ module _ (separator : ℕ) where
     where
       go : (t : Bool) → ltb (position_or_len here l) (length l) ≡ t
           → MatchOption (cond t (Some (position_or_len here l)) None) (first_at separator l ≡ length l)
-              (λ n. (n ≡ first_at separator l) × (n < length l))
+          (λ n. (n ≡ first_at separator l) × (n < length l))
       go true e = (sym (first_is l), ltb-true (position_or_len here l) (length l) e)
       go false e = omega (arith, first_is l, first-within l, ltb-false (position_or_len here l) (length l) e)
 
