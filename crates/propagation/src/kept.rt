@@ -18,11 +18,7 @@ pub fn fit_of(shifts: &Shifts, boxes: &[u16], i: usize) -> Option<Window>
     requires { Fitting (shifts_in shifts.now) boxes.now i }
     ensures { result ≡ fit_at (shifts_in shifts.now) boxes.now i }
 {
-    let task = Task {
-        calendar: shifts.calendar_of(i),
-        work_time: shifts.work_time_of(i),
-        bounds: plan::bounds_at(boxes, i),
-    };
+    let task = Task::of_plan(shifts, boxes, i);
     calendar::without_witnesses(calendar::rule(&task))
 }
 

@@ -17,6 +17,7 @@ ghost use Rattle.schedule.specs.Inner.Ready.{TriplesReady, HoursReady, RoomsRead
 
 use calendar::Triple;
 use plan::{Plan, Refusal};
+use stretches::Task;
 use units::{Bounds, Duration, Height, Hour};
 
 // The triple of task i.
@@ -46,21 +47,15 @@ fn is_in_bounds(b: Bounds, t: Triple) -> bool
 }
 
 // 14, 15 of one task.
-fn test_triple(
-    task: usize,
-    calendar: &[u8],
-    work_time: Duration,
-    bounds: Bounds,
-    t: Triple,
-) -> Result<(), Refusal>
-    requires { length calendar.now ≤ most_hours }
-    ensures { tested_fault result ≡ one_triple_fault calendar.now work_time.0 bounds task t }
+fn test_triple(number: usize, task: &Task, t: Triple) -> Result<(), Refusal>
+    requires { length task.now.calendar.now ≤ most_hours }
+    ensures { tested_fault result ≡ one_triple_fault task.now.calendar.now task.now.work_time.0 task.now.bounds number t }
 {
-    if !is_in_bounds(bounds, t) {
-        return Err(Refusal::OutsideBounds(task));
+    if !is_in_bounds(task.bounds, t) {
+        return Err(Refusal::OutsideBounds(number));
     }
-    if !calendar::is_valid(calendar, work_time, t) {
-        return Err(Refusal::NotValid(task));
+    if !calendar::is_valid(task.calendar, task.work_time, t) {
+        return Err(Refusal::NotValid(number));
     }
     Ok(())
 }
@@ -71,16 +66,10 @@ fn test_triples(plan: &Plan, boxes: &[u16], schedule: &[u16]) -> Result<(), Refu
     ensures { let S = shifts_in plan.now.shifts in
         tested_fault result ≡ first_of (triple_fault S boxes.now (triple_at schedule.now)) (length S.task_calendars) }
 {
-    let shifts = &plan.shifts;
     // By number: it is the refusal's place, and what a task has lies in several lent slices.
     for i in 0..plan.tasks() {
-        test_triple(
-            i,
-            shifts.calendar_of(i),
-            shifts.work_time_of(i),
-            plan::bounds_at(boxes, i),
-            triple_at(schedule, i),
-        )?;
+        let task = Task::of_plan(&plan.shifts, boxes, i);
+        test_triple(i, &task, triple_at(schedule, i))?;
     }
     Ok(())
 }

@@ -3,13 +3,16 @@
 
 pub mod reach;
 
-ghost use Rattle.std.specs.Prelude.{◌≡◌, ◌≤◌, ◌<◌, length};
-ghost use Rattle.units.specs.Limits.{most_hours};
+ghost use Rattle.std.specs.Prelude.{◌≡◌, ◌+◌, ◌*◌, ◌≤◌, ◌<◌, length};
+ghost use Rattle.units.specs.Limits.{box_numbers, most_hours, duration};
 ghost use Rattle.units.specs.Sums.{one_if};
 ghost use Rattle.plan.specs.HourKinds.{is_kind};
+ghost use Rattle.plan.specs.Plan.{calendar_of, work_time_of};
+ghost use Rattle.plan.specs.Boxes.{bounds_at};
+ghost use Rattle.plan.specs.Lent.{HasCalendar, shifts_in};
 ghost use Rattle.stretches.specs.Inner.Stretches.{Inside, counts_of, with_hour};
 
-use plan::{HourKind, is_kind};
+use plan::{HourKind, Shifts, is_kind};
 use units::{Bounds, Duration, Hour};
 
 // A task as the calendar rule sees it: the symbols of its calendar, its work time p, and its box.
@@ -34,6 +37,24 @@ pub struct Stretch {
     pub last: Duration,
     pub regular: Duration,
     pub counts: Counts,
+}
+
+impl<'a> Task<'a> {
+    // Task i of a plan.
+    pub fn of_plan(shifts: &Shifts<'a>, boxes: &[u16], i: usize) -> Task<'a>
+        requires { let S = shifts_in shifts.now in
+            HasCalendar S i × (i < length S.work_times) × (box_numbers * i + box_numbers ≤ length boxes.now) }
+        ensures { let S = shifts_in shifts.now in
+            (result.calendar.now ≡ calendar_of S i)
+            × (result.work_time ≡ duration (work_time_of S i))
+            × (result.bounds ≡ bounds_at boxes.now i) }
+    {
+        Task {
+            calendar: shifts.calendar_of(i),
+            work_time: shifts.work_time_of(i),
+            bounds: plan::bounds_at(boxes, i),
+        }
+    }
 }
 
 impl Counts {

@@ -1,5 +1,7 @@
 use mathlib.Core.Path.{sym, ◌∙◌}
+use Prim.Native.Nat.{◌<◌}
 use native.Mathlib.Omega.{arith}
+use lib.ListN.{length}
 use Rattle.units.proofs.Searching.{unfound-first, unfound-next, unfound-hit, unfound-end}
 use Rattle.plan.proofs.Refusals.{handed-on}
 use Rattle.schedule.proofs.Entry.{triple-is, calendar-small}
@@ -8,25 +10,25 @@ use Rattle.schedule.proofs.test_triples.Goals as goal
 pub loop-i-init : goal.loop-i-init
 loop-i-init c = unfound-first
 
-pub calendar_of-requires : goal.calendar_of-requires
-calendar_of-requires c =
-    record {
-      task = omega (arith, c.loop-i-test.true, c.tasks-i-end.ensures);
-      within = c.requires.calendar _ (omega (arith, c.loop-i-test.true, c.tasks-i-end.ensures));
-    }
+pub of_plan-task-requires : goal.of_plan-task-requires
+of_plan-task-requires c =
+    let l : c.loop-i.i < length c.args.plan.now.shifts.task_calendars.now = omega (arith, c.loop-i-test.true, c.tasks-i-end.ensures) in
+    (record { task = l; within = c.requires.calendar _ l }, omega (arith, l, c.requires.work_times), omega (arith, l, c.requires.boxes))
 
 pub test_triple-requires : goal.test_triple-requires
-test_triple-requires c = calendar-small _ _ _ c.calendar_of.ensures c.requires.hours
+test_triple-requires c = calendar-small _ _ _ c.of_plan-task.ensures.0 c.requires.hours
 
 pub returns-in_err-test_triple : goal.returns-in_err-test_triple
 returns-in_err-test_triple c =
-    let here = triple-is _ _ _ _ _ _ _ _ _ c.calendar_of.ensures c.work_time_of.ensures c.bounds_at.ensures c.triple_at.ensures c.in_err-test_triple.ensures in
+    let task = c.of_plan-task.ensures in
+    let here = triple-is _ _ _ _ _ _ _ _ _ task.0 task.1 task.2 c.triple_at.ensures c.in_err-test_triple.ensures in
     handed-on _ _ c.from_residual.ensures.1
     ∙ sym (unfound-hit c.loop-i.invariant (omega (arith, c.loop-i-test.true, c.tasks-i-end.ensures)) (sym here))
 
 pub loop-i-preserved : goal.loop-i-preserved
 loop-i-preserved c =
-    let here = triple-is _ _ _ _ _ _ _ _ _ c.calendar_of.ensures c.work_time_of.ensures c.bounds_at.ensures c.triple_at.ensures c.in_ok-test_triple.ensures in
+    let task = c.of_plan-task.ensures in
+    let here = triple-is _ _ _ _ _ _ _ _ _ task.0 task.1 task.2 c.triple_at.ensures c.in_ok-test_triple.ensures in
     unfound-next c.loop-i.invariant (omega (arith, c.loop-i-test.true, c.tasks-i-end.ensures)) (sym here)
 
 pub returns : goal.returns
