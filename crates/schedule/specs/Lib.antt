@@ -1,4 +1,3 @@
 pub mod Schedule
 pub mod Entry
 pub mod Decision
-pub mod Inner

@@ -1,24 +1,33 @@
 // The schedule checker: whether a schedule is feasible, and its makespan.
 #![tactic(auto)]
 
-ghost use Rattle.std.specs.Prelude.{◌≡◌, ◌+◌, ◌*◌, ◌≤◌, length};
+ghost use Rattle.std.specs.Prelude.{◌≡◌, ◌+◌, ◌*◌, ◌≤◌, ◌<◌, length};
 ghost use Rattle.units.specs.Choice.{◌and◌, first_of};
 ghost use Rattle.units.specs.Limits.{most_hours};
-ghost use Rattle.units.specs.Sums.{max_to};
 ghost use Rattle.plan.specs.Refusals.{tested_fault};
 ghost use Rattle.plan.specs.Plan.{room_count, task_count};
 ghost use Rattle.plan.specs.Faults.{is_right_size};
-ghost use Rattle.plan.specs.Lent.{shifts_in, plan_in};
-ghost use Rattle.calendar.specs.Triples.{triple_numbers, end_of, in_bounds};
-ghost use Rattle.schedule.specs.Schedule.{triple_at, runs};
-ghost use Rattle.schedule.specs.Entry.{one_triple_fault, triple_fault, is_sized, check_fault, check_schedule, schedule_answer};
+ghost use Rattle.plan.specs.Passed.{Passed};
+ghost use Rattle.plan.specs.Lent.{plan_in};
+ghost use Rattle.calendar.specs.Triples.{triple_numbers, in_bounds};
+ghost use Rattle.schedule.specs.Schedule.{triple_at, runs, running, Feasible, makespan};
+ghost use Rattle.schedule.specs.Entry.{one_triple_fault, triple_fault, hour_fault, is_sized, check_fault, check_schedule, schedule_answer};
 ghost use Rattle.schedule.specs.Decision.{Decides};
-ghost use Rattle.schedule.specs.Inner.Ready.{TriplesReady, HoursReady, RoomsReady, EndsReady, running_heights, heights_fault};
 
 use calendar::Triple;
 use plan::{Plan, Refusal};
 use stretches::Task;
 use units::{Bounds, Duration, Height, Hour};
+
+// A plan and its boxes that have passed every test, and a schedule with one triple for each task.
+#[derive(Clone, Copy)]
+struct Tested<'a> {
+    plan: &'a Plan<'a>,
+    boxes: &'a [u16],
+    schedule: &'a [u16],
+    ghost passed: { Passed (plan_in plan.now) boxes.now },
+    ghost sized: { length schedule.now ≡ triple_numbers * task_count (plan_in plan.now) },
+}
 
 // The triple of task i.
 fn triple_at(schedule: &[u16], i: usize) -> Triple
@@ -60,20 +69,6 @@ fn test_triple(number: usize, task: &Task, t: Triple) -> Result<(), Refusal>
     Ok(())
 }
 
-// Task by task.
-fn test_triples(plan: &Plan, boxes: &[u16], schedule: &[u16]) -> Result<(), Refusal>
-    requires { TriplesReady (shifts_in plan.now.shifts) boxes.now schedule.now }
-    ensures { let S = shifts_in plan.now.shifts in
-        tested_fault result ≡ first_of (triple_fault S boxes.now (triple_at schedule.now)) (length S.task_calendars) }
-{
-    // By number: it is the refusal's place, and what a task has lies in several lent slices.
-    for i in 0..plan.tasks() {
-        let task = Task::of_plan(&plan.shifts, boxes, i);
-        test_triple(i, &task, triple_at(schedule, i))?;
-    }
-    Ok(())
-}
-
 // Whether a task with the triple runs in the hour. The time since its start is compared, since an end may not fit.
 fn is_running(t: Triple, hour: Hour) -> bool
     ensures { result ≡ runs t hour.0 }
@@ -84,46 +79,74 @@ fn is_running(t: Triple, hour: Hour) -> bool
     hour.since(t.start) < t.elapsed
 }
 
-// The heights in a room of the tasks that run in the hour, added.
-fn running_heights(heights: &[u16], schedule: &[u16], hour: Hour) -> Height
-    requires { HoursReady heights.now schedule.now }
-    ensures { result.0 ≡ running_heights heights.now schedule.now hour.0 }
-{
-    let mut sum = Height(0);
-    for (i, height) in heights.iter().enumerate() {
-        if is_running(triple_at(schedule, i), hour) {
-            sum = sum.plus(Height(*height));
+impl Tested<'_> {
+    // Task by task.
+    fn test_triples(&self) -> Result<(), Refusal>
+        ensures { let P = plan_in self.now.plan.now in
+            tested_fault result ≡ first_of (triple_fault P.shifts self.now.boxes.now (triple_at self.now.schedule.now)) (task_count P) }
+    {
+        // By number: it is the refusal's place, and what a task has lies in several lent slices.
+        for i in 0..self.plan.tasks() {
+            let task = Task::of_plan(&self.plan.shifts, self.boxes, i);
+            test_triple(i, &task, triple_at(self.schedule, i))?;
         }
+        Ok(())
     }
-    sum
-}
 
-// 16, where the tasks that run in the hour take more than a room's capacity.
-fn test_hour(plan: &Plan, schedule: &[u16], hour: Hour) -> Result<(), Refusal>
-    requires { let P = plan_in plan.now in RoomsReady (room_count P) (task_count P) P.heights schedule.now }
-    ensures { let P = plan_in plan.now in
-        tested_fault result ≡ heights_fault P.capacities (task_count P) P.heights schedule.now hour.0 }
-{
-    for (room, capacity) in plan.capacities.iter().enumerate() {
-        let running = running_heights(plan.heights_of(room), schedule, hour);
-        if running > Height(*capacity) {
-            return Err(Refusal::OverCapacity(hour.0 as usize));
+    // The heights in a room of the tasks that run in the hour, added.
+    fn running_heights(&self, room: usize, hour: Hour) -> Height
+        requires { room < room_count (plan_in self.now.plan.now) }
+        ensures { result.0 ≡ running (plan_in self.now.plan.now) room (triple_at self.now.schedule.now) hour.0 }
+    {
+        let heights = self.plan.heights_of(room);
+        let mut sum = Height(0);
+        for (i, height) in heights.iter().enumerate() {
+            if is_running(triple_at(self.schedule, i), hour) {
+                sum = sum.plus(Height(*height));
+            }
         }
+        sum
     }
-    Ok(())
-}
 
-// 16, at the first hour in which the running tasks take more than the capacity of any room.
-fn test_hours(plan: &Plan, schedule: &[u16]) -> Result<(), Refusal>
-    requires { let P = plan_in plan.now in RoomsReady (room_count P) (task_count P) P.heights schedule.now }
-    ensures { let P = plan_in plan.now in
-        tested_fault result ≡ first_of (heights_fault P.capacities (task_count P) P.heights schedule.now) P.shifts.hours }
-{
-    // By hour, which is the refusal's place.
-    for hour in 0..plan.shifts.hours.0 {
-        test_hour(plan, schedule, Hour(hour))?;
+    // 16, where the tasks that run in the hour take more than a room's capacity.
+    fn test_hour(&self, hour: Hour) -> Result<(), Refusal>
+        ensures { tested_fault result ≡ hour_fault (plan_in self.now.plan.now) (triple_at self.now.schedule.now) hour.0 }
+    {
+        for (room, capacity) in self.plan.capacities.iter().enumerate() {
+            let running = self.running_heights(room, hour);
+            if running > Height(*capacity) {
+                return Err(Refusal::OverCapacity(hour.0 as usize));
+            }
+        }
+        Ok(())
     }
-    Ok(())
+
+    // 16, at the first hour in which the running tasks take more than the capacity of any room.
+    fn test_hours(&self) -> Result<(), Refusal>
+        ensures { let P = plan_in self.now.plan.now in
+            tested_fault result ≡ first_of (hour_fault P (triple_at self.now.schedule.now)) P.shifts.hours }
+    {
+        // By hour, which is the refusal's place.
+        for hour in 0..self.plan.shifts.hours.0 {
+            self.test_hour(Hour(hour))?;
+        }
+        Ok(())
+    }
+
+    // The largest end.
+    fn latest_end(&self) -> Hour
+        requires { Feasible (plan_in self.now.plan.now) self.now.boxes.now (triple_at self.now.schedule.now) }
+        ensures { result.0 ≡ makespan (plan_in self.now.plan.now) (triple_at self.now.schedule.now) }
+    {
+        let tasks = self.plan.tasks();
+        let mut latest = Hour(0);
+        // By number: where a task's triple lies is said in `triple_at` alone.
+        for i in 0..tasks {
+            let t = triple_at(self.schedule, i);
+            latest = latest.max(t.start.plus(t.elapsed));
+        }
+        latest
+    }
 }
 
 // Whether the fields, the boxes and the schedule number one for each task.
@@ -143,22 +166,13 @@ fn test_schedule(plan: &Plan, boxes: &[u16], schedule: &[u16]) -> Result<(), Ref
         return Err(Refusal::MemorySize);
     }
     input::test_plan(plan, boxes)?;
-    test_triples(plan, boxes, schedule)?;
-    test_hours(plan, schedule)
-}
-
-// The largest end.
-fn latest_end(schedule: &[u16], tasks: usize) -> Hour
-    requires { EndsReady schedule.now tasks }
-    ensures { result.0 ≡ max_to (λ i. end_of (triple_at schedule.now i)) tasks }
-{
-    let mut latest = Hour(0);
-    // By number: where a task's triple lies is said in `triple_at` alone.
-    for i in 0..tasks {
-        let t = triple_at(schedule, i);
-        latest = latest.max(t.start.plus(t.elapsed));
-    }
-    latest
+    let tested = &Tested {
+        plan,
+        boxes,
+        schedule,
+    };
+    tested.test_triples()?;
+    tested.test_hours()
 }
 
 // The schedule checker: accepts exactly the feasible schedules of a plan that passes the tests, with the makespan.
@@ -167,5 +181,10 @@ pub fn check_schedule(plan: &Plan, boxes: &[u16], schedule: &[u16]) -> Result<Ho
     ensures exactly { Decides (plan_in plan.now) boxes.now schedule.now (schedule_answer result) }
 {
     test_schedule(plan, boxes, schedule)?;
-    Ok(latest_end(schedule, plan.tasks()))
+    let tested = &Tested {
+        plan,
+        boxes,
+        schedule,
+    };
+    Ok(tested.latest_end())
 }

@@ -4,21 +4,22 @@ use Prim.Native.Nat.{ℕ}
 use Rattle.std.specs.Prelude.{Some, Result}
 use Rattle.std.specs.Result.{IsErrAnd}
 use Rattle.std.proofs.lemmas.Result.{err_from_is_err_and}
-use Rattle.units.specs.Sums.{max_to}
 use Rattle.units.specs.declared.Hour.{Hour}
 use Rattle.plan.specs.declared.Refusal.{Refusal}
 use Rattle.plan.specs.Plan.{Plan}
 use Rattle.plan.specs.Refusals.{answered, fault_of}
 use Rattle.schedule.specs.Entry.{check_fault, check_schedule, schedule_answer}
-use Rattle.schedule.specs.Schedule.{makespan}
-use Rattle.schedule.proofs.Readiness.{ends-ready}
+use Rattle.schedule.proofs.Readiness.{plan-facts, triple-each}
 use Rattle.schedule.proofs.Decision.{faultless, accepts, refuses, decides-as}
 use Rattle.schedule.proofs.check_schedule.Goals as goal
 
-pub latest_end-requires : goal.latest_end-requires
-latest_end-requires c =
+pub invariant_of-tested : goal.invariant_of-tested
+invariant_of-tested c =
     let known = faultless _ _ _ (sym c.in_ok-test_schedule.ensures) in
-    rw c.tasks.ensures (ends-ready known.input known.feasible)
+    record { passed = plan-facts known.input; sized = triple-each known.input }
+
+pub latest_end-requires : goal.latest_end-requires
+latest_end-requires c = (faultless _ _ _ (sym c.in_ok-test_schedule.ensures)).feasible
 
 -- the refusal that is handed on is the answer
 told : (P : Plan) (boxes schedule : List ℕ) (r : Result Hour Refusal) (d : Refusal) → IsErrAnd r (λ e. e ≡ d)
@@ -32,12 +33,7 @@ pub returns-in_err-test_schedule-clause-exactly : goal.returns-in_err-test_sched
 returns-in_err-test_schedule-clause-exactly c = decides-as _ _ _ _ (told _ _ _ _ _ c.from_residual.ensures.1 (sym c.in_err-test_schedule.ensures))
 
 pub returns-clause-answer : goal.returns-clause-answer
-unfolding makespan
-returns-clause-answer c =
-    ap answered (c.latest_end.ensures ∙ ap (max_to _) c.tasks.ensures) ∙ sym (accepts _ _ _ (sym c.in_ok-test_schedule.ensures))
+returns-clause-answer c = ap answered c.latest_end.ensures ∙ sym (accepts _ _ _ (sym c.in_ok-test_schedule.ensures))
 
 pub returns-clause-exactly : goal.returns-clause-exactly
-unfolding makespan
-returns-clause-exactly c =
-    decides-as _ _ _ _
-    (ap answered (c.latest_end.ensures ∙ ap (max_to _) c.tasks.ensures) ∙ sym (accepts _ _ _ (sym c.in_ok-test_schedule.ensures)))
+returns-clause-exactly c = decides-as _ _ _ _ (ap answered c.latest_end.ensures ∙ sym (accepts _ _ _ (sym c.in_ok-test_schedule.ensures)))

@@ -10,8 +10,7 @@ use mathlib.Core.List.{List}
 use Rattle.std.specs.Prelude.{None}
 use Prim.Native.Nat.{ℕ}
 use Rattle.schedule.specs.Decision.{RightSize}
-use Rattle.schedule.proofs.Entry.{hours-are}
-use Rattle.schedule.proofs.Readiness.{InputPasses, room-tasks, triples-ready, rooms_ready}
+use Rattle.schedule.proofs.Readiness.{InputPasses, plan-facts, triple-each}
 use Rattle.schedule.proofs.test_schedule.Goals as goal
 
 -- a plan that passes, with memory of the right size, so that the schedule's tests decide
@@ -37,9 +36,10 @@ returns-in_err-test_plan c =
     ∙ sym
     (go_on _ 31 0 _ (sym c.is_right_size.ensures ∙ c.if-not-is_right_size.false) ∙ else-some _ _ _ (sym c.in_err-test_plan.ensures))
 
-pub test_triples-requires : goal.test_triples-requires
-test_triples-requires c =
-    triples-ready (passing (plan_in c.args.plan.now) _ _ (sym c.is_right_size.ensures ∙ c.if-not-is_right_size.false) (sym c.in_ok-test_plan.ensures))
+pub invariant_of-tested : goal.invariant_of-tested
+invariant_of-tested c =
+    let input = passing (plan_in c.args.plan.now) _ _ (sym c.is_right_size.ensures ∙ c.if-not-is_right_size.false) (sym c.in_ok-test_plan.ensures) in
+    record { passed = plan-facts input; sized = triple-each input }
 
 pub returns-in_err-test_triples : goal.returns-in_err-test_triples
 unfolding schedule_fault
@@ -48,14 +48,8 @@ returns-in_err-test_triples c =
     handed-on _ _ c.from_residual-in_err-test_triples.ensures.1
     ∙ sym (by-schedule _ _ _ input ∙ else-some _ _ _ (sym c.in_err-test_triples.ensures))
 
-pub test_hours-requires : goal.test_hours-requires
-test_hours-requires c =
-    rooms_ready (passing (plan_in c.args.plan.now) _ _ (sym c.is_right_size.ensures ∙ c.if-not-is_right_size.false) (sym c.in_ok-test_plan.ensures))
-
 pub returns : goal.returns
 unfolding schedule_fault
 returns c =
     let input = passing (plan_in c.args.plan.now) _ _ (sym c.is_right_size.ensures ∙ c.if-not-is_right_size.false) (sym c.in_ok-test_plan.ensures) in
-    c.test_hours.ensures
-    ∙ hours-are _ _ (room-tasks input)
-    ∙ sym (by-schedule _ _ _ input ∙ else-none _ _ (sym c.in_ok-test_triples.ensures))
+    c.test_hours.ensures ∙ sym (by-schedule _ _ _ input ∙ else-none _ _ (sym c.in_ok-test_triples.ensures))
