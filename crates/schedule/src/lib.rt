@@ -1,7 +1,7 @@
 // The schedule checker: whether a schedule is feasible, and its makespan.
 #![tactic(auto)]
 
-ghost use Rattle.std.specs.Prelude.{◌≡◌, ◌+◌, ◌*◌, ◌≤◌, ◌<◌, length};
+ghost use Rattle.std.specs.Prelude.{◌≡◌, ◌+◌, ◌*◌, ◌≤◌, ◌<◌, IfOk, length};
 ghost use Rattle.units.specs.Choice.{◌and◌, first_of};
 ghost use Rattle.units.specs.Limits.{most_hours};
 ghost use Rattle.plan.specs.Refusals.{tested_fault};
@@ -158,21 +158,27 @@ fn is_right_size(plan: &Plan, boxes: &[u16], schedule: &[u16]) -> bool
         && units::is_for_each(schedule.len(), Triple::NUMBERS, plan.tasks())
 }
 
-// The tests of a schedule: 31, the plan's tests, the triples, the hours.
-fn test_schedule(plan: &Plan, boxes: &[u16], schedule: &[u16]) -> Result<(), Refusal>
-    ensures { tested_fault result ≡ check_fault (plan_in plan.now) boxes.now schedule.now }
+// The tests of a schedule: 31, the plan's tests, the triples, the hours. What has passed them is what was lent.
+fn test_schedule<'a>(
+    plan: &'a Plan<'a>,
+    boxes: &'a [u16],
+    schedule: &'a [u16],
+) -> Result<Tested<'a>, Refusal>
+    ensures tests { tested_fault result ≡ check_fault (plan_in plan.now) boxes.now schedule.now }
+    ensures lends { IfOk result (λ t. (t.plan.now ≡ plan.now) × (t.boxes.now ≡ boxes.now) × (t.schedule.now ≡ schedule.now)) }
 {
     if !is_right_size(plan, boxes, schedule) {
         return Err(Refusal::MemorySize);
     }
     input::test_plan(plan, boxes)?;
-    let tested = &Tested {
+    let tested = Tested {
         plan,
         boxes,
         schedule,
     };
     tested.test_triples()?;
-    tested.test_hours()
+    tested.test_hours()?;
+    Ok(tested)
 }
 
 // The schedule checker: accepts exactly the feasible schedules of a plan that passes the tests, with the makespan.
@@ -180,11 +186,5 @@ pub fn check_schedule(plan: &Plan, boxes: &[u16], schedule: &[u16]) -> Result<Ho
     ensures answer { schedule_answer result ≡ check_schedule (plan_in plan.now) boxes.now schedule.now }
     ensures exactly { Decides (plan_in plan.now) boxes.now schedule.now (schedule_answer result) }
 {
-    test_schedule(plan, boxes, schedule)?;
-    let tested = &Tested {
-        plan,
-        boxes,
-        schedule,
-    };
-    Ok(tested.latest_end())
+    Ok(test_schedule(plan, boxes, schedule)?.latest_end())
 }

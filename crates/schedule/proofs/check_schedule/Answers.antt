@@ -9,17 +9,16 @@ use Rattle.plan.specs.declared.Refusal.{Refusal}
 use Rattle.plan.specs.Plan.{Plan}
 use Rattle.plan.specs.Refusals.{answered, fault_of}
 use Rattle.schedule.specs.Entry.{check_fault, check_schedule, schedule_answer}
-use Rattle.schedule.proofs.Readiness.{plan-facts, triple-each}
 use Rattle.schedule.proofs.Decision.{faultless, accepts, refuses, decides-as}
+use Rattle.plan.specs.Lent.{plan_in}
+use Rattle.std.specs.Prelude.{Ok}
+use Rattle.schedule.proofs.check_schedule.Goals.{After-latest_end}
 use Rattle.schedule.proofs.check_schedule.Goals as goal
 
-pub invariant_of-tested : goal.invariant_of-tested
-invariant_of-tested c =
-    let known = faultless _ _ _ (sym c.in_ok-test_schedule.ensures) in
-    record { passed = plan-facts known.input; sized = triple-each known.input }
-
 pub latest_end-requires : goal.latest_end-requires
-latest_end-requires c = (faultless _ _ _ (sym c.in_ok-test_schedule.ensures)).feasible
+latest_end-requires c =
+    let l = c.in_ok-test_schedule.ensures.lends in
+    rw (l.0, l.1, l.2) (faultless _ _ _ (sym c.in_ok-test_schedule.ensures.tests)).feasible
 
 -- the refusal that is handed on is the answer
 told : (P : Plan) (boxes schedule : List ℕ) (r : Result Hour Refusal) (d : Refusal) → IsErrAnd r (λ e. e ≡ d)
@@ -27,13 +26,20 @@ told : (P : Plan) (boxes schedule : List ℕ) (r : Result Hour Refusal) (d : Ref
 told P boxes schedule r d h q = let p = err_from_is_err_and r h in rw (p.1, p.2) (sym (refuses _ _ _ _ q))
 
 pub returns-in_err-test_schedule-clause-answer : goal.returns-in_err-test_schedule-clause-answer
-returns-in_err-test_schedule-clause-answer c = told _ _ _ _ _ c.from_residual.ensures.1 (sym c.in_err-test_schedule.ensures)
+returns-in_err-test_schedule-clause-answer c = told _ _ _ _ _ c.from_residual.ensures.1 (sym c.in_err-test_schedule.ensures.tests)
 
 pub returns-in_err-test_schedule-clause-exactly : goal.returns-in_err-test_schedule-clause-exactly
-returns-in_err-test_schedule-clause-exactly c = decides-as _ _ _ _ (told _ _ _ _ _ c.from_residual.ensures.1 (sym c.in_err-test_schedule.ensures))
+returns-in_err-test_schedule-clause-exactly c = decides-as _ _ _ _ (told _ _ _ _ _ c.from_residual.ensures.1 (sym c.in_err-test_schedule.ensures.tests))
+
+-- the makespan of what was lent is the answer
+ended : (c : After-latest_end) → let a = c.args in schedule_answer (Ok c.latest_end.result) ≡ check_schedule (plan_in a.plan.now) a.boxes.now a.schedule.now
+ended c =
+    let l = c.in_ok-test_schedule.ensures.lends in
+    ap answered (rw (l.0, l.2) at c.latest_end.ensures)
+    ∙ sym (accepts _ _ _ (sym c.in_ok-test_schedule.ensures.tests))
 
 pub returns-clause-answer : goal.returns-clause-answer
-returns-clause-answer c = ap answered c.latest_end.ensures ∙ sym (accepts _ _ _ (sym c.in_ok-test_schedule.ensures))
+returns-clause-answer c = ended (goal.at.returns-clause-answer c).After-latest_end
 
 pub returns-clause-exactly : goal.returns-clause-exactly
-returns-clause-exactly c = decides-as _ _ _ _ (ap answered c.latest_end.ensures ∙ sym (accepts _ _ _ (sym c.in_ok-test_schedule.ensures)))
+returns-clause-exactly c = decides-as _ _ _ _ (ended (goal.at.returns-clause-exactly c).After-latest_end)

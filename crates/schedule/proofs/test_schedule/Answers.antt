@@ -22,16 +22,16 @@ by-schedule : (P : Plan) (boxes schedule : List ℕ) → InputPasses P boxes sch
 unfolding check_fault
 by-schedule P boxes schedule input = go_on _ 31 0 _ input.size ∙ else-none _ _ input.passes
 
-pub returns-then-not-is_right_size : goal.returns-then-not-is_right_size
+pub returns-then-not-is_right_size-clause-tests : goal.returns-then-not-is_right_size-clause-tests
 unfolding check_fault
-returns-then-not-is_right_size c = sym (refuse _ 31 0 _ (sym c.is_right_size.ensures ∙ c.if-not-is_right_size.true))
+returns-then-not-is_right_size-clause-tests c = sym (refuse _ 31 0 _ (sym c.is_right_size.ensures ∙ c.if-not-is_right_size.true))
 
 pub test_plan-requires : goal.test_plan-requires
 test_plan-requires c = and_left _ _ (sym c.is_right_size.ensures ∙ c.if-not-is_right_size.false)
 
-pub returns-in_err-test_plan : goal.returns-in_err-test_plan
+pub returns-in_err-test_plan-clause-tests : goal.returns-in_err-test_plan-clause-tests
 unfolding check_fault
-returns-in_err-test_plan c =
+returns-in_err-test_plan-clause-tests c =
     handed-on _ _ c.from_residual.ensures.1
     ∙ sym
     (go_on _ 31 0 _ (sym c.is_right_size.ensures ∙ c.if-not-is_right_size.false) ∙ else-some _ _ _ (sym c.in_err-test_plan.ensures))
@@ -41,15 +41,23 @@ invariant_of-tested c =
     let input = passing (plan_in c.args.plan.now) _ _ (sym c.is_right_size.ensures ∙ c.if-not-is_right_size.false) (sym c.in_ok-test_plan.ensures) in
     record { passed = plan-facts input; sized = triple-each input }
 
-pub returns-in_err-test_triples : goal.returns-in_err-test_triples
+pub returns-in_err-test_triples-clause-tests : goal.returns-in_err-test_triples-clause-tests
 unfolding schedule_fault
-returns-in_err-test_triples c =
+returns-in_err-test_triples-clause-tests c =
     let input = passing (plan_in c.args.plan.now) _ _ (sym c.is_right_size.ensures ∙ c.if-not-is_right_size.false) (sym c.in_ok-test_plan.ensures) in
     handed-on _ _ c.from_residual-in_err-test_triples.ensures.1
     ∙ sym (by-schedule _ _ _ input ∙ else-some _ _ _ (sym c.in_err-test_triples.ensures))
 
-pub returns : goal.returns
+pub returns-in_err-test_hours-clause-tests : goal.returns-in_err-test_hours-clause-tests
 unfolding schedule_fault
-returns c =
+returns-in_err-test_hours-clause-tests c =
     let input = passing (plan_in c.args.plan.now) _ _ (sym c.is_right_size.ensures ∙ c.if-not-is_right_size.false) (sym c.in_ok-test_plan.ensures) in
-    c.test_hours.ensures ∙ sym (by-schedule _ _ _ input ∙ else-none _ _ (sym c.in_ok-test_triples.ensures))
+    handed-on _ _ c.from_residual-in_err-test_hours.ensures.1
+    ∙ c.in_err-test_hours.ensures
+    ∙ sym (by-schedule _ _ _ input ∙ else-none _ _ (sym c.in_ok-test_triples.ensures))
+
+pub returns-clause-tests : goal.returns-clause-tests
+unfolding schedule_fault
+returns-clause-tests c =
+    let input = passing (plan_in c.args.plan.now) _ _ (sym c.is_right_size.ensures ∙ c.if-not-is_right_size.false) (sym c.in_ok-test_plan.ensures) in
+    c.in_ok-test_hours.ensures ∙ sym (by-schedule _ _ _ input ∙ else-none _ _ (sym c.in_ok-test_triples.ensures))
