@@ -264,6 +264,7 @@ pub fn read_text(text: &[u8], store: &mut Store) -> Result<Scan, Refusal>
     let mut scan = NOTHING;
     let mut line = 1;
     let mut rest = seen;
+    // Each line from where the one before it ended: what follows the last LF is no line, and `split` would give it as one.
     while let Some(end) = find(rest, LF) {
         scan = with_line(scan, &rest[..end], store).ok_or(Refusal::Malformed(line))?;
         line += 1;

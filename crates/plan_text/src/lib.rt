@@ -47,7 +47,8 @@ pub const MOST_HEIGHTS: usize = MOST_ROOMS * Bounds::MOST;
 pub const MOST_BOUNDS: usize = Bounds::NUMBERS * Bounds::MOST;
 
 // Whether this memory is enough for the most that a plan can hold.
-// The lent slices stay parameters here and in `store_plan`: both would open a struct of them at once, so that it is no plainer.
+// The lent slices stay parameters here, in `store_plan` and in `read_plan`, as C lends them: each would open a struct of them at once, and one that
+// holds what is written would have to promise that it holds the same memory.
 #[tactic(auto, unfolding(plan_format::specs::Reading::is_enough))]
 fn is_enough(
     capacities: &[u16],
@@ -79,7 +80,8 @@ fn test_lines(scan: Scan) -> Result<(), Refusal>
     }
 }
 
-// The heights that are stored of so many tasks in so many rooms, gathered without the gaps between the rooms.
+// The heights that are stored of so many tasks in so many rooms, gathered without the gaps between the rooms. The limits stand in the contracts of
+// three functions here, which one call leads through: a struct of the two counts would be made for that call alone.
 fn gather_heights<'a>(
     rooms: usize,
     tasks: usize,

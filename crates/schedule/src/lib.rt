@@ -42,7 +42,7 @@ fn triple_at(schedule: &[u16], i: usize) -> Triple
     }
 }
 
-// Whether a triple lies in a box.
+// Whether a triple lies in a box: by comparisons, as in `units::is_within`.
 #[tactic(auto, unfolding(calendar::specs::Triples::in_bounds, units::specs::Limits::within))]
 fn is_in_bounds(b: Bounds, t: Triple) -> bool
     ensures { result ≡ in_bounds b t }

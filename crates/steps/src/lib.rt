@@ -40,6 +40,7 @@ impl StepKind {
         }
     }
 
+    // Its letter as a byte, by a name that says what the number is.
     pub fn letter(self) -> u8
         ensures { result ≡ letter_of self }
     {
@@ -47,7 +48,8 @@ impl StepKind {
     }
 }
 
-// What a step comes to at its turn; where it moves a bound, the task whose bound it moves, and the bounds that the task has then.
+// What a step comes to at its turn; where it moves a bound, the task whose bound it moves, and the bounds that the task has then. One question with
+// four answers (11, 12, and 01's two effects): a Result of the two effects would part them again, and each `match` would have two levels.
 #[derive(Clone, Copy, PartialEq, Eq)]
 pub enum Judged {
     NotAdmitted,
@@ -63,7 +65,7 @@ pub struct Accepted {
     pub impossible: bool,
 }
 
-// How a run of the filter ends. Without room is refusal 32.
+// How a run of the filter ends. Without room is refusal 32, and an end all the same, since its boxes and its count stand.
 #[derive(Clone, Copy, PartialEq, Eq)]
 pub enum Ending {
     Settled,

@@ -25,7 +25,7 @@ pub fn put_all<T: Copy>(out: &mut [T], at: usize, items: &[T]) -> usize
     end
 }
 
-// A number in decimal. The library puts one into a text or a buffer of its own, to be copied from there, which is no plainer.
+// A number in decimal. What the library prints is known of a `String` alone, which there is not without a heap.
 pub fn put_decimal(out: &mut [u8], at: usize, n: usize) -> usize
     requires { at + length (decimal_text n) ≤ length out.old }
     ensures { Put (decimal_text n) at out.old result out.new }

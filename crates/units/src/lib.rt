@@ -200,7 +200,8 @@ impl Bounds {
     }
 }
 
-// Whether a number is neither below the least nor above the most.
+// Whether a number is neither below the least nor above the most. The contract of a range's `contains` speaks of whether the range is spent, so that
+// each call would need a law.
 pub fn is_within(least: usize, most: usize, number: usize) -> bool
     ensures { result ≡ within least most number }
 {

@@ -104,47 +104,71 @@ fn print_listing(rt: &(impl Files + Print), name: &str) -> io::Result<()> {
 
 // What a plan may have at most, and one more.
 fn print_limits(rt: &(impl Files + Print)) -> io::Result<()> {
-    print_listing(rt, "no-tasks.plan")?;
-    print_listing(rt, "hours-1008.plan")?;
-    print_listing(rt, "hours-1009.plan")?;
-    print_listing(rt, "tasks-64.plan")?;
-    print_listing(rt, "tasks-65.plan")
+    let names = [
+        "no-tasks.plan",
+        "hours-1008.plan",
+        "hours-1009.plan",
+        "tasks-64.plan",
+        "tasks-65.plan",
+    ];
+    for name in names {
+        print_listing(rt, name)?;
+    }
+    Ok(())
 }
 
 // 01's weeks and its traps, and overtime asked for and not.
 fn print_weeks(rt: &(impl Files + Print)) -> io::Result<()> {
-    print_listing(rt, "printed-week.plan")?;
-    print_listing(rt, "height-above-capacity.plan")?;
-    print_listing(rt, "calendar-a.plan")?;
-    print_listing(rt, "rests-before-closing.plan")?;
-    print_listing(rt, "one-hour-of-overtime.plan")?;
-    print_listing(rt, "overtime-not-asked-for.plan")?;
-    print_listing(rt, "two-hours-of-overtime.plan")?;
-    print_listing(rt, "own-part-is-no-excess.plan")
+    let names = [
+        "printed-week.plan",
+        "height-above-capacity.plan",
+        "calendar-a.plan",
+        "rests-before-closing.plan",
+        "one-hour-of-overtime.plan",
+        "overtime-not-asked-for.plan",
+        "two-hours-of-overtime.plan",
+        "own-part-is-no-excess.plan",
+    ];
+    for name in names {
+        print_listing(rt, name)?;
+    }
+    Ok(())
 }
 
 // Every refusal of a plan text but 5, which is among the limits.
 fn print_refusals(rt: &(impl Files + Print)) -> io::Result<()> {
-    print_listing(rt, "refused-1.plan")?;
-    print_listing(rt, "refused-1-no-lf.plan")?;
-    print_listing(rt, "refused-2.plan")?;
-    print_listing(rt, "refused-3.plan")?;
-    print_listing(rt, "refused-4.plan")?;
-    print_listing(rt, "refused-6.plan")?;
-    print_listing(rt, "refused-7.plan")?;
-    print_listing(rt, "refused-8.plan")?;
-    print_listing(rt, "refused-9.plan")?;
-    print_listing(rt, "refused-10.plan")?;
-    print_listing(rt, "refused-17.plan")?;
-    print_listing(rt, "refused-17-no-room.plan")?;
-    print_listing(rt, "refused-1-heights.plan")
+    let names = [
+        "refused-1.plan",
+        "refused-1-no-lf.plan",
+        "refused-2.plan",
+        "refused-3.plan",
+        "refused-4.plan",
+        "refused-6.plan",
+        "refused-7.plan",
+        "refused-8.plan",
+        "refused-9.plan",
+        "refused-10.plan",
+        "refused-17.plan",
+        "refused-17-no-room.plan",
+        "refused-1-heights.plan",
+    ];
+    for name in names {
+        print_listing(rt, name)?;
+    }
+    Ok(())
 }
 
 // Weeks of two rooms, and one of 40 tasks.
 fn print_larger_weeks(rt: &(impl Files + Print)) -> io::Result<()> {
-    print_listing(rt, "two-rooms.plan")?;
-    print_listing(rt, "overload-in-the-second-room.plan")?;
-    print_listing(rt, "bakery-week.plan")
+    let names = [
+        "two-rooms.plan",
+        "overload-in-the-second-room.plan",
+        "bakery-week.plan",
+    ];
+    for name in names {
+        print_listing(rt, name)?;
+    }
+    Ok(())
 }
 
 fn print_step(rt: &impl Print, x: Step) -> io::Result<()> {
