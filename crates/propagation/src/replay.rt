@@ -32,7 +32,7 @@ fn replay_log(
 {
     let mut fits = kept::all_fits(&plan.shifts, boxes);
     let mut impossible = after.impossible;
-    // By number: a step lies in three slices, and a refusal names its place.
+    // By number: a step lies in three slices, which zips would nest, and its number is the place that a refusal names.
     for k in 0..log_kinds.len() {
         if impossible {
             return Err(Refusal::AfterImpossible(after.steps + k));

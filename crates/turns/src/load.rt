@@ -77,7 +77,7 @@ impl State<'_> {
             × Loaded P.shifts.hours (room_count P) (task_count P) loads.new self.now.fits.now P.heights }
     {
         let hours = self.plan.shifts.hours.0 as usize;
-        // By number: `chunks_mut` would ask that H is not 0, which a state does not say.
+        // By number: `chunks_mut` would need an H above 0, which no caller was asked for.
         for room in 0..self.plan.rooms() {
             let from = room * hours;
             fill_room(
