@@ -1,7 +1,7 @@
 -- What each test of a step decides, over the answers that are kept. Assumes nothing.
-use Rattle.std.specs.Prelude.{Option, None, Some}
+use Rattle.std.specs.Prelude.{Option, None, Some, MatchOption}
 use Rattle.std.specs.Prelude.{if◌then◌else◌}
-use mathlib.Core.Path.{◌≡◌, sym, ap, ◌∙◌}
+use mathlib.Core.Path.{◌≡◌, refl, sym, ap, ◌∙◌}
 use mathlib.Core.Bool.{Bool, true, false}
 use mathlib.Core.List.{List}
 use Prim.Native.Nat.{ℕ, ◌+◌, ◌-◌, ◌≤◌, ◌<◌}
@@ -9,7 +9,7 @@ use native.Mathlib.Omega.{arith}
 use lib.Dec.{leb, ltb}
 use lib.ListN.{length, get_or}
 use borrow.Author.Tests.{ltb-true, lt-ltb, le-ltb, le-leb, lt-leb, leb-true, leb-false}
-use Rattle.units.specs.Choice.{some_if}
+use Rattle.units.specs.Choice.{some_if, on_option}
 use Rattle.units.specs.Limits.{hour, height, with_earliest, with_latest}
 use Rattle.units.specs.declared.Hour.{Hour}
 use Rattle.units.specs.declared.Height.{Height}
@@ -105,6 +105,13 @@ module _ (w : Window) (i : ℕ) (b : Bounds) (t : ℕ) where
     move-upper l = rw l (if-true _ _ _ (and_both _ _ (le-leb _ _ (rw l at from)) (and_both _ _ (lt-ltb _ _ (rw l at below)) e)))
 
 module _ (i : ℕ) (b : Bounds) (t : ℕ) where
+  -- where there are such bounds, and where there are none
+  pub moved-either : {r end : Judged} (made : Option Bounds) → r ≡ on_option made Impossible (Moved i) → (made ≡ None → Impossible ≡ end)
+      → ((v : Bounds) → made ≡ Some v → Moved i v ≡ end) → r ≡ end
+  unfolding on_option
+  moved-either None q none some = q ∙ none refl
+  moved-either (Some v) q none some = q ∙ some v refl
+
   -- the box with the next hour as its lower S, as its constructor makes it
   module _ (next : Hour) (made : Option Bounds) (is-next : next ≡ hour (t + 1))
       (is : made ≡ some_if (leb next.0 b.latest.0) (with_earliest b next.0)) where
@@ -153,6 +160,17 @@ module _ (i : ℕ) (b : Bounds) (t : ℕ) where
           let moved = if_some _ _ _ (sym at-latest ∙ e) in
           let above : b.earliest.0 ≤ t - b.shortest.0 = leb-true b.earliest.0 (t - b.shortest.0) moved.0 in
           sym (if-false _ _ _ (le-ltb t (b.earliest.0 + b.shortest.0) (omega (arith, shorter))) ∙ ap (Moved i) moved.1)
+
+  -- from both
+  pub upper-either : {r : Judged} (earlier : Option Hour) (made : Option Bounds)
+      → earlier ≡ some_if (leb b.shortest.0 t) (hour (t - b.shortest.0))
+      → MatchOption earlier (made ≡ None) (λ h. made ≡ some_if (leb b.earliest.0 h.0) (with_latest b h.0))
+      → r ≡ on_option made Impossible (Moved i)
+      → r ≡ (if ltb t (b.earliest.0 + b.shortest.0) then Impossible else Moved i (with_latest b (t - b.shortest.0)))
+  unfolding on_option
+  upper-either None made is found q = rw found at q ∙ upper-negative None is refl
+  upper-either (Some h) made is found q =
+      moved-either made q (upper-stops (Some h) is h refl made found) (upper-moves (Some h) is h refl made found)
 
 -- L or U, from what the code has found of the task
 module _ (hours tasks : ℕ) (capacities heights boxes : List ℕ) (fits : List (Option Window)) (i t : ℕ) (r : Judged) (lower : Bool) where

@@ -1,6 +1,6 @@
 // What a step comes to at its turn.
 ghost use Rattle.std.specs.Prelude.{◌≡◌, ℕ, ◌+◌, ◌-◌, ◌<◌, leb, ltb, Some, if◌then◌else◌};
-ghost use Rattle.units.specs.Choice.{◌and◌};
+ghost use Rattle.units.specs.Choice.{◌and◌, on_option};
 ghost use Rattle.units.specs.Limits.{most_hours, is_hour, is_room_number, with_earliest, with_latest};
 ghost use Rattle.units.specs.declared.Height.{Height};
 ghost use Rattle.plan.specs.Plan.{room_count, task_count, heights_of};
@@ -51,15 +51,23 @@ fn judge_load(capacity: Height, load: Height) -> Judged
     Judged::NotAdmitted
 }
 
+// What an admitted L or U comes to: the task with other bounds, or none that it could have.
+#[tactic(auto, unfolding(units::specs::Choice::on_option))]
+fn moved(task: u16, bounds: Option<Bounds>) -> Judged
+    ensures { result ≡ on_option bounds Judged.Impossible (λ b. Judged.Moved task b) }
+{
+    match bounds {
+        Some(bounds) => Judged::Moved { task, bounds },
+        None => Judged::Impossible,
+    }
+}
+
 // L of a task with the bounds, where it is admitted in the hour.
 fn judge_lower(task: u16, b: Bounds, t: Hour) -> Judged
     requires { t.0 < most_hours }
     ensures { result ≡ (if leb b.latest.0 t.0 then Judged.Impossible else Judged.Moved task (with_earliest b (t.0 + 1))) }
 {
-    let Some(bounds) = b.starting_from(t.plus(Duration(1))) else {
-        return Judged::Impossible;
-    };
-    Judged::Moved { task, bounds }
+    moved(task, b.starting_from(t.plus(Duration(1))))
 }
 
 // U likewise. Where the hour minus the lower E would be before the plan, it is below the lower S.
@@ -67,13 +75,8 @@ fn judge_upper(task: u16, b: Bounds, t: Hour) -> Judged
     ensures { result ≡
         (if ltb t.0 (b.earliest.0 + b.shortest.0) then Judged.Impossible else Judged.Moved task (with_latest b (t.0 - b.shortest.0))) }
 {
-    let Some(latest) = t.minus(b.shortest) else {
-        return Judged::Impossible;
-    };
-    let Some(bounds) = b.starting_by(latest) else {
-        return Judged::Impossible;
-    };
-    Judged::Moved { task, bounds }
+    let bounds = t.minus(b.shortest).and_then(|latest| b.starting_by(latest));
+    moved(task, bounds)
 }
 
 // Whether the number is an hour of the plan.

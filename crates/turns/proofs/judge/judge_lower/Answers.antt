@@ -1,8 +1,7 @@
-use Rattle.turns.proofs.Judging.{lower-stops, lower-moves}
+use Rattle.turns.proofs.Judging.{moved-either, lower-stops, lower-moves}
 use Rattle.turns.proofs.judge.judge_lower.Goals as goal
 
-pub returns-in_default : goal.returns-in_default
-returns-in_default c = lower-stops _ _ _ _ _ c.plus.ensures c.starting_from.ensures c.in_default.is
-
 pub returns : goal.returns
-returns c = lower-moves _ _ _ _ _ c.plus.ensures c.starting_from.ensures _ c.in-Some.is
+returns c =
+    moved-either _ c.args.b c.args.t.0 _ c.moved.ensures (lower-stops _ c.args.b c.args.t.0 _ _ c.plus.ensures c.starting_from.ensures)
+    (lower-moves _ c.args.b c.args.t.0 _ _ c.plus.ensures c.starting_from.ensures)
