@@ -76,6 +76,33 @@ module _ (fits : List (Option Window)) (heights : List ℕ) (t : ℕ) where
         mul-le-mul_right {m = length heights} {n = most_tasks} most_height ready.few,
       )
 
+-- ---- a part of the numbers
+
+-- numbers of which k from the a-th on became others
+module _ (a k : ℕ) (xs ys : List ℕ) (inside : a + k ≤ length xs) (long : length ys ≡ k) where
+  put-length : length (put_mid a k xs ys) ≡ length xs
+  put-length = simp (length-append, length-take, length-drop) (omega (arith, inside, long))
+
+  put-before : (j : ℕ) → j < a → get_or (put_mid a k xs ys) j 0 ≡ get_or xs j 0
+  put-before j l = get_or-append (take a xs) _ 0 j (rw (length-take-le a xs (omega arith)) l) ∙ get_or-take a xs j 0 l
+
+  past : (j : ℕ) → a ≤ j → get_or (put_mid a k xs ys) j 0 ≡ get_or (ys ++ drop k (drop a xs)) (j - a) 0
+  past j l = get_or-append_right (take a xs) _ a j 0 (length-take-le a xs (omega arith)) l
+
+  put_in : (j : ℕ) → j < k → get_or (put_mid a k xs ys) (a + j) 0 ≡ get_or ys j 0
+  put_in j l =
+      let e : a + j - a ≡ j = omega arith in
+      past (a + j) (omega arith) ∙ rw e (get_or-append ys _ 0 j (omega arith))
+
+  put-after : (j : ℕ) → a + k ≤ j → get_or (put_mid a k xs ys) j 0 ≡ get_or xs j 0
+  put-after j l =
+      let e : a + (k + (j - a - k)) ≡ j = omega arith in
+      past j (omega arith)
+      ∙ get_or-append_right ys _ k (j - a) 0 long (omega arith)
+      ∙ get_or-drop k (drop a xs) (j - a - k) 0
+      ∙ get_or-drop a xs (k + (j - a - k)) 0
+      ∙ ap (λ (i : ℕ). get_or xs i 0) e
+
 -- ---- the hours of a compulsory part
 
 module _ (w : Window) (height t : ℕ) where
@@ -95,52 +122,84 @@ pub part-never : (height t : ℕ) → part_at None height t ≡ 0
 unfolding part_at must_run
 part-never height t = refl
 
--- the numbers from the first up to before t, all before the end, are raised, and the others are as they were
-pub record Raised (first end raise : ℕ) (old new : List ℕ) (t : ℕ) : Type 0 where
+-- the first k of the numbers are raised, and the others are as they were
+pub record Raised (raise : ℕ) (old new : List ℕ) (k : ℕ) : Type 0 where
   pub same : length new ≡ length old
-  pub from : first ≤ t
-  pub before : (u : ℕ) → u < first → get_or new u 0 ≡ get_or old u 0
-  pub passed : (u : ℕ) → first ≤ u → u < t → (u < end) × (get_or new u 0 ≡ get_or old u 0 + raise)
-  pub rest : (u : ℕ) → t ≤ u → get_or new u 0 ≡ get_or old u 0
+  pub passed : (u : ℕ) → u < k → get_or new u 0 ≡ get_or old u 0 + raise
+  pub rest : (u : ℕ) → k ≤ u → get_or new u 0 ≡ get_or old u 0
 
-pub raised-next : {first end raise : ℕ} {old new : List ℕ} {t : ℕ} (n : ℕ) → n ≡ get_or new t 0 + raise → t < end → t < length old
-    → Raised first end raise old new t → Raised first end raise old (set new t n) (t + 1)
-raised-next {first} {end} {raise} {old} {new} {t} n is k l r =
+pub raised-none : (raise : ℕ) (old : List ℕ) → Raised raise old old 0
+raised-none raise old = record { same = refl; passed = λ u l. omega arith; rest = λ u l. refl }
+
+pub raised-next : {raise : ℕ} {old new : List ℕ} {k : ℕ} (n : ℕ) → n ≡ get_or new k 0 + raise → k < length old
+    → Raised raise old new k → Raised raise old (set new k n) (k + 1)
+raised-next {raise} {old} {new} {k} n is l r =
     record {
-      same = length-set new t _ ∙ r.same;
-      from = omega arith;
-      before = λ u m. let ne : u ≢ t = omega arith in get_or-set_other new t u _ 0 ne ∙ r.before u m;
-      passed = λ u m o. go u m o (eqb u t) refl;
-      rest = λ u m. let ne : u ≢ t = omega arith in get_or-set_other new t u _ 0 ne ∙ r.rest u (omega arith);
+      same = length-set new k _ ∙ r.same;
+      passed = λ u m. go u m (eqb u k) refl;
+      rest = λ u m. let ne : u ≢ k = omega arith in get_or-set_other new k u _ 0 ne ∙ r.rest u (omega arith);
     }
   where
-    go : (u : ℕ) → first ≤ u → u < t + 1 → (b : Bool) → eqb u t ≡ b
-        → (u < end) × (get_or (set new t n) u 0 ≡ get_or old u 0 + raise)
-    go u m o true q =
-        let e : u ≡ t = eqb-true u t q in
-        (omega arith, rw e (get_or-set_same new t n 0 (omega (arith, r.same)) ∙ is ∙ ap (λ (x : ℕ). x + raise) (r.rest t (omega arith))))
-    go u m o false q =
-        let ne : u ≢ t = eqb-false u t q in
-        let p = r.passed u m (omega arith) in
-        (p.0, get_or-set_other new t u _ 0 ne ∙ p.1)
+    go : (u : ℕ) → u < k + 1 → (b : Bool) → eqb u k ≡ b → get_or (set new k n) u 0 ≡ get_or old u 0 + raise
+    go u m true q =
+        let e : u ≡ k = eqb-true u k q in
+        rw e (get_or-set_same new k n 0 (omega (arith, r.same)) ∙ is ∙ ap (λ (x : ℕ). x + raise) (r.rest k (omega arith)))
+    go u m false q = let ne : u ≢ k = eqb-false u k q in get_or-set_other new k u _ 0 ne ∙ r.passed u (omega arith)
 
--- once all are passed, the numbers are raised by the task's part
-pub raised_all : (w : Window) (end raise : ℕ) (old new : List ℕ) (t : ℕ) → end ≡ min (length old) (ect w) → end ≤ t
-    → Raised (lst w) end raise old new t
-    → (u : ℕ) → u < length old → get_or new u 0 ≡ get_or old u 0 + part_at (Some w) raise u
-raised_all w end raise old new t is-end all r u m = go (ltb u (lst w)) refl (ltb u t) refl
-  where
-    go : (a : Bool) → ltb u (lst w) ≡ a → (b : Bool) → ltb u t ≡ b → get_or new u 0 ≡ get_or old u 0 + part_at (Some w) raise u
-    go true p b q =
-        let h : u < lst w = ltb-true u (lst w) p in
-        omega (arith, r.before u (omega arith), part-before w raise u h)
-    go false p true q =
-        let h : lst w ≤ u = ltb-false u (lst w) p in
-        let k = r.passed u h (ltb-true u t q) in
-        omega (arith, k.1, part_in w raise u h (omega (arith, k.0)))
-    go false p false q =
-        let h : t ≤ u = ltb-false u t q in
-        omega (arith, r.rest u h, part-after w raise u (omega arith))
+-- among a room's numbers, those of the hours of a compulsory part
+module _ (w : Window) (raise : ℕ) (old : List ℕ) (end from : ℕ) (is-end : end ≡ min (length old) (ect w)) (is-from : from ≡ min end (lst w)) where
+  abbrev pub own : List ℕ
+  own = take (end - from) (drop from old)
+
+  own-length : length own ≡ end - from
+  own-length = simp (length-take, length-drop) (omega (arith, is-end, is-from))
+
+  own-number : (k : ℕ) → k < end - from → get_or own k 0 ≡ get_or old (from + k) 0
+  own-number k l = get_or-take (end - from) _ k 0 l ∙ get_or-drop from old k 0
+
+  pub raised-room : (new : List ℕ) (k : ℕ) → Raised raise own new k → k < length own
+      → ((t : ℕ) → t < length old → get_or old t 0 + raise < 65536) → get_or new k 0 + raise < 65536
+  raised-room new k r l room =
+      let m : k < end - from = omega (arith, own-length, l) in
+      omega (arith, r.rest k (omega arith), own-number k m, room (from + k) (omega (arith, is-end)))
+
+  -- once all of them are raised, each number is raised by the task's part
+  module _ (new : List ℕ) (k : ℕ) (all : length own ≤ k) (r : Raised raise own new k) where
+    inside : from + (end - from) ≤ length old
+    inside = omega (arith, is-end, is-from)
+
+    as-long : length new ≡ end - from
+    as-long = r.same ∙ own-length
+
+    pub raised-length : length (put_mid from (end - from) old new) ≡ length old
+    raised-length = put-length _ _ _ _ inside as-long
+
+    pub raised_all : (u : ℕ) → u < length old → get_or (put_mid from (end - from) old new) u 0 ≡ get_or old u 0 + part_at (Some w) raise u
+    raised_all u m = go (ltb u from) refl (ltb u end) refl
+      where
+        go : (a : Bool) → ltb u from ≡ a → (b : Bool) → ltb u end ≡ b
+            → get_or (put_mid from (end - from) old new) u 0 ≡ get_or old u 0 + part_at (Some w) raise u
+        go true p b q =
+            let h : u < from = ltb-true u from p in
+            omega (arith, put-before _ _ _ _ inside as-long u h, part-before w raise u (omega (arith, is-from)))
+        go false p true q =
+            let h : from ≤ u = ltb-false u from p in
+            let l : u < end = ltb-true u end q in
+            let e : from + (u - from) ≡ u = omega (arith, h) in
+            omega (
+              arith,
+              rw e at (put_in from (end - from) old new inside as-long (u - from) (omega arith)),
+              r.passed (u - from) (omega (arith, own-length, all)),
+              rw e at (own-number (u - from) (omega arith)),
+              part_in w raise u (omega (arith, is-from)) (omega (arith, is-end)),
+            )
+        go false p false q =
+            let h : end ≤ u = ltb-false u end q in
+            omega (
+              arith,
+              put-after _ _ _ _ inside as-long u (omega (arith, is-from)),
+              part-after w raise u (omega (arith, is-end)),
+            )
 
 -- ---- the sums over the tasks passed, in all hours
 
@@ -180,31 +239,6 @@ module _ {fits : List (Option Window)} {heights old new : List ℕ} {n : ℕ} (r
   filled-all e t m = r.sums t m ∙ rw e (load-all fits heights t)
 
 -- ---- room by room
-
--- numbers of which k from the a-th on became others
-module _ (a k : ℕ) (xs ys : List ℕ) (inside : a + k ≤ length xs) (long : length ys ≡ k) where
-  put-length : length (put_mid a k xs ys) ≡ length xs
-  put-length = simp (length-append, length-take, length-drop) (omega (arith, inside, long))
-
-  put-before : (j : ℕ) → j < a → get_or (put_mid a k xs ys) j 0 ≡ get_or xs j 0
-  put-before j l = get_or-append (take a xs) _ 0 j (rw (length-take-le a xs (omega arith)) l) ∙ get_or-take a xs j 0 l
-
-  past : (j : ℕ) → a ≤ j → get_or (put_mid a k xs ys) j 0 ≡ get_or (ys ++ drop k (drop a xs)) (j - a) 0
-  past j l = get_or-append_right (take a xs) _ a j 0 (length-take-le a xs (omega arith)) l
-
-  put_in : (j : ℕ) → j < k → get_or (put_mid a k xs ys) (a + j) 0 ≡ get_or ys j 0
-  put_in j l =
-      let e : a + j - a ≡ j = omega arith in
-      past (a + j) (omega arith) ∙ rw e (get_or-append ys _ 0 j (omega arith))
-
-  put-after : (j : ℕ) → a + k ≤ j → get_or (put_mid a k xs ys) j 0 ≡ get_or xs j 0
-  put-after j l =
-      let e : a + (k + (j - a - k)) ≡ j = omega arith in
-      past j (omega arith)
-      ∙ get_or-append_right ys _ k (j - a) 0 long (omega arith)
-      ∙ get_or-drop k (drop a xs) (j - a - k) 0
-      ∙ get_or-drop a xs (k + (j - a - k)) 0
-      ∙ ap (λ (i : ℕ). get_or xs i 0) e
 
 -- the numbers of the first n rooms hold their loads, and the rest are 0
 pub record RoomsFilled (hours tasks : ℕ) (fits : List (Option Window)) (heights old new : List ℕ) (n : ℕ) : Type 0 where

@@ -40,9 +40,10 @@ fn add_part(loads: &mut [u16], w: Window, height: Height)
         × ((t : ℕ) → t < length loads.old → get_or loads.new t 0 ≡ get_or loads.old t 0 + part_at (Some w) height.0 t) }
 {
     let end = loads.len().min(w.ect.0 as usize);
-    // By hour: where the latest start lies past the end there is no such hour, and no slice from there.
-    for t in w.bounds.latest.0 as usize..end {
-        loads[t] = Height(loads[t]).plus(height).0;
+    // Where the latest start lies past the end there is no such hour, and no slice would begin there.
+    let from = end.min(w.bounds.latest.0 as usize);
+    for load in &mut loads[from..end] {
+        *load = Height(*load).plus(height).0;
     }
 }
 

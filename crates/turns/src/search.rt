@@ -112,7 +112,7 @@ impl State<'_> {
             (admitted_by P.shifts.hours (task_count P) P.capacities P.heights self.now.boxes.now self.now.fits.now) load_order }
     {
         self.fill_loads(loads);
-        // Three tests, not a chain of `or_else`: each closure there would need a clause that repeats the contract of the function that it calls.
+        // In a chain of `or_else`, a closure without clauses says nothing of its answer, and its clauses would repeat the contract of what it calls.
         if let Some(overload) = self.first_overload(loads) {
             return Some(overload);
         }
@@ -144,7 +144,7 @@ impl State<'_> {
             result ≡ first_by (room_count P) (task_count P) P.shifts.hours
             (admitted_by P.shifts.hours (task_count P) P.capacities P.heights self.now.boxes.now self.now.fits.now) filter_order }
     {
-        // No `or_else` here either: its closure would repeat the contract of `first_by_load`.
+        // No `or_else` here, likewise: its closure's clause would repeat the contract of `first_by_load`.
         if let Some(calendar) = self.first_calendar() {
             return Some(calendar);
         }
