@@ -17,7 +17,7 @@ use units::{Bounds, Duration, Height, Hour, RoomNumber};
 
 // Whether a task of the height exceeds a room's capacity in the hour, with the other tasks' load there. A task that must run in the hour is in its
 // load already.
-fn exceeds(w: Window, height: Height, load: Height, capacity: Height, t: Hour) -> bool
+pub fn exceeds(w: Window, height: Height, load: Height, capacity: Height, t: Hour) -> bool
     requires { height.0 + load.0 < 65536 }
     ensures { result ≡ exceeds w height.0 load.0 capacity.0 t.0 }
 {

@@ -11,7 +11,7 @@ use calendar::Window;
 use plan::Plan;
 use units::Bounds;
 
-mod judge;
+pub mod judge;
 mod load;
 mod search;
 mod side;
