@@ -14,7 +14,7 @@ ghost use Rattle.calendar.specs.Inner.Ready.{HasCounts, RuleReady, Reaches};
 ghost use Rattle.calendar.specs.Inner.Windows.{with_triples};
 
 use plan::{HourKind, Plan, Refusal};
-use stretches::{Counts, Stretch, Task, count_hours, one_if, reach};
+use stretches::{Counts, Stretch, Task, count_hours, reach};
 use units::{Bounds, Duration, Hour};
 
 // 01's (s, e, o): when a task starts, how long it lasts, and its overtime.
@@ -62,11 +62,11 @@ fn overtime_ends(calendar: &[u8], s: usize, e: u16) -> u16
     requires { (1 ≤ e) × (s + e ≤ length calendar.now) }
     ensures { result ≡ overtime_ends calendar.now s e }
 {
-    let first = one_if(calendar, s, HourKind::Overtime as u8);
+    let first = HourKind::Overtime.count_at(calendar, s);
     if e == 1 {
         return first;
     }
-    first + one_if(calendar, s + (e as usize) - 1, HourKind::Overtime as u8)
+    first + HourKind::Overtime.count_at(calendar, s + (e as usize) - 1)
 }
 
 // Whether a triple within the calendar is valid, from the counts of its hours.
@@ -145,6 +145,7 @@ pub fn rule(task: &Task) -> Option<Witnessed>
     let mut shortest = Stretch::NO_HOURS;
     let mut longest = Stretch::NO_HOURS;
     let mut best = None;
+    // By start: each one's stretches are made of those of the one before.
     for s in task.bounds.earliest.0..=task.bounds.latest.0 {
         let start = Hour(s);
         shortest = task.shortest_from(start, shortest);

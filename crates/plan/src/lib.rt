@@ -3,6 +3,7 @@
 
 ghost use Rattle.std.specs.Prelude.{◌≡◌, ◌+◌, ◌*◌, ◌≤◌, ◌<◌, length, get_or};
 ghost use Rattle.units.specs.Limits.{box_numbers, duration, height};
+ghost use Rattle.units.specs.Sums.{one_if};
 ghost use Rattle.plan.specs.Plan.{plan, room_count, task_count, calendar_count, first_symbol, calendar_at, calendar_of, work_time_of, capacity_of, room_part, heights_of};
 ghost use Rattle.plan.specs.Lent.{shifts_in, plan_in, HasCalendar};
 ghost use Rattle.plan.specs.HourKinds.{is_kind, symbol_of};
@@ -269,6 +270,14 @@ impl HourKind {
     {
         is_kind(calendar, t, self as u8)
     }
+
+    // 1 for an hour of the kind.
+    pub fn count_at(self, calendar: &[u8], t: usize) -> u16
+        requires { t < length calendar.now }
+        ensures { (result ≡ one_if (is_kind (symbol_of self) calendar.now t)) × (result ≤ 1) }
+    {
+        one_if(calendar, t, self as u8)
+    }
 }
 
 // Whether the symbol of an hour is the one asked for. Nothing else reads a symbol. It is asked for as a byte, so that a caller may name one that is
@@ -279,6 +288,14 @@ pub fn is_kind(calendar: &[u8], t: usize, kind: u8) -> bool
     ensures { result ≡ is_kind kind calendar.now t }
 {
     calendar[t] == kind
+}
+
+// 1 for an hour whose symbol is the one asked for, by byte as `is_kind` is asked.
+pub fn one_if(calendar: &[u8], t: usize, kind: u8) -> u16
+    requires { t < length calendar.now }
+    ensures { (result ≡ one_if (is_kind kind calendar.now t)) × (result ≤ 1) }
+{
+    u16::from(is_kind(calendar, t, kind))
 }
 
 // Where a calendar begins, if that is within a limit: H added once for each calendar before it. The second way out is never taken. Without it the
@@ -299,7 +316,7 @@ fn first_within(limit: usize, number: u16, hours: u16) -> usize
 }
 
 // The greatest index that any number and any H give, 65,535 times 65,535: of a greater limit the compiler sees that it is never passed.
-const MOST_FIRST: usize = 4294836225;
+const MOST_FIRST: usize = u16::MAX as usize * u16::MAX as usize;
 
 // Where a calendar begins among the symbols of all calendars, joined.
 pub fn first_symbol(number: u16, hours: Duration) -> usize

@@ -5,14 +5,13 @@ pub mod reach;
 
 ghost use Rattle.std.specs.Prelude.{◌≡◌, ◌+◌, ◌*◌, ◌≤◌, ◌<◌, length};
 ghost use Rattle.units.specs.Limits.{box_numbers, most_hours, duration};
-ghost use Rattle.units.specs.Sums.{one_if};
-ghost use Rattle.plan.specs.HourKinds.{is_kind};
 ghost use Rattle.plan.specs.Plan.{calendar_of, work_time_of};
 ghost use Rattle.plan.specs.Boxes.{bounds_at};
 ghost use Rattle.plan.specs.Lent.{HasCalendar, shifts_in};
 ghost use Rattle.stretches.specs.Inner.Stretches.{Inside, counts_of, with_hour};
 
-use plan::{HourKind, Shifts, is_kind};
+pub use plan::one_if;
+use plan::{HourKind, Shifts};
 use units::{Bounds, Duration, Hour};
 
 // A task as the calendar rule sees it: the symbols of its calendar, its work time p, and its box.
@@ -75,22 +74,14 @@ impl Stretch {
     };
 }
 
-// 1 for an hour of the kind.
-pub fn one_if(calendar: &[u8], t: usize, kind: u8) -> u16
-    requires { t < length calendar.now }
-    ensures { (result ≡ one_if (is_kind kind calendar.now t)) × (result ≤ 1) }
-{
-    u16::from(is_kind(calendar, t, kind))
-}
-
 // The counts with one hour more.
 fn with_hour(n: Counts, calendar: &[u8], t: usize) -> Counts
     requires { (n.regular < most_hours) × (n.overtime < most_hours) × (t < length calendar.now) }
     ensures { result ≡ with_hour n calendar.now t }
 {
     Counts {
-        regular: n.regular + one_if(calendar, t, HourKind::Regular as u8),
-        overtime: n.overtime + one_if(calendar, t, HourKind::Overtime as u8),
+        regular: n.regular + HourKind::Regular.count_at(calendar, t),
+        overtime: n.overtime + HourKind::Overtime.count_at(calendar, t),
     }
 }
 

@@ -7,7 +7,7 @@ ghost use Rattle.plan.specs.HourKinds.{regular, hours_of};
 ghost use Rattle.stretches.specs.Inner.Stretches.{HasHour, IsStretch, HasRoom, without_hour, stretch_of, may_end, may_last};
 ghost use Rattle.stretches.specs.Inner.Stretches.{AnswersAs, shortest_at, longest_at, lengthened};
 
-use crate::{Counts, Stretch, Task, one_if, with_hour};
+use crate::{Counts, Stretch, Task, with_hour};
 use plan::HourKind;
 use units::{Duration, Hour};
 
@@ -25,8 +25,8 @@ fn without_hour(n: Counts, calendar: &[u8], t: usize) -> Counts
     ensures { result ≡ without_hour n calendar.now t }
 {
     Counts {
-        regular: n.regular - one_if(calendar, t, HourKind::Regular as u8),
-        overtime: n.overtime - one_if(calendar, t, HourKind::Overtime as u8),
+        regular: n.regular - HourKind::Regular.count_at(calendar, t),
+        overtime: n.overtime - HourKind::Overtime.count_at(calendar, t),
     }
 }
 
@@ -71,7 +71,7 @@ fn worked_ends(calendar: &[u8], s: Hour, a: Stretch) -> u16
     if a.hours.0 < 1 {
         return 1;
     }
-    a.counts.regular - one_if(calendar, s.0 as usize, HourKind::Regular as u8) + 2
+    a.counts.regular - HourKind::Regular.count_at(calendar, s.0 as usize) + 2
 }
 
 // The stretch, lengthened to where a test stops it, or to the calendar's end.
@@ -111,7 +111,7 @@ impl Task<'_> {
         let b = self.bounds;
         let next = (s.0 as usize) + (a.hours.0 as usize);
         let p = self.work_time.0;
-        let worked = a.counts.regular + one_if(self.calendar, next, HourKind::Regular as u8);
+        let worked = a.counts.regular + HourKind::Regular.count_at(self.calendar, next);
         a.hours < b.longest
             && worked <= p
             && b.fewest.0 <= p - worked

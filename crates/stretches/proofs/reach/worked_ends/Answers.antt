@@ -12,4 +12,4 @@ pub overflow_add-result : goal.overflow_add-result
 overflow_add-result c = omega (arith, counts-below c.requires)
 
 pub returns : goal.returns
-returns c = ends-between c.requires c.if-a-lt1.false c.one_if.ensures.0
+returns c = ends-between c.requires c.if-a-lt1.false c.count_at.ensures.0
