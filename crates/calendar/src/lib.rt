@@ -70,6 +70,7 @@ fn overtime_ends(calendar: &[u8], s: usize, e: u16) -> u16
 }
 
 // Whether a triple within the calendar is valid, from the counts of its hours.
+#[tactic(auto, unfolding(crate::specs::Valid::valid))]
 fn is_valid_by(calendar: &[u8], work_time: Duration, t: Triple, n: Counts) -> bool
     requires { HasCounts calendar.now t n }
     ensures { result ≡ valid_triple calendar.now work_time.0 t }
@@ -77,22 +78,12 @@ fn is_valid_by(calendar: &[u8], work_time: Duration, t: Triple, n: Counts) -> bo
     let s = t.start.0 as usize;
     let e = t.elapsed.0;
     let o = t.overtime.0;
-    if HourKind::Closed.is_at(calendar, s) {
-        return false;
-    }
-    if HourKind::Closed.is_at(calendar, s + (e as usize) - 1) {
-        return false;
-    }
-    if work_time.0 < o {
-        return false;
-    }
-    if work_time.0 - o != n.regular {
-        return false;
-    }
-    if n.overtime < o {
-        return false;
-    }
-    overtime_ends(calendar, s, e) <= o
+    !HourKind::Closed.is_at(calendar, s)
+        && !HourKind::Closed.is_at(calendar, s + (e as usize) - 1)
+        && t.overtime <= work_time
+        && work_time.0 - o == n.regular
+        && o <= n.overtime
+        && overtime_ends(calendar, s, e) <= o
 }
 
 // Whether a triple is valid for a task with the calendar and the work time.

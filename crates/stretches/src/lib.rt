@@ -10,9 +10,11 @@ ghost use Rattle.plan.specs.Boxes.{bounds_at};
 ghost use Rattle.plan.specs.Lent.{HasCalendar, shifts_in};
 ghost use Rattle.stretches.specs.Inner.Stretches.{Inside, counts_of, with_hour};
 
-pub use plan::one_if;
 use plan::{HourKind, Shifts};
 use units::{Bounds, Duration, Hour};
+
+// What an hour adds to the number of hours with a symbol.
+pub use plan::one_if;
 
 // A task as the calendar rule sees it: the symbols of its calendar, its work time p, and its box.
 #[derive(Clone, Copy)]
