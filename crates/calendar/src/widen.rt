@@ -74,8 +74,8 @@ fn wider(w: Window, v: Window) -> Window
     }
 }
 
-// Of two triples the second where it is better, else the first. The flag is the answer of a comparison, another one for each bound: as closures, a key
-// and an order would be handed over at each of the six calls, which is no plainer.
+// Of two triples the second where it is better, else the first. The flag is the answer of a comparison, another one for each bound: as closures, a
+// key and an order would be handed over at each of the six calls, which is no plainer.
 fn either(t: Triple, u: Triple, better: bool) -> Triple
     ensures { result ≡ (if better then u else t) }
 {

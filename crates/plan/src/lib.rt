@@ -315,8 +315,8 @@ fn first_within(limit: usize, number: u16, hours: u16) -> usize
     first
 }
 
-// The greatest index that any number and any H give, a product made at compile time: of a greater limit the compiler sees that it is never passed, and
-// the display has its wide product again.
+// The greatest index that any number and any H give, a product made at compile time: of a greater limit the compiler sees that it is never passed,
+// and the display has its wide product again.
 const MOST_FIRST: usize = u16::MAX as usize * u16::MAX as usize;
 
 // Where a calendar begins among the symbols of all calendars, joined.
