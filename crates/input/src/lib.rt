@@ -1,17 +1,26 @@
 // The plan's tests, of what a caller hands in.
 #![tactic(auto)]
 
-ghost use Rattle.std.specs.Prelude.{true, ◌≡◌, ◌≤◌, ◌<◌, length};
+ghost use Rattle.std.specs.Prelude.{true, ◌≡◌, ◌≤◌, ◌<◌, IfOk, length};
 ghost use Rattle.units.specs.Choice.{first_of};
 ghost use Rattle.plan.specs.HourKinds.{is_symbol};
 ghost use Rattle.plan.specs.Refusals.{tested_fault};
 ghost use Rattle.plan.specs.Plan.{room_count, task_count};
 ghost use Rattle.plan.specs.Faults.{is_right_size, is_calendars, symbol_fault, calendars_fault, capacity_fault, counts_fault, height_fault, task_fault, tasks_fault, plan_fault, input_fault};
+ghost use Rattle.plan.specs.Passed.{Passed};
 ghost use Rattle.plan.specs.Lent.{shifts_in, plan_in};
 ghost use Rattle.input.specs.Inner.Ready.{TasksReady, HeightsReady};
 
 use plan::{HourKind, Plan, Refusal, Shifts, bounds_at};
 use units::{Bounds, CalendarNumber, Duration, Height, RoomNumber};
+
+// A plan and its boxes that have passed every test.
+#[derive(Clone, Copy)]
+pub struct Tested<'a> {
+    pub plan: &'a Plan<'a>,
+    pub boxes: &'a [u16],
+    pub ghost passed: { Passed (plan_in plan.now) boxes.now },
+}
 
 // Whether the fields and the boxes number one for each task, the heights in each room.
 #[tactic(auto, unfolding(plan::specs::Faults::one_for_each_task))]
@@ -155,4 +164,13 @@ pub fn test_input(plan: &Plan, boxes: &[u16]) -> Result<(), Refusal>
         return Err(Refusal::MemorySize);
     }
     test_plan(plan, boxes)
+}
+
+// What has passed the plan's tests, 31 before all others, is what was lent.
+pub fn tested_input<'a>(plan: &'a Plan<'a>, boxes: &'a [u16]) -> Result<Tested<'a>, Refusal>
+    ensures tests { tested_fault result ≡ input_fault (plan_in plan.now) boxes.now }
+    ensures lends { IfOk result (λ t. (t.plan.now ≡ plan.now) × (t.boxes.now ≡ boxes.now)) }
+{
+    test_input(plan, boxes)?;
+    Ok(Tested { plan, boxes })
 }
