@@ -8,25 +8,17 @@ ghost use Rattle.text.specs.Putting.{Put};
 ghost use Rattle.plan.specs.Plan.{room_count, task_count, calendar_count};
 ghost use Rattle.plan.specs.Boxes.{box_cells};
 ghost use Rattle.plan.specs.Refusals.{answered, answer_of};
-ghost use Rattle.plan.specs.Passed.{Passed};
 ghost use Rattle.plan.specs.Lent.{shifts_in, plan_in};
 ghost use Rattle.plan_format.specs.Records.{cal_record, record_line};
 ghost use Rattle.plan_format.specs.Writing.{text_of_plan, write_end, write_plan, ReadsBack};
 ghost use Rattle.plan_writing.specs.Inner.Sections.{calendars_text, numbers_at, tasks_text};
 
+use input::Tested;
 use plan::{Plan, Refusal, Shifts, bounds_at};
 use text::LF;
 use text::lengths::line_length;
 use text::put::{put_all, put_byte, put_line};
 use units::{Bounds, MOST_ROOMS};
-
-// A plan and its boxes that have passed every test.
-#[derive(Clone, Copy)]
-struct Tested<'a> {
-    plan: &'a Plan<'a>,
-    boxes: &'a [u16],
-    ghost passed: { Passed (plan_in plan.now) boxes.now },
-}
 
 // How many numbers a line has at most: of the plan H and a capacity for each room, of a task its calendar, its work time, a height in each room and
 // six bounds.
@@ -176,10 +168,9 @@ pub fn write_plan(plan: &Plan, boxes: &[u16], out: &mut [u8]) -> Result<usize, R
     ensures answer { write_end (answer_of result) out.new ≡ write_plan (plan_in plan.now) boxes.now out.old }
     ensures back { (n : ℕ) → answer_of result ≡ answered n → ReadsBack (plan_in plan.now) boxes.now (take n out.new) }
 {
-    input::test_input(plan, boxes)?;
-    let tested = &Tested { plan, boxes };
-    if out.len() < text_length(tested) {
+    let tested = input::tested_input(plan, boxes)?;
+    if out.len() < text_length(&tested) {
         return Err(Refusal::OutputSize);
     }
-    Ok(put_text(tested, out))
+    Ok(put_text(&tested, out))
 }
