@@ -2,33 +2,22 @@
 use mathlib.Core.Path.{◌≡◌, ap, ◌∙◌}
 use mathlib.Core.List.{List}
 use native.Mathlib.Omega.{arith}
-use Prim.Native.Nat.{ℕ, ◌*◌, ◌≤◌, ◌<◌}
+use Prim.Native.Nat.{ℕ, ◌≤◌, ◌<◌}
 use lib.ListN.{length, get_or}
-use borrow.Author.Tests.{eqb-true}
 use Rattle.units.specs.Limits.{most_hours, most_height}
-use Rattle.units.proofs.Choices.{and_left, and_right}
 use Rattle.plan.specs.Plan.{Plan, room_count, task_count, heights_of, height_of}
 use Rattle.plan.specs.Faults.{Passes}
 use Rattle.plan.specs.Passed.{Passed}
-use Rattle.plan.proofs.Passed.{passed, room-heights}
-use Rattle.calendar.specs.Triples.{triple_numbers, end_of}
+use Rattle.plan.proofs.Passed.{room-heights}
+use Rattle.calendar.specs.Triples.{end_of}
 use Rattle.calendar.proofs.Valid.{valid-facts}
 use Rattle.schedule.specs.Schedule.{triple_at, Feasible}
-use Rattle.schedule.specs.Entry.{is_sized}
 use Rattle.schedule.specs.Decision.{RightSize}
 
 -- memory of the right size, and a plan that passes
 pub record InputPasses (P : Plan) (boxes schedule : List ℕ) : Type 0 where
   pub size : RightSize P boxes schedule
   pub passes : Passes P boxes
-
-module _ {P : Plan} {boxes schedule : List ℕ} (input : InputPasses P boxes schedule) where
-  pub plan-facts : Passed P boxes
-  plan-facts = passed P boxes (and_left _ _ input.size) input.passes
-
-  pub triple-each : length schedule ≡ triple_numbers * task_count P
-  unfolding is_sized
-  triple-each = eqb-true _ _ (and_right _ _ input.size)
 
 -- the heights in a room, as the code reads them: one a task, and so small that their sum fits
 module _ {P : Plan} {boxes : List ℕ} (p : Passed P boxes) {room : ℕ} (l : room < room_count P) where

@@ -2,31 +2,28 @@
 #![tactic(auto)]
 
 ghost use Rattle.std.specs.Prelude.{◌≡◌, ◌+◌, ◌*◌, ◌≤◌, ◌<◌, IfOk, length};
-ghost use Rattle.units.specs.Choice.{◌and◌, first_of};
+ghost use Rattle.units.specs.Choice.{first_of};
 ghost use Rattle.units.specs.Limits.{most_hours};
 ghost use Rattle.plan.specs.Refusals.{tested_fault};
 ghost use Rattle.plan.specs.Plan.{room_count, task_count};
-ghost use Rattle.plan.specs.Faults.{is_right_size};
-ghost use Rattle.plan.specs.Passed.{Passed};
 ghost use Rattle.plan.specs.Lent.{plan_in};
 ghost use Rattle.calendar.specs.Triples.{triple_numbers, in_bounds};
 ghost use Rattle.schedule.specs.Schedule.{triple_at, runs, running, Feasible, makespan};
-ghost use Rattle.schedule.specs.Entry.{one_triple_fault, triple_fault, hour_fault, is_sized, check_fault, check_schedule, schedule_answer};
+ghost use Rattle.schedule.specs.Entry.{one_triple_fault, triple_fault, hour_fault, check_fault, check_schedule, schedule_answer};
 ghost use Rattle.schedule.specs.Decision.{Decides};
 
 use calendar::Triple;
+use input::Tested;
 use plan::{Plan, Refusal};
 use stretches::Task;
 use units::{Bounds, Duration, Height, Hour};
 
-// A plan and its boxes that have passed every test, and a schedule with one triple for each task.
+// A plan that has passed its tests, with a schedule of one triple for each task.
 #[derive(Clone, Copy)]
-struct Tested<'a> {
-    plan: &'a Plan<'a>,
-    boxes: &'a [u16],
+struct Scheduled<'a> {
+    tested: Tested<'a>,
     schedule: &'a [u16],
-    ghost passed: { Passed (plan_in plan.now) boxes.now },
-    ghost sized: { length schedule.now ≡ triple_numbers * task_count (plan_in plan.now) },
+    ghost sized: { length schedule.now ≡ triple_numbers * task_count (plan_in tested.plan.now) },
 }
 
 // The triple of task i.
@@ -79,15 +76,15 @@ fn is_running(t: Triple, hour: Hour) -> bool
     hour.since(t.start) < t.elapsed
 }
 
-impl Tested<'_> {
+impl Scheduled<'_> {
     // Task by task.
     fn test_triples(&self) -> Result<(), Refusal>
-        ensures { let P = plan_in self.now.plan.now in
-            tested_fault result ≡ first_of (triple_fault P.shifts self.now.boxes.now (triple_at self.now.schedule.now)) (task_count P) }
+        ensures { let P = plan_in self.now.tested.plan.now in
+            tested_fault result ≡ first_of (triple_fault P.shifts self.now.tested.boxes.now (triple_at self.now.schedule.now)) (task_count P) }
     {
         // By number: it is the refusal's place, and what a task has lies in several lent slices.
-        for i in 0..self.plan.tasks() {
-            let task = Task::of_plan(&self.plan.shifts, self.boxes, i);
+        for i in 0..self.tested.plan.tasks() {
+            let task = Task::of_plan(&self.tested.plan.shifts, self.tested.boxes, i);
             test_triple(i, &task, triple_at(self.schedule, i))?;
         }
         Ok(())
@@ -95,10 +92,10 @@ impl Tested<'_> {
 
     // The heights in a room of the tasks that run in the hour, added.
     fn running_heights(&self, room: usize, hour: Hour) -> Height
-        requires { room < room_count (plan_in self.now.plan.now) }
-        ensures { result.0 ≡ running (plan_in self.now.plan.now) room (triple_at self.now.schedule.now) hour.0 }
+        requires { room < room_count (plan_in self.now.tested.plan.now) }
+        ensures { result.0 ≡ running (plan_in self.now.tested.plan.now) room (triple_at self.now.schedule.now) hour.0 }
     {
-        let heights = self.plan.heights_of(room);
+        let heights = self.tested.plan.heights_of(room);
         let mut sum = Height(0);
         for (i, height) in heights.iter().enumerate() {
             if is_running(triple_at(self.schedule, i), hour) {
@@ -110,9 +107,9 @@ impl Tested<'_> {
 
     // 16, where the tasks that run in the hour take more than a room's capacity.
     fn test_hour(&self, hour: Hour) -> Result<(), Refusal>
-        ensures { tested_fault result ≡ hour_fault (plan_in self.now.plan.now) (triple_at self.now.schedule.now) hour.0 }
+        ensures { tested_fault result ≡ hour_fault (plan_in self.now.tested.plan.now) (triple_at self.now.schedule.now) hour.0 }
     {
-        for (room, capacity) in self.plan.capacities.iter().enumerate() {
+        for (room, capacity) in self.tested.plan.capacities.iter().enumerate() {
             let running = self.running_heights(room, hour);
             if running > Height(*capacity) {
                 return Err(Refusal::OverCapacity(hour.0 as usize));
@@ -123,11 +120,11 @@ impl Tested<'_> {
 
     // 16, at the first hour in which the running tasks take more than the capacity of any room.
     fn test_hours(&self) -> Result<(), Refusal>
-        ensures { let P = plan_in self.now.plan.now in
+        ensures { let P = plan_in self.now.tested.plan.now in
             tested_fault result ≡ first_of (hour_fault P (triple_at self.now.schedule.now)) P.shifts.hours }
     {
         // By hour, which is the refusal's place.
-        for hour in 0..self.plan.shifts.hours.0 {
+        for hour in 0..self.tested.plan.shifts.hours.0 {
             self.test_hour(Hour(hour))?;
         }
         Ok(())
@@ -135,10 +132,10 @@ impl Tested<'_> {
 
     // The largest end.
     fn latest_end(&self) -> Hour
-        requires { Feasible (plan_in self.now.plan.now) self.now.boxes.now (triple_at self.now.schedule.now) }
-        ensures { result.0 ≡ makespan (plan_in self.now.plan.now) (triple_at self.now.schedule.now) }
+        requires { Feasible (plan_in self.now.tested.plan.now) self.now.tested.boxes.now (triple_at self.now.schedule.now) }
+        ensures { result.0 ≡ makespan (plan_in self.now.tested.plan.now) (triple_at self.now.schedule.now) }
     {
-        let tasks = self.plan.tasks();
+        let tasks = self.tested.plan.tasks();
         let mut latest = Hour(0);
         // By number: where a task's triple lies is said in `triple_at` alone.
         for i in 0..tasks {
@@ -149,36 +146,24 @@ impl Tested<'_> {
     }
 }
 
-// Whether the fields, the boxes and the schedule number one for each task.
-#[tactic(auto, unfolding(crate::specs::Entry::is_sized))]
-fn is_right_size(plan: &Plan, boxes: &[u16], schedule: &[u16]) -> bool
-    ensures { let P = plan_in plan.now in result ≡ (is_right_size P boxes.now and is_sized (task_count P) schedule.now) }
-{
-    input::has_one_for_each_task(plan, boxes)
-        && units::is_for_each(schedule.len(), Triple::NUMBERS, plan.tasks())
-}
-
 // The tests of a schedule: 31, the plan's tests, the triples, the hours. What has passed them is what was lent.
 fn test_schedule<'a>(
     plan: &'a Plan<'a>,
     boxes: &'a [u16],
     schedule: &'a [u16],
-) -> Result<Tested<'a>, Refusal>
+) -> Result<Scheduled<'a>, Refusal>
     ensures tests { tested_fault result ≡ check_fault (plan_in plan.now) boxes.now schedule.now }
-    ensures lends { IfOk result (λ t. (t.plan.now ≡ plan.now) × (t.boxes.now ≡ boxes.now) × (t.schedule.now ≡ schedule.now)) }
+    ensures lends { IfOk result (λ s. (s.tested.plan.now ≡ plan.now) × (s.tested.boxes.now ≡ boxes.now) × (s.schedule.now ≡ schedule.now)) }
 {
-    if !is_right_size(plan, boxes, schedule) {
+    // 31 comes before all others, so that the schedule's length is asked before the plan's tests.
+    if !units::is_for_each(schedule.len(), Triple::NUMBERS, plan.tasks()) {
         return Err(Refusal::MemorySize);
     }
-    input::test_plan(plan, boxes)?;
-    let tested = Tested {
-        plan,
-        boxes,
-        schedule,
-    };
-    tested.test_triples()?;
-    tested.test_hours()?;
-    Ok(tested)
+    let tested = input::tested_input(plan, boxes)?;
+    let scheduled = Scheduled { tested, schedule };
+    scheduled.test_triples()?;
+    scheduled.test_hours()?;
+    Ok(scheduled)
 }
 
 // The schedule checker: accepts exactly the feasible schedules of a plan that passes the tests, with the makespan.

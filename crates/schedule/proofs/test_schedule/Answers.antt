@@ -1,63 +1,83 @@
-use mathlib.Core.Path.{◌≡◌, sym, ◌∙◌}
-use Rattle.units.proofs.Choices.{and_left, else-none, else-some}
-use Rattle.plan.specs.Plan.{Plan}
-use Rattle.plan.specs.Lent.{plan_in}
-use Rattle.plan.proofs.Refusals.{go_on, refuse, handed-on}
-use Rattle.schedule.specs.Schedule.{triple_at}
-use Rattle.schedule.specs.Entry.{schedule_fault, check_fault}
-use Rattle.plan.specs.Faults.{plan_fault}
+use mathlib.Core.Path.{◌≡◌, refl, sym, ◌∙◌}
+use mathlib.Core.Bool.{Bool, true, false}
 use mathlib.Core.List.{List}
-use Rattle.std.specs.Prelude.{None}
-use Prim.Native.Nat.{ℕ}
-use Rattle.schedule.specs.Decision.{RightSize}
-use Rattle.schedule.proofs.Readiness.{InputPasses, plan-facts, triple-each}
+use Prim.Native.Nat.{ℕ, ◌*◌}
+use lib.Dec.{eqb}
+use lib.ListN.{length}
+use Rattle.std.specs.Prelude.{Option}
+use Rattle.units.specs.Choice.{◌and◌, ◌or_else◌}
+use Rattle.units.proofs.Choices.{not_right, else-none, else-some}
+use Rattle.plan.specs.Plan.{Plan, task_count}
+use Rattle.plan.specs.declared.Fault.{Fault}
+use Rattle.plan.specs.Refusals.{unless}
+use Rattle.plan.specs.Lent.{plan_in}
+use Rattle.plan.specs.Faults.{is_right_size, plan_fault, input_fault}
+use Rattle.plan.proofs.Refusals.{refuse, handed-on}
+use Rattle.calendar.specs.Triples.{triple_numbers}
+use Rattle.schedule.specs.Schedule.{triple_at}
+use Rattle.schedule.specs.Entry.{is_sized, schedule_fault, check_fault}
+use Rattle.schedule.proofs.test_schedule.Goals.{In_ok-tested}
 use Rattle.schedule.proofs.test_schedule.Goals as goal
 
--- a plan that passes, with memory of the right size, so that the schedule's tests decide
-passing : (P : Plan) (boxes schedule : List ℕ) → RightSize P boxes schedule → plan_fault P boxes ≡ None → InputPasses P boxes schedule
-passing P boxes schedule size passes = record { size = size; passes = passes }
+-- what the code found of the schedule's length
+size-is : (schedule : List ℕ) {tasks n : ℕ} {r b : Bool} → r ≡ eqb (length schedule) (triple_numbers * n) → n ≡ tasks → r ≡ b
+    → is_sized tasks schedule ≡ b
+unfolding is_sized
+size-is schedule e f g = rw (← f) (sym e ∙ g)
 
-by-schedule : (P : Plan) (boxes schedule : List ℕ) → InputPasses P boxes schedule
-    → check_fault P boxes schedule ≡ schedule_fault P boxes (triple_at schedule)
+-- two tests for 31 are one, with whatever comes after
+both-31 : (b : Bool) (x y : Option Fault) → (unless (b and true) 31 0 or_else x or_else y) ≡ ((unless b 31 0 or_else x) or_else y)
+unfolding unless ◌or_else◌
+both-31 true x y = refl
+both-31 false x y = refl
+
+-- with a triple for each task the plan's tests come next, and then the schedule's
+by-input : (P : Plan) (boxes schedule : List ℕ) → is_sized (task_count P) schedule ≡ true
+    → check_fault P boxes schedule ≡ (input_fault P boxes or_else schedule_fault P boxes (triple_at schedule))
+unfolding check_fault input_fault
+by-input P boxes schedule e = rw e (both-31 (is_right_size P boxes) (plan_fault P boxes) (schedule_fault P boxes (triple_at schedule)))
+
+pub returns-then-not-is_for_each-clause-tests : goal.returns-then-not-is_for_each-clause-tests
 unfolding check_fault
-by-schedule P boxes schedule input = go_on _ 31 0 _ input.size ∙ else-none _ _ input.passes
+returns-then-not-is_for_each-clause-tests c =
+    sym (refuse _ 31 0 _ (not_right _ _ (size-is _ c.is_for_each.ensures c.tasks.ensures c.if-not-is_for_each.true)))
 
-pub returns-then-not-is_right_size-clause-tests : goal.returns-then-not-is_right_size-clause-tests
-unfolding check_fault
-returns-then-not-is_right_size-clause-tests c = sym (refuse _ 31 0 _ (sym c.is_right_size.ensures ∙ c.if-not-is_right_size.true))
+pub returns-in_err-tested-clause-tests : goal.returns-in_err-tested-clause-tests
+returns-in_err-tested-clause-tests c =
+    let sized = size-is _ c.is_for_each.ensures c.tasks.ensures c.if-not-is_for_each.false in
+    handed-on _ _ c.from_residual.ensures.1 ∙ sym (by-input _ _ _ sized ∙ else-some _ _ _ (sym c.in_err-tested.ensures.tests))
 
-pub test_plan-requires : goal.test_plan-requires
-test_plan-requires c = and_left _ _ (sym c.is_right_size.ensures ∙ c.if-not-is_right_size.false)
-
-pub returns-in_err-test_plan-clause-tests : goal.returns-in_err-test_plan-clause-tests
-unfolding check_fault
-returns-in_err-test_plan-clause-tests c =
-    handed-on _ _ c.from_residual.ensures.1
-    ∙ sym
-    (go_on _ 31 0 _ (sym c.is_right_size.ensures ∙ c.if-not-is_right_size.false) ∙ else-some _ _ _ (sym c.in_err-test_plan.ensures))
-
-pub invariant_of-tested : goal.invariant_of-tested
-invariant_of-tested c =
-    let input = passing (plan_in c.args.plan.now) _ _ (sym c.is_right_size.ensures ∙ c.if-not-is_right_size.false) (sym c.in_ok-test_plan.ensures) in
-    record { passed = plan-facts input; sized = triple-each input }
+-- past the plan's tests those of the schedule decide
+past-input : (c : In_ok-tested) → let P = plan_in c.args.plan.now in
+    check_fault P c.args.boxes.now c.args.schedule.now ≡ schedule_fault P c.args.boxes.now (triple_at c.args.schedule.now)
+past-input c =
+    let sized = size-is _ c.is_for_each.ensures c.tasks.ensures c.if-not-is_for_each.false in
+    by-input _ _ _ sized ∙ else-none _ _ (sym c.in_ok-tested.ensures.tests)
 
 pub returns-in_err-test_triples-clause-tests : goal.returns-in_err-test_triples-clause-tests
 unfolding schedule_fault
 returns-in_err-test_triples-clause-tests c =
-    let input = passing (plan_in c.args.plan.now) _ _ (sym c.is_right_size.ensures ∙ c.if-not-is_right_size.false) (sym c.in_ok-test_plan.ensures) in
+    let lent = c.in_ok-tested.ensures.lends in
     handed-on _ _ c.from_residual-in_err-test_triples.ensures.1
-    ∙ sym (by-schedule _ _ _ input ∙ else-some _ _ _ (sym c.in_err-test_triples.ensures))
+    ∙ sym
+    (past-input (goal.at.returns-in_err-test_triples-clause-tests c).In_ok-tested
+    ∙ else-some _ _ _ (sym (rw (lent.0, lent.1) at c.in_err-test_triples.ensures)))
 
 pub returns-in_err-test_hours-clause-tests : goal.returns-in_err-test_hours-clause-tests
 unfolding schedule_fault
 returns-in_err-test_hours-clause-tests c =
-    let input = passing (plan_in c.args.plan.now) _ _ (sym c.is_right_size.ensures ∙ c.if-not-is_right_size.false) (sym c.in_ok-test_plan.ensures) in
+    let lent = c.in_ok-tested.ensures.lends in
     handed-on _ _ c.from_residual-in_err-test_hours.ensures.1
-    ∙ c.in_err-test_hours.ensures
-    ∙ sym (by-schedule _ _ _ input ∙ else-none _ _ (sym c.in_ok-test_triples.ensures))
+    ∙ (rw lent.0 at c.in_err-test_hours.ensures)
+    ∙ sym
+    (past-input (goal.at.returns-in_err-test_hours-clause-tests c).In_ok-tested
+    ∙ else-none _ _ (sym (rw (lent.0, lent.1) at c.in_ok-test_triples.ensures)))
 
 pub returns-clause-tests : goal.returns-clause-tests
 unfolding schedule_fault
 returns-clause-tests c =
-    let input = passing (plan_in c.args.plan.now) _ _ (sym c.is_right_size.ensures ∙ c.if-not-is_right_size.false) (sym c.in_ok-test_plan.ensures) in
-    c.in_ok-test_hours.ensures ∙ sym (by-schedule _ _ _ input ∙ else-none _ _ (sym c.in_ok-test_triples.ensures))
+    let lent = c.in_ok-tested.ensures.lends in
+    (rw lent.0 at c.in_ok-test_hours.ensures)
+    ∙ sym
+    (past-input (goal.at.returns-clause-tests c).In_ok-tested
+    ∙ else-none _ _ (sym (rw (lent.0, lent.1) at c.in_ok-test_triples.ensures)))

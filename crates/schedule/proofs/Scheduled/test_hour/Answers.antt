@@ -4,7 +4,7 @@ use Rattle.units.proofs.Searching.{unfound-first, unfound-next, unfound-hit, unf
 use Rattle.plan.proofs.Refusals.{unless-true, unless-false}
 use Rattle.schedule.specs.Entry.{room_fault, hour_fault}
 use Rattle.schedule.proofs.Entry.{exceeds, allows}
-use Rattle.schedule.proofs.Tested.test_hour.Goals as goal
+use Rattle.schedule.proofs.Scheduled.test_hour.Goals as goal
 
 pub loop-room-init : goal.loop-room-init
 loop-room-init c = unfound-first

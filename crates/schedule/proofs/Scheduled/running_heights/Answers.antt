@@ -10,15 +10,15 @@ use Rattle.plan.proofs.Passed.{room_in}
 use Rattle.schedule.specs.Schedule.{running}
 use Rattle.schedule.proofs.Entry.{runs_as}
 use Rattle.schedule.proofs.Readiness.{one-each, height-is, height-small}
-use Rattle.schedule.proofs.Tested.running_heights.Goals as goal
-use Rattle.schedule.proofs.Tested.running_heights.Goals.{then-is_running, else-is_running}
+use Rattle.schedule.proofs.Scheduled.running_heights.Goals as goal
+use Rattle.schedule.proofs.Scheduled.running_heights.Goals.{then-is_running, else-is_running}
 
 pub heights_of-heights-requires : goal.heights_of-heights-requires
-heights_of-heights-requires c = room_in _ _ c.args.self.now.plan.now.heights.now c.args.self.now.passed.heights _ c.requires
+heights_of-heights-requires c = room_in _ _ c.args.self.now.tested.plan.now.heights.now c.args.self.now.tested.passed.heights _ c.requires
 
 pub triple_at-requires : goal.triple_at-requires
 triple_at-requires c =
-    let all = one-each c.args.self.now.passed c.requires c.heights_of-heights.ensures in
+    let all = one-each c.args.self.now.tested.passed c.requires c.heights_of-heights.ensures in
     omega (arith, all, c.loop-i-test.true, c.args.self.now.sized)
 
 pub loop-i-init : goal.loop-i-init
@@ -27,7 +27,7 @@ loop-i-init c = (omega arith, refl)
 
 pub plus-sum-requires : goal.plus-sum-requires
 plus-sum-requires c =
-    let passed = c.args.self.now.passed in
+    let passed = c.args.self.now.tested.passed in
     let all = one-each passed c.requires c.heights_of-heights.ensures in
     let low = height-small passed c.requires in
     let sum = where-most _ _ _ _ most_height c.loop-i.invariant.1 (λ j l. low j (omega (arith, l, all, c.loop-i-test.true))) in
@@ -52,6 +52,6 @@ loop-i-preserved c =
 pub returns : goal.returns
 unfolding running heights_where
 returns c =
-    let all : c.loop-i.i ≡ task_count (plan_in c.args.self.now.plan.now) =
-    omega (arith, c.loop-i-test.false, c.loop-i.invariant.0, one-each c.args.self.now.passed c.requires c.heights_of-heights.ensures) in
+    let all : c.loop-i.i ≡ task_count (plan_in c.args.self.now.tested.plan.now) =
+    omega (arith, c.loop-i-test.false, c.loop-i.invariant.0, one-each c.args.self.now.tested.passed c.requires c.heights_of-heights.ensures) in
     rw all at c.loop-i.invariant.1

@@ -1,7 +1,7 @@
 use mathlib.Core.Path.{sym, ◌∙◌}
 use Rattle.units.proofs.Searching.{unfound-first, unfound-next, unfound-hit, unfound-end}
 use Rattle.plan.proofs.Refusals.{handed-on}
-use Rattle.schedule.proofs.Tested.test_hours.Goals as goal
+use Rattle.schedule.proofs.Scheduled.test_hours.Goals as goal
 
 pub loop-hour-init : goal.loop-hour-init
 loop-hour-init c = unfound-first

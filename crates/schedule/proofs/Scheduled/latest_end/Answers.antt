@@ -9,7 +9,7 @@ use Rattle.plan.specs.Lent.{plan_in}
 use Rattle.schedule.specs.Schedule.{makespan}
 use Rattle.schedule.proofs.Entry.{ends_as, end-as}
 use Rattle.schedule.proofs.Readiness.{end-small}
-use Rattle.schedule.proofs.Tested.latest_end.Goals as goal
+use Rattle.schedule.proofs.Scheduled.latest_end.Goals as goal
 
 pub loop-i-init : goal.loop-i-init
 unfolding max_to
@@ -17,7 +17,7 @@ loop-i-init c = (omega arith, refl)
 
 pub plus-requires : goal.plus-requires
 plus-requires c =
-    let end = end-small _ c.args.self.now.passed c.requires c.loop-i.i (omega (arith, c.loop-i-test.true, c.tasks-tasks.ensures)) in
+    let end = end-small _ c.args.self.now.tested.passed c.requires c.loop-i.i (omega (arith, c.loop-i-test.true, c.tasks-tasks.ensures)) in
     ends_as _ _ c.triple_at-t.ensures (omega (arith, end))
 
 pub loop-i-preserved : goal.loop-i-preserved
@@ -29,5 +29,6 @@ loop-i-preserved c =
 pub returns : goal.returns
 unfolding makespan
 returns c =
-    let all : c.loop-i.i ≡ task_count (plan_in c.args.self.now.plan.now) = omega (arith, c.loop-i.invariant.0, c.loop-i-test.false, c.tasks-tasks.ensures) in
+    let all : c.loop-i.i ≡ task_count (plan_in c.args.self.now.tested.plan.now) =
+    omega (arith, c.loop-i.invariant.0, c.loop-i-test.false, c.tasks-tasks.ensures) in
     rw all at c.loop-i.invariant.1
