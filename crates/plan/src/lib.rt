@@ -7,7 +7,7 @@ ghost use Rattle.units.specs.Sums.{one_if};
 ghost use Rattle.plan.specs.Plan.{plan, room_count, task_count, calendar_count, first_symbol, calendar_at, calendar_of, work_time_of, capacity_of, room_part, heights_of};
 ghost use Rattle.plan.specs.Lent.{shifts_in, plan_in, HasCalendar};
 ghost use Rattle.plan.specs.HourKinds.{is_kind, symbol_of};
-ghost use Rattle.plan.specs.Boxes.{bounds_at, with_bounds};
+ghost use Rattle.plan.specs.Boxes.{bounds_at, box_cells, with_bounds};
 ghost use Rattle.plan.specs.Refusals.{fault_of};
 
 use units::{Bounds, Duration, Height, Hour};
@@ -223,18 +223,27 @@ pub fn bounds_at(boxes: &[u16], i: usize) -> Bounds
     }
 }
 
+// The numbers of a box as memory holds them.
+pub fn box_cells(b: Bounds) -> [u16; Bounds::NUMBERS]
+    ensures { result ≡ box_cells b }
+{
+    [
+        b.earliest.0,
+        b.latest.0,
+        b.shortest.0,
+        b.longest.0,
+        b.fewest.0,
+        b.most.0,
+    ]
+}
+
 // Another box for task i.
 pub fn put_bounds(boxes: &mut [u16], i: usize, b: Bounds)
     requires { box_numbers * i + box_numbers ≤ length boxes.old }
     ensures { boxes.new ≡ with_bounds boxes.old i b }
 {
     let first = Bounds::NUMBERS * i;
-    boxes[first] = b.earliest.0;
-    boxes[first + 1] = b.latest.0;
-    boxes[first + 2] = b.shortest.0;
-    boxes[first + 3] = b.longest.0;
-    boxes[first + 4] = b.fewest.0;
-    boxes[first + 5] = b.most.0;
+    boxes[first..first + Bounds::NUMBERS].copy_from_slice(&box_cells(b));
 }
 
 // Of numbers that lie room by room, so many a room, those of one: the heights of all tasks in a room, the loads of all hours.
