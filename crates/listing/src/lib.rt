@@ -1,21 +1,32 @@
 // The listing that the program prints.
 #![tactic(auto)]
 
-ghost use Rattle.std.specs.Prelude.{◌≡◌, ◌+◌, ◌*◌, ◌≤◌, ◌<◌, length};
+ghost use Rattle.std.specs.Prelude.{◌∷◌, ◌≡◌, ◌+◌, ◌*◌, ◌≤◌, ◌<◌, length};
 ghost use Rattle.units.specs.Limits.{most_tasks, box_numbers};
 ghost use Rattle.units.specs.Cells.{written};
+ghost use Rattle.plan.specs.Boxes.{box_cells};
 ghost use Rattle.plan.specs.Refusals.{fault_of};
 ghost use Rattle.steps.specs.Entry.{filter_answer};
 ghost use Rattle.text.specs.Putting.{Put};
 ghost use Rattle.listing.specs.Endings.{word_of};
 ghost use Rattle.listing.specs.Listing.{task_lines, task_line, refused_line, listing};
 
-use plan::{Fault, Refusal, bounds_at};
+use plan::{Fault, Refusal, bounds_at, box_cells};
 use steps::{Ending, Filtered};
 use text::put::put_line;
+use units::Bounds;
 
 // Bytes that hold every listing: a first line of at most 35, and a line of at most 47 for each task.
 pub const ROOM: usize = 4096;
+
+// The numbers of a task's line: the task's own, and the six bounds.
+fn task_numbers(i: usize, b: Bounds) -> [usize; 1 + Bounds::NUMBERS]
+    ensures { result ≡ i ∷ box_cells b }
+{
+    let mut numbers = [i; 1 + Bounds::NUMBERS];
+    numbers[1..].copy_from_slice(&box_cells(b).map(usize::from));
+    numbers
+}
 
 // The line of task i, 47 bytes at most.
 #[tactic(auto, using(crate::proofs::Lines::widths))]
@@ -24,18 +35,7 @@ fn put_task(out: &mut [u8], at: usize, boxes: &[u16], i: usize) -> usize
     ensures put { Put (task_line boxes.now i) at out.old result out.new }
     ensures short { result ≤ at + 47 }
 {
-    let b = bounds_at(boxes, i);
-    // The six bounds stand as numbers in `plan_writing` too, by themselves; here they are one array of seven with the task's number.
-    let numbers = [
-        i,
-        b.earliest.0 as usize,
-        b.latest.0 as usize,
-        b.shortest.0 as usize,
-        b.longest.0 as usize,
-        b.fewest.0 as usize,
-        b.most.0 as usize,
-    ];
-    put_line(out, at, b"task", &numbers)
+    put_line(out, at, b"task", &task_numbers(i, bounds_at(boxes, i)))
 }
 
 // The lines of the first tasks.

@@ -6,7 +6,6 @@ ghost use Rattle.units.specs.Limits.{most_calendars, most_rooms};
 ghost use Rattle.text.specs.Lines.{ended};
 ghost use Rattle.text.specs.Putting.{Put};
 ghost use Rattle.plan.specs.Plan.{room_count, task_count, calendar_count};
-ghost use Rattle.plan.specs.Boxes.{box_cells};
 ghost use Rattle.plan.specs.Refusals.{answered, answer_of};
 ghost use Rattle.plan.specs.Lent.{shifts_in, plan_in};
 ghost use Rattle.plan_format.specs.Records.{cal_record, record_line};
@@ -14,7 +13,7 @@ ghost use Rattle.plan_format.specs.Writing.{text_of_plan, write_end, write_plan,
 ghost use Rattle.plan_writing.specs.Inner.Sections.{calendars_text, numbers_at, tasks_text};
 
 use input::Tested;
-use plan::{Plan, Refusal, Shifts, bounds_at};
+use plan::{Plan, Refusal, Shifts, bounds_at, box_cells};
 use text::LF;
 use text::lengths::line_length;
 use text::put::{put_all, put_byte, put_line};
@@ -38,21 +37,6 @@ fn plan_numbers<'a>(plan: &Plan, numbers: &'a mut [usize; PLAN_NUMBERS]) -> &'a 
     &numbers[..plan.rooms() + 1]
 }
 
-// The six bounds, as the numbers of a line. Lent memory, the listing and the C answer hold them too, each as numbers of another type and among
-// others: a method for all would have its answer converted at each, which is no plainer.
-fn bound_numbers(b: Bounds) -> [usize; Bounds::NUMBERS]
-    ensures { result ≡ box_cells b }
-{
-    [
-        b.earliest.0 as usize,
-        b.latest.0 as usize,
-        b.shortest.0 as usize,
-        b.longest.0 as usize,
-        b.fewest.0 as usize,
-        b.most.0 as usize,
-    ]
-}
-
 // The numbers of the line of task i, in the memory lent: calendar, work time, the height in each room, and the bounds.
 fn task_numbers<'a>(
     tested: &Tested,
@@ -69,7 +53,8 @@ fn task_numbers<'a>(
     for room in 0..plan.rooms() {
         numbers[room + 2] = plan.heights_of(room)[i] as usize;
     }
-    let bounds = bound_numbers(bounds_at(tested.boxes, i));
+    let b = bounds_at(tested.boxes, i);
+    let bounds = box_cells(b).map(usize::from);
     let end = put_all(numbers, plan.rooms() + 2, &bounds);
     &numbers[..end]
 }

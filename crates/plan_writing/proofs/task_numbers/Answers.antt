@@ -3,6 +3,7 @@ use mathlib.Core.Path.{◌≡◌, refl, ap, ◌∙◌}
 use Prim.Native.Nat.{ℕ, ◌≤◌, ◌<◌}
 use native.Mathlib.Omega.{arith}
 use lib.ListN.{length, get_or, take, set, length-set}
+use Rattle.std.proofs.lemmas.Grind.{common_steps}
 use Rattle.units.specs.Lists.{list_to}
 use Rattle.plan.specs.Plan.{heights_of}
 use Rattle.plan.proofs.Passed.{room-length}
@@ -42,7 +43,8 @@ pub returns : goal.returns
 returns c =
     let all : c.loop-room.room ≡ length c.args.tested.now.plan.now.capacities.now =
     omega (arith, c.loop-room.auto.room-end, c.loop-room-test.false, c.rooms-room-end.ensures) in
+    let six : c.map-bounds.result ≡ c.box_cells.result = grind (arith, common_steps) in
     all-numbers _ _ _ _ _ _ _ _ c.rooms.ensures (omega (arith, c.args.tested.now.passed.rooms, c.loop-room.invariant.0)) (rw all at c.loop-room.invariant.1)
-    c.bounds_at.ensures
-    c.bound_numbers-bounds.ensures
+    c.bounds_at-b.ensures
+    (six ∙ c.box_cells.ensures)
     c.put_all-end.ensures
