@@ -307,8 +307,8 @@ pub fn one_if(calendar: &[u8], t: usize, kind: u8) -> u16
     u16::from(is_kind(calendar, t, kind))
 }
 
-// Where a calendar begins, if that is within a limit: H added once for each calendar before it, since the shop display is to do without
-// a wide product. The second way out is never taken. Without it the compiler makes a product of the loop.
+// Where a calendar begins, if that is within a limit: H added once for each calendar before it, since some machines that are to run this have no
+// wide multiplication (02, W-203). The second way out is never taken. Without it the compiler makes a product of the loop.
 fn first_within(limit: usize, number: u16, hours: u16) -> usize
     requires { first_symbol hours number ≤ limit }
     ensures { result ≡ first_symbol hours number }
@@ -324,8 +324,7 @@ fn first_within(limit: usize, number: u16, hours: u16) -> usize
     first
 }
 
-// The greatest index that any number and any H give, a product made at compile time: of a greater limit the compiler sees that it is never passed,
-// and the display has its wide product again.
+// The greatest index that any number and any H give, a product made at compile time: of a greater limit the compiler sees that it is never passed.
 const MOST_FIRST: usize = u16::MAX as usize * u16::MAX as usize;
 
 // Where a calendar begins among the symbols of all calendars, joined.
