@@ -1,7 +1,9 @@
 // The numbers that a caller in C is handed for each answer: a refusal's number and place, then the values; 0 where there is none.
+// Each public function is the two arms of a Result: a common one would take the second arm as a closure, which is no plainer.
 #![tactic(auto)]
 
 ghost use Rattle.std.specs.Prelude.{◌≡◌, ◌≤◌};
+ghost use Rattle.plan.specs.Boxes.{box_cells};
 ghost use Rattle.plan.specs.Refusals.{fault_of, answer_of};
 ghost use Rattle.schedule.specs.Entry.{schedule_answer};
 ghost use Rattle.steps.specs.Entry.{filter_answer};
@@ -9,10 +11,13 @@ ghost use Rattle.plan_text.specs.Entry.{reading_answer};
 ghost use Rattle.answers.specs.Numbers.{refused_numbers, with_triple, window_numbers, rule_numbers, schedule_numbers, log_numbers, filter_numbers, read_numbers, write_numbers};
 
 use calendar::{Triple, Witnessed};
-use plan::{Fault, Refusal};
+use plan::{Fault, Refusal, box_cells};
 use plan_text::PlanRead;
 use steps::{Accepted, Ending, Filtered};
-use units::Hour;
+use units::{Bounds, Hour};
+
+// How many numbers the calendar rule's answer has: the refusal's two, whether there is a window, eight of it, and three of each bound's witness.
+const RULE_NUMBERS: usize = 29;
 
 // A refusal's number and place, of an answer of so many numbers.
 fn refused<const N: usize>(refusal: Refusal) -> [u64; N]
@@ -27,7 +32,7 @@ fn refused<const N: usize>(refusal: Refusal) -> [u64; N]
 }
 
 // The calendar rule's numbers with s, e and o of a triple from a place on.
-fn with_triple(numbers: [u64; 29], at: usize, t: Triple) -> [u64; 29]
+fn with_triple(numbers: [u64; RULE_NUMBERS], at: usize, t: Triple) -> [u64; RULE_NUMBERS]
     requires { at ≤ 26 }
     ensures { result ≡ with_triple numbers at t }
 {
@@ -38,19 +43,20 @@ fn with_triple(numbers: [u64; 29], at: usize, t: Triple) -> [u64; 29]
     next
 }
 
+// The bounds of S, E and O, the lower first.
+fn bound_numbers(b: Bounds) -> [u64; Bounds::NUMBERS]
+    ensures { result ≡ box_cells b }
+{
+    box_cells(b).map(u64::from)
+}
+
 // A window's: S, E and O, the lower bound first, ect and lct, then the witness of each bound.
-fn window_numbers(found: Witnessed) -> [u64; 29]
+fn window_numbers(found: Witnessed) -> [u64; RULE_NUMBERS]
     ensures { result ≡ window_numbers found }
 {
-    let b = found.window.bounds;
-    let mut bounds = [0u64; 29];
+    let mut bounds = [0u64; RULE_NUMBERS];
     bounds[2] = 1;
-    bounds[3] = b.earliest.0 as u64;
-    bounds[4] = b.latest.0 as u64;
-    bounds[5] = b.shortest.0 as u64;
-    bounds[6] = b.longest.0 as u64;
-    bounds[7] = b.fewest.0 as u64;
-    bounds[8] = b.most.0 as u64;
+    bounds[3..9].copy_from_slice(&bound_numbers(found.window.bounds));
     bounds[9] = found.window.ect.0 as u64;
     bounds[10] = found.window.lct.0 as u64;
     let by = found.by;
@@ -62,15 +68,13 @@ fn window_numbers(found: Witnessed) -> [u64; 29]
     with_triple(lower_overtime, 26, by.most)
 }
 
-pub fn rule_numbers(answer: Result<Option<Witnessed>, Refusal>) -> [u64; 29]
+pub fn rule_numbers(answer: Result<Option<Witnessed>, Refusal>) -> [u64; RULE_NUMBERS]
     ensures { result ≡ rule_numbers (answer_of answer) }
 {
     match answer {
         Err(refusal) => refused(refusal),
-        Ok(found) => match found {
-            None => [0u64; 29],
-            Some(window) => window_numbers(window),
-        },
+        Ok(None) => [0; RULE_NUMBERS],
+        Ok(Some(window)) => window_numbers(window),
     }
 }
 

@@ -11,4 +11,6 @@ returns c =
       c.with_triple-lower_elapsed.ensures,
       c.with_triple-start.ensures,
       c.with_triple-lower_start.ensures,
+      c.copy_from_slice.ensures.after,
+      c.bound_numbers.ensures,
     )
