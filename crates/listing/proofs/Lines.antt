@@ -61,5 +61,5 @@ run-lines run boxes tasks =
     as (λ e. listing (ending_answer (ending_of e) run.count) boxes tasks ≡ line_of (word_of e) (run.count ∷ []) ++ task_lines boxes tasks)
     [ Settled ↦ refl | Impossible ↦ refl | NoRoom ↦ refl ]
 
--- how long the lines are
-pub ruleset widths = (count-length, refused-length, task-length)
+-- how long the lines of one or two numbers are
+pub ruleset widths = (count-length, refused-length)

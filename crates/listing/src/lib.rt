@@ -29,7 +29,6 @@ fn task_numbers(i: usize, b: Bounds) -> [usize; 1 + Bounds::NUMBERS]
 }
 
 // The line of task i, 47 bytes at most.
-#[tactic(auto, using(crate::proofs::Lines::widths))]
 fn put_task(out: &mut [u8], at: usize, boxes: &[u16], i: usize) -> usize
     requires { (at + 47 ≤ length out.old) × (i < most_tasks) × (box_numbers * i + box_numbers ≤ length boxes.now) }
     ensures put { Put (task_line boxes.now i) at out.old result out.new }
