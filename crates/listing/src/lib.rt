@@ -16,7 +16,8 @@ use steps::{Ending, Filtered};
 use text::put::put_line;
 use units::Bounds;
 
-// Bytes that hold every listing: a first line of at most 35, and a line of at most 47 for each task.
+// Bytes that hold every listing: a first line of at most 35, and a line of at most 47 for each task. A listing is put into an array of so many, and
+// its length answered, since there is no heap and the caller lends the memory.
 pub const ROOM: usize = 4096;
 
 // The numbers of a task's line: the task's own, and the six bounds.

@@ -12,7 +12,7 @@ use crate::{MOST_BOUNDS, MOST_HEIGHTS, MOST_SYMBOLS, PlanRead, read_plan};
 use plan::{Plan, Refusal, first_symbol};
 use units::{Bounds, Duration, MOST_ROOMS};
 
-// Memory for the most that a plan can hold, but for its boxes, which are lent beside a plan.
+// Memory for the most that a plan can hold, since there is no heap, but for its boxes, which are lent beside a plan.
 #[derive(Drop)]
 pub struct PlanMemory {
     pub capacities: [u16; MOST_ROOMS],

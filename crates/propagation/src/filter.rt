@@ -34,6 +34,7 @@ fn run_filter(
     // Where the next step goes in each of the three slices, and how many steps the answer counts.
     let mut count: usize = 0;
     loop {
+        // `&*`: what a state lends is lent for one turn.
         let state = State {
             plan: &*plan,
             boxes,

@@ -49,6 +49,7 @@ impl Part {
         self.count = at + 1;
     }
 
+    // A step of it. The core reads one of its slices in the same three lines: a function of three slices, each with a limit, would be no shorter.
     #[tactic(auto, unfolding(steps::specs::Entry::step_at))]
     pub fn step(&self, k: usize) -> Step
         requires { k < part_size }

@@ -1,5 +1,5 @@
 // Steps, logs and runs: the kinds of value that the log checker and the filter speak of. The definitions are in specs/, the laws about them in
-// proofs/; the code is in `turns` and `propagation`.
+// proofs/; the code over them is in `turns` and `propagation`.
 #![tactic(auto)]
 
 ghost use Rattle.std.specs.Prelude.{◌≡◌};

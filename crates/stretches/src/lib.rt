@@ -13,7 +13,7 @@ ghost use Rattle.stretches.specs.Inner.Stretches.{Inside, counts_of, with_hour};
 use plan::{HourKind, Shifts};
 use units::{Bounds, Duration, Hour};
 
-// What an hour adds to the number of hours with a symbol.
+// What an hour adds to the number of hours with a symbol: passed on, since a caller may ask for it here.
 pub use plan::one_if;
 
 // A task as the calendar rule sees it: the symbols of its calendar, its work time p, and its box.

@@ -69,7 +69,8 @@ impl State<'_> {
         load_at(self.fits, self.plan.heights_of(room), t)
     }
 
-    // The numbers, which are 0, become the loads of the hours, room by room.
+    // The numbers, which are 0, become the loads of the hours, room by room. That they are 0 is said in each contract on the way: no type of a slice
+    // says it, and the memory is of one of two sizes.
     pub(crate) fn fill_loads(&self, loads: &mut [u16])
         requires { let P = plan_in self.now.plan.now in
             (length loads.old ≡ room_count P * P.shifts.hours) × ((k : ℕ) → k < length loads.old → get_or loads.old k 0 ≡ 0) }
@@ -78,7 +79,7 @@ impl State<'_> {
             × Loaded P.shifts.hours (room_count P) (task_count P) loads.new self.now.fits.now P.heights }
     {
         let hours = self.plan.shifts.hours.0 as usize;
-        // By number: `chunks_mut` would need an H above 0, which no caller was asked for.
+        // By number: `chunks_mut` would need an H above 0, which no contract of a caller says.
         for room in 0..self.plan.rooms() {
             let from = room * hours;
             fill_room(

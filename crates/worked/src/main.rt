@@ -103,68 +103,51 @@ fn print_listing(rt: &(impl Files + Print), name: &str) -> io::Result<()> {
 }
 
 // What a plan may have at most, and one more.
-fn print_limits(rt: &(impl Files + Print)) -> io::Result<()> {
-    let names = [
-        "no-tasks.plan",
-        "hours-1008.plan",
-        "hours-1009.plan",
-        "tasks-64.plan",
-        "tasks-65.plan",
-    ];
-    for name in names {
-        print_listing(rt, name)?;
-    }
-    Ok(())
-}
+const LIMITS: [&str; 5] = [
+    "no-tasks.plan",
+    "hours-1008.plan",
+    "hours-1009.plan",
+    "tasks-64.plan",
+    "tasks-65.plan",
+];
 
 // 01's weeks and its traps, and overtime asked for and not.
-fn print_weeks(rt: &(impl Files + Print)) -> io::Result<()> {
-    let names = [
-        "printed-week.plan",
-        "height-above-capacity.plan",
-        "calendar-a.plan",
-        "rests-before-closing.plan",
-        "one-hour-of-overtime.plan",
-        "overtime-not-asked-for.plan",
-        "two-hours-of-overtime.plan",
-        "own-part-is-no-excess.plan",
-    ];
-    for name in names {
-        print_listing(rt, name)?;
-    }
-    Ok(())
-}
+const WEEKS: [&str; 8] = [
+    "printed-week.plan",
+    "height-above-capacity.plan",
+    "calendar-a.plan",
+    "rests-before-closing.plan",
+    "one-hour-of-overtime.plan",
+    "overtime-not-asked-for.plan",
+    "two-hours-of-overtime.plan",
+    "own-part-is-no-excess.plan",
+];
 
 // Every refusal of a plan text but 5, which is among the limits.
-fn print_refusals(rt: &(impl Files + Print)) -> io::Result<()> {
-    let names = [
-        "refused-1.plan",
-        "refused-1-no-lf.plan",
-        "refused-2.plan",
-        "refused-3.plan",
-        "refused-4.plan",
-        "refused-6.plan",
-        "refused-7.plan",
-        "refused-8.plan",
-        "refused-9.plan",
-        "refused-10.plan",
-        "refused-17.plan",
-        "refused-17-no-room.plan",
-        "refused-1-heights.plan",
-    ];
-    for name in names {
-        print_listing(rt, name)?;
-    }
-    Ok(())
-}
+const REFUSALS: [&str; 13] = [
+    "refused-1.plan",
+    "refused-1-no-lf.plan",
+    "refused-2.plan",
+    "refused-3.plan",
+    "refused-4.plan",
+    "refused-6.plan",
+    "refused-7.plan",
+    "refused-8.plan",
+    "refused-9.plan",
+    "refused-10.plan",
+    "refused-17.plan",
+    "refused-17-no-room.plan",
+    "refused-1-heights.plan",
+];
 
 // Weeks of two rooms, and one of 40 tasks.
-fn print_larger_weeks(rt: &(impl Files + Print)) -> io::Result<()> {
-    let names = [
-        "two-rooms.plan",
-        "overload-in-the-second-room.plan",
-        "bakery-week.plan",
-    ];
+const LARGER_WEEKS: [&str; 3] = [
+    "two-rooms.plan",
+    "overload-in-the-second-room.plan",
+    "bakery-week.plan",
+];
+
+fn print_listings(rt: &(impl Files + Print), names: &[&str]) -> io::Result<()> {
     for name in names {
         print_listing(rt, name)?;
     }
@@ -368,10 +351,10 @@ fn main(rt: HostRuntime) -> io::Result<()> {
     schedule_over_capacity(&rt)?;
     schedule_that_ends_closed(&rt)?;
     schedule_over_the_second_capacity(&rt)?;
-    print_limits(&rt)?;
-    print_weeks(&rt)?;
-    print_refusals(&rt)?;
-    print_larger_weeks(&rt)?;
+    print_listings(&rt, &LIMITS)?;
+    print_listings(&rt, &WEEKS)?;
+    print_listings(&rt, &REFUSALS)?;
+    print_listings(&rt, &LARGER_WEEKS)?;
     printed_week_logs(&rt)?;
     two_rooms_logs(&rt)?;
     log_of_two_parts(&rt)?;
