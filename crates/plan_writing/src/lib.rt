@@ -126,7 +126,7 @@ fn put_tasks(out: &mut [u8], at: usize, tested: &Tested) -> usize
 {
     let mut numbers = [0; TASK_NUMBERS];
     let mut end = at;
-    // By number, as they were counted.
+    // By number, as `tasks_length` counts them: what a task has lies in several lent slices.
     for i in 0..tested.plan.tasks() {
         end = put_line(out, end, b"task", task_numbers(tested, i, &mut numbers));
     }
