@@ -14,7 +14,7 @@ use Rattle.plan.specs.Plan.{Plan, plan}
 use Rattle.plan.specs.Boxes.{bounds_at, box_cells, with_bounds}
 use Rattle.plan.specs.declared.Fault.{Fault}
 use Rattle.plan.specs.Refusals.{fault, refused, answered, answer_unless}
-use Rattle.plan.specs.Faults.{one_for_each_task, calendars_fault, plan_fault, input_fault}
+use Rattle.plan.specs.Faults.{one_for_each_task, is_whole_pairs, is_right_size, calendars_fault, plan_fault, input_fault}
 use Rattle.plan.proofs.Refusals.{unless-true, unless-false}
 use Rattle.plan.proofs.Passed.{passed}
 use Rattle.calendar.specs.Rule.{witnessed_rule}
@@ -23,8 +23,8 @@ use Rattle.calendar.specs.Entry.{one_task, calendar_rule}
 
 module _ (cal : List ℕ) (p : ℕ) (b : Bounds) where
   -- the memory of one task is of the right size
-  one_each : one_for_each_task (0 ∷ []) (0 ∷ []) (p ∷ []) (0 ∷ []) (box_cells b) ≡ true
-  unfolding one_for_each_task
+  one_each : is_right_size (plan (length cal) (0 ∷ []) cal (0 ∷ []) (p ∷ []) (0 ∷ []) []) (box_cells b) ≡ true
+  unfolding one_for_each_task is_whole_pairs
   one_each = refl
 
   -- a box that is stored for one task is its cells
@@ -33,7 +33,7 @@ module _ (cal : List ℕ) (p : ℕ) (b : Bounds) where
   stored = refl
 
   -- the test that the code asks for, with H from its constructor
-  pub one-test : (h : Duration) → duration (length cal) ≡ h → {P : Plan} → P ≡ plan h.0 (0 ∷ []) cal (0 ∷ []) (p ∷ []) (0 ∷ [])
+  pub one-test : (h : Duration) → duration (length cal) ≡ h → {P : Plan} → P ≡ plan h.0 (0 ∷ []) cal (0 ∷ []) (p ∷ []) (0 ∷ []) []
       → {cells : List ℕ} → cells ≡ with_bounds (0 ∷ 0 ∷ 0 ∷ 0 ∷ 0 ∷ 0 ∷ []) 0 b
       → input_fault P cells ≡ input_fault (one_task cal p) (box_cells b)
   unfolding one_task

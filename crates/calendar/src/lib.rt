@@ -165,7 +165,7 @@ pub fn calendar_rule(
 {
     let hours = Duration::of_plan(calendar.len()).ok_or(Refusal::Hours)?;
     let work = [work_time.0];
-    let plan = Plan::new(hours.0, &[0], calendar, &[0], &work, &[0]);
+    let plan = Plan::new(hours.0, &[0], calendar, &[0], &work, &[0], &[]);
     let mut cells = [0; Bounds::NUMBERS];
     plan::put_bounds(&mut cells, 0, b);
     input::test_input(&plan, &cells)?;

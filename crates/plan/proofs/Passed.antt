@@ -8,18 +8,19 @@ use native.Mathlib.Nat.{div-add-mod'}
 use native.Mathlib.Omega.{arith}
 use lib.ListN.{length, get_or, drop, length-take, length-drop}
 use lib.Seq.{get_or-take, get_or-drop}
-use borrow.Author.Tests.{eqb-true, leb-true, ltb-true}
-use Rattle.units.specs.Limits.{most_hours, most_calendars, most_rooms, most_tasks, most_capacity, box_numbers}
-use Rattle.units.specs.Limits.{within}
+use borrow.Author.Tests.{eqb-true, eqb-false, leb-true, ltb-true, not-true}
+use Rattle.units.specs.Limits.{most_hours, most_calendars, most_rooms, most_tasks, most_pairs, most_capacity, box_numbers, pair_numbers}
+use Rattle.units.specs.Limits.{within, is_pair}
 use Rattle.units.proofs.Choices.{and_left, and_right, else-none, neither, first-none, first-all-none}
 use Rattle.units.proofs.Multiples.{part-within}
 use Rattle.units.proofs.Ranges.{boxed, is-boxed, from-least, to-most}
-use Rattle.plan.specs.Plan.{Shifts, Plan, room_count, task_count, calendar_count, first_symbol, calendar_at, calendar_of, room_part, heights_of, height_of}
+use Rattle.plan.specs.Plan.{Shifts, Plan, room_count, task_count, pair_count, calendar_count, first_symbol, calendar_at, calendar_of, room_part}
+use Rattle.plan.specs.Plan.{heights_of, height_of}
 use Rattle.plan.specs.HourKinds.{is_symbol}
-use Rattle.plan.specs.Faults.{one_for_each_task, is_right_size, is_calendars, symbol_fault, calendars_fault}
-use Rattle.plan.specs.Faults.{capacity_fault, counts_fault, height_fault, one_task_fault, task_fault, tasks_fault, plan_fault}
-use Rattle.plan.specs.Faults.{input_fault}
-use Rattle.plan.specs.Passed.{PassedTask, Passed}
+use Rattle.plan.specs.Faults.{one_for_each_task, is_whole_pairs, is_right_size, is_calendars, symbol_fault, calendars_fault}
+use Rattle.plan.specs.Faults.{capacity_fault, counts_fault, height_fault, one_task_fault, task_fault, tasks_fault, pair_fault, pairs_fault}
+use Rattle.plan.specs.Faults.{plan_fault, input_fault}
+use Rattle.plan.specs.Passed.{PassedTask, PassedPair, Passed}
 use Rattle.plan.proofs.Refusals.{unless-true, unless-none}
 
 -- ---- memory of the right size
@@ -38,6 +39,12 @@ sized rs cs ws hs bs e =
       heights = eqb-true _ _ (and_left _ _ (and_right _ _ e));
       boxes = eqb-true _ _ (and_right _ _ (and_right _ _ e));
     }
+
+pub pairs_whole : (pairs : List ℕ) → is_whole_pairs pairs ≡ true → length pairs ≡ pair_numbers * (length pairs / pair_numbers)
+unfolding is_whole_pairs
+pairs_whole pairs e =
+    let even : length pairs % pair_numbers ≡ 0 = eqb-true _ _ e in
+    omega (arith, div-add-mod' (length pairs) pair_numbers)
 
 -- ---- H and the calendars
 
@@ -62,20 +69,23 @@ calendars-passed e =
 
 -- ---- counts and the capacities
 
-pub record CountsPassed (n : ℕ) (cs : List ℕ) : Type 0 where
+pub record CountsPassed (n pairs : ℕ) (cs : List ℕ) : Type 0 where
   pub tasks : n ≤ most_tasks
+  pub few_pairs : pairs ≤ most_pairs
   pub some_room : 1 ≤ length cs
   pub rooms : length cs ≤ most_rooms
   pub capacity : (r : ℕ) → r < length cs → get_or cs r 0 ≤ most_capacity
 
-pub counts-passed : {tasks : ℕ} {capacities : List ℕ} → counts_fault tasks capacities ≡ None → CountsPassed tasks capacities
+pub counts-passed : {tasks pairs : ℕ} {capacities : List ℕ} → counts_fault tasks pairs capacities ≡ None → CountsPassed tasks pairs capacities
 unfolding counts_fault capacity_fault
 counts-passed e =
     let (five, rest) = neither _ _ e in
+    let (nineteen, rest) = neither _ _ rest in
     let (seventeen, ten) = neither _ _ rest in
     let count = unless-none _ 17 0 seventeen in
     record {
       tasks = leb-true _ _ (unless-none _ 5 0 five);
+      few_pairs = leb-true _ _ (unless-none _ 19 0 nineteen);
       some_room = from-least 1 most_rooms _ count;
       rooms = to-most 1 most_rooms _ count;
       capacity = λ r l. leb-true _ _ (unless-none _ 10 0 (first-none _ _ ten r l));
@@ -133,6 +143,19 @@ module _ (P : Plan) (boxes : List ℕ) where
         box = boxed _ _ _ (unless-none _ 9 i nine);
       }
 
+  -- ---- a pair
+
+  passed-pair : (k : ℕ) → pair_fault (task_count P) P.pairs k ≡ None → PassedPair P k
+  unfolding pair_fault is_pair
+  passed-pair k e =
+      let is = unless-none _ 18 k e in
+      let rest = and_right _ _ is in
+      record {
+        earlier = ltb-true _ _ (and_left _ _ is);
+        later = ltb-true _ _ (and_left _ _ rest);
+        two = eqb-false _ _ (not-true _ (and_right _ _ rest));
+      }
+
   -- ---- all
 
   count : is_calendars P.shifts.hours P.shifts.calendars ≡ true → within 1 most_calendars (calendar_count P.shifts) ≡ true
@@ -147,11 +170,12 @@ module _ (P : Plan) (boxes : List ℕ) where
       omega (arith, div-add-mod' (length P.shifts.calendars) P.shifts.hours)
 
   pub passed : is_right_size P boxes ≡ true → plan_fault P boxes ≡ None → Passed P boxes
-  unfolding plan_fault tasks_fault
+  unfolding plan_fault tasks_fault pairs_fault
   passed one e =
-      let size = sized _ _ _ _ _ one in
+      let size = sized _ _ _ _ _ (and_left _ _ one) in
       let (calendars, rest) = neither _ _ e in
-      let (counts, tasks) = neither _ _ rest in
+      let (counts, rest) = neither _ _ rest in
+      let (tasks, pairs) = neither _ _ rest in
       let c = calendars-passed calendars in
       let n = counts-passed counts in
       record {
@@ -168,7 +192,10 @@ module _ (P : Plan) (boxes : List ℕ) where
         work_times = size.work_times;
         heights = size.heights;
         boxes = size.boxes;
+        few_pairs = n.few_pairs;
+        pairs = pairs_whole P.pairs (and_right _ _ one);
         task = λ i l. passed-task i (first-none _ _ tasks i l);
+        pair = λ k l. passed-pair k (first-none _ _ pairs k l);
       }
 
   pub input-sized : input_fault P boxes ≡ None → is_right_size P boxes ≡ true
@@ -201,10 +228,12 @@ module _ (P : Plan) (boxes : List ℕ) where
     unfolding plan_fault tasks_fault
     plan-again e =
         let (calendars, rest) = neither _ _ e in
-        let (counts, tasks) = neither _ _ rest in
+        let (counts, rest) = neither _ _ rest in
+        let (tasks, pairs) = neither _ _ rest in
         else-none _ _ calendars
         ∙ else-none _ _ counts
-        ∙ first-all-none _ _ (λ i l. task-again i l (first-none _ _ tasks i l))
+        ∙ else-none _ _ (first-all-none _ _ (λ i l. task-again i l (first-none _ _ tasks i l)))
+        ∙ pairs
 
     pub input-again : input_fault P boxes ≡ None → input_fault P others ≡ None
     unfolding input_fault one_for_each_task

@@ -1,11 +1,11 @@
 -- The plan's tests, group by group: the first fault, in 01's order (01, "Refused because of the input", "Refused because of the state"; 17: 02,
--- W-202).
+-- W-202; 18 and 19: W-206).
 use Rattle.std.specs.Prelude.{Bool, List, ◌≡◌, ℕ, ◌*◌, ◌/◌, ◌%◌, eqb, length, get_or}
 use Rattle.std.specs.Prelude.{Option, None}
 use Rattle.units.specs.Choice.{◌and◌, ◌or_else◌, first_of}
-use Rattle.units.specs.Limits.{box_numbers, is_plan_length, is_work_time, is_height, is_capacity, is_calendar_count, is_calendar_number, is_room_count, is_task_count, is_box}
+use Rattle.units.specs.Limits.{box_numbers, pair_numbers, is_plan_length, is_work_time, is_height, is_capacity, is_calendar_count, is_calendar_number, is_room_count, is_task_count, is_pair_count, is_pair, is_box}
 use Rattle.units.specs.declared.Bounds.{Bounds}
-use Rattle.plan.specs.Plan.{Shifts, Plan, room_count, task_count, calendar_count, work_time_of, room_part}
+use Rattle.plan.specs.Plan.{Shifts, Plan, room_count, task_count, pair_count, calendar_count, work_time_of, room_part, pair_at}
 use Rattle.plan.specs.HourKinds.{is_symbol}
 use Rattle.plan.specs.Boxes.{bounds_at}
 use Rattle.plan.specs.declared.Fault.{Fault}
@@ -20,9 +20,14 @@ one_for_each_task capacities task_calendars work_times heights boxes =
     and eqb (length heights) (length capacities * length task_calendars)
     and eqb (length boxes) (box_numbers * length task_calendars)
 
+-- two numbers a pair
+unfoldable pub is_whole_pairs : List ℕ → Bool
+is_whole_pairs pairs = eqb (length pairs % pair_numbers) 0
+
 -- of a plan
 abbrev pub is_right_size : Plan → List ℕ → Bool
-is_right_size P boxes = one_for_each_task P.capacities P.shifts.task_calendars P.shifts.work_times P.heights boxes
+is_right_size P boxes =
+    one_for_each_task P.capacities P.shifts.task_calendars P.shifts.work_times P.heights boxes and is_whole_pairs P.pairs
 
 -- ---- H and the calendars: 2, 3, 4
 
@@ -40,15 +45,16 @@ calendars_fault hours calendars =
     or_else unless (is_calendars hours calendars) 3 0
     or_else first_of (symbol_fault calendars) (length calendars)
 
--- ---- counts and the capacities: 5, 17, 10
+-- ---- counts and the capacities: 5, 19, 17, 10
 
 -- 10, of a room
 unfoldable pub capacity_fault : List ℕ → ℕ → Option Fault
 capacity_fault capacities room = unless (is_capacity (get_or capacities room 0)) 10 0
 
-unfoldable pub counts_fault : ℕ → List ℕ → Option Fault
-counts_fault tasks capacities =
+unfoldable pub counts_fault : ℕ → ℕ → List ℕ → Option Fault
+counts_fault tasks pairs capacities =
     unless (is_task_count tasks) 5 0
+    or_else unless (is_pair_count pairs) 19 0
     or_else unless (is_room_count (length capacities)) 17 0
     or_else first_of (capacity_fault capacities) (length capacities)
 
@@ -74,19 +80,29 @@ task_fault S rooms heights boxes i =
 unfoldable pub tasks_fault : Shifts → ℕ → List ℕ → List ℕ → Option Fault
 tasks_fault S rooms heights boxes = first_of (task_fault S rooms heights boxes) (length S.task_calendars)
 
+-- ---- pair by pair: 18
+
+-- of pair k of a plan of so many tasks
+unfoldable pub pair_fault : ℕ → List ℕ → ℕ → Option Fault
+pair_fault tasks pairs k = unless (is_pair tasks (pair_at pairs k)) 18 k
+
+unfoldable pub pairs_fault : Plan → Option Fault
+pairs_fault P = first_of (pair_fault (task_count P) P.pairs) (pair_count P)
+
 -- ---- all
 
--- 2, 3, 4, 5, 17, 10, then task by task
+-- 2, 3, 4, 5, 19, 17, 10, then task by task, then pair by pair
 unfoldable pub plan_fault : Plan → List ℕ → Option Fault
 plan_fault P boxes =
     calendars_fault P.shifts.hours P.shifts.calendars
-    or_else counts_fault (task_count P) P.capacities
+    or_else counts_fault (task_count P) (pair_count P) P.capacities
     or_else tasks_fault P.shifts (room_count P) P.heights boxes
+    or_else pairs_fault P
 
 -- 31 before all others
 unfoldable pub input_fault : Plan → List ℕ → Option Fault
 input_fault P boxes = unless (is_right_size P boxes) 31 0 or_else plan_fault P boxes
 
--- a plan passes the tests if none of 2 to 10 and 17 applies to it
+-- a plan passes the tests if none of 2 to 10 and 17 to 19 applies to it
 abbrev pub Passes : Plan → List ℕ → Type 0
 Passes P boxes = plan_fault P boxes ≡ None

@@ -9,7 +9,7 @@ abbrev pub shifts_in : Lent_shifts.Shifts → Shifts
 shifts_in s = shifts s.hours.0 s.calendars.now s.task_calendars.now s.work_times.now
 
 abbrev pub plan_in : Lent_plan.Plan → Plan
-plan_in p = record { shifts = shifts_in p.shifts; capacities = p.capacities.now; heights = p.heights.now }
+plan_in p = record { shifts = shifts_in p.shifts; capacities = p.capacities.now; heights = p.heights.now; pairs = p.pairs.now }
 
 -- task i names a calendar that lies among the symbols
 pub record HasCalendar (S : Shifts) (i : ℕ) : Type 0 where

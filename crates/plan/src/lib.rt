@@ -2,15 +2,15 @@
 #![tactic(auto)]
 
 ghost use Rattle.std.specs.Prelude.{◌≡◌, ◌+◌, ◌*◌, ◌≤◌, ◌<◌, length, get_or};
-ghost use Rattle.units.specs.Limits.{box_numbers, duration, height};
+ghost use Rattle.units.specs.Limits.{box_numbers, pair_numbers, duration, height};
 ghost use Rattle.units.specs.Sums.{one_if};
-ghost use Rattle.plan.specs.Plan.{plan, room_count, task_count, calendar_count, first_symbol, calendar_at, calendar_of, work_time_of, capacity_of, room_part, heights_of};
+ghost use Rattle.plan.specs.Plan.{plan, room_count, task_count, pair_count, calendar_count, first_symbol, calendar_at, calendar_of, work_time_of, capacity_of, room_part, heights_of, pair_of};
 ghost use Rattle.plan.specs.Lent.{shifts_in, plan_in, HasCalendar};
 ghost use Rattle.plan.specs.HourKinds.{is_kind, symbol_of};
 ghost use Rattle.plan.specs.Boxes.{bounds_at, box_cells, with_bounds};
 ghost use Rattle.plan.specs.Refusals.{fault_of};
 
-use units::{Bounds, Duration, Height, Hour};
+use units::{Bounds, Duration, Height, Hour, Pair};
 
 // What the calendar rule reads of a plan: H, the symbols of the calendars, joined, and one number a task for each of its calendar and its work
 // time p.
@@ -22,13 +22,14 @@ pub struct Shifts<'a> {
     pub work_times: &'a [u16],
 }
 
-// A plan: that part, the capacity of each room, and room by room one number a task for its height there. The boxes are lent beside the plan and are
-// no field of it: some calls write them, which would have to promise then that the plan stays, and C lends the two as slices of their own.
+// A plan: that part, the capacity of each room, room by room one number a task for its height there, and two numbers a pair of tasks, the earlier
+// first. The boxes are lent beside the plan and are no field of it: some calls write them, which would have to promise then that the plan stays, and C lends the two as slices of their own.
 #[derive(Clone, Copy)]
 pub struct Plan<'a> {
     pub shifts: Shifts<'a>,
     pub capacities: &'a [u16],
     pub heights: &'a [u16],
+    pub pairs: &'a [u16],
 }
 
 #[tactic(auto, unfolding(crate::specs::Plan::calendar_of))]
@@ -86,8 +87,9 @@ impl<'a> Plan<'a> {
         task_calendars: &'a [u16],
         work_times: &'a [u16],
         heights: &'a [u16],
+        pairs: &'a [u16],
     ) -> Plan<'a>
-        ensures { plan_in result ≡ plan hours capacities.now calendars.now task_calendars.now work_times.now heights.now }
+        ensures { plan_in result ≡ plan hours capacities.now calendars.now task_calendars.now work_times.now heights.now pairs.now }
     {
         let shifts = Shifts {
             hours: Duration(hours),
@@ -99,6 +101,7 @@ impl<'a> Plan<'a> {
             shifts,
             capacities,
             heights,
+            pairs,
         }
     }
 
@@ -116,6 +119,13 @@ impl<'a> Plan<'a> {
         self.shifts.tasks()
     }
 
+    // How many pairs there are.
+    pub fn pair_count(&self) -> usize
+        ensures { result ≡ pair_count (plan_in self.now) }
+    {
+        self.pairs.len() / Pair::NUMBERS
+    }
+
     // The capacity of a room.
     pub fn capacity_of(&self, room: usize) -> Height
         requires { room < length self.now.capacities.now }
@@ -130,6 +140,18 @@ impl<'a> Plan<'a> {
         ensures { result.now ≡ heights_of (plan_in self.now) room }
     {
         room_part(self.heights, self.tasks(), room)
+    }
+
+    // The two tasks of pair k.
+    pub fn pair_of(&self, k: usize) -> Pair
+        requires { pair_numbers * k + pair_numbers ≤ length self.now.pairs.now }
+        ensures { result ≡ pair_of (plan_in self.now) k }
+    {
+        let first = Pair::NUMBERS * k;
+        Pair {
+            earlier: self.pairs[first],
+            later: self.pairs[first + 1],
+        }
     }
 }
 
@@ -164,6 +186,12 @@ pub enum Refusal {
     OverCapacity(usize),
     // 17
     Rooms,
+    // 18, at a pair.
+    PairTasks(usize),
+    // 19
+    Pairs,
+    // 20, at the first pair that the schedule breaks.
+    PairBroken(usize),
     // 31
     MemorySize,
     // 33
@@ -200,6 +228,9 @@ impl From<Refusal> for Fault {
             Refusal::NotValid(task) => (15, task),
             Refusal::OverCapacity(hour) => (16, hour),
             Refusal::Rooms => (17, 0),
+            Refusal::PairTasks(pair) => (18, pair),
+            Refusal::Pairs => (19, 0),
+            Refusal::PairBroken(pair) => (20, pair),
             Refusal::MemorySize => (31, 0),
             Refusal::OutputSize => (33, 0),
         };

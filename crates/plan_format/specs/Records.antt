@@ -1,18 +1,19 @@
--- The records of plan text, one a line (01, "Plan text and listing"; rooms: 02, W-202).
+-- The records of plan text, one a line (01, "Plan text and listing"; rooms: 02, W-202; pairs: W-206).
 use Rattle.std.specs.Prelude.{Option, None, Some}
 use Rattle.std.specs.Prelude.{List, [], ◌∷◌, ◌++◌, ℕ, leb, eqb, length, get_or, drop, if◌then◌else◌}
 use Rattle.units.specs.Choice.{◌and◌, some_if, on_option}
-use Rattle.text.specs.Words.{word_plan, word_cal, word_task}
+use Rattle.text.specs.Words.{word_plan, word_cal, word_task, word_after}
 use Rattle.text.specs.Fields.{tab, parts, same}
 use Rattle.text.specs.Numbers.{numbers_of}
 use Rattle.text.specs.Lines.{number_fields}
 
 -- `plan`, H, and the capacity of each room; `cal` and the symbols; `task` and its numbers: calendar, p, the height in each room, and all six
--- bounds or none
+-- bounds or none; `after` and a pair of tasks, the earlier first
 pub data Record : Type 0 where
   plan_record : ℕ → List ℕ → Record
   cal_record : List ℕ → Record
   task_record : List ℕ → Record
+  after_record : ℕ → ℕ → Record
 
 -- ---- read
 
@@ -32,6 +33,11 @@ cal_of fields = some_if (eqb (length fields) 1 and leb 1 (length (get_or fields 
 unfoldable pub task_of : List (List ℕ) → Option Record
 task_of fields = on_option (numbers_if 2 fields) None (λ ns. Some (task_record ns))
 
+-- two tasks; which they may be is left to refusal 18
+unfoldable pub after_of : List (List ℕ) → Option Record
+after_of fields =
+    on_option (numbers_of fields) None (λ ns. some_if (eqb (length ns) 2) (after_record (get_or ns 0 0) (get_or ns 1 0)))
+
 -- by the first field, and the fields after it
 unfoldable pub by_word : List (List ℕ) → Option Record
 by_word [] = None
@@ -39,7 +45,8 @@ by_word (word ∷ fields) =
     if same word word_plan then plan_of fields
     else (if same word word_cal then cal_of fields
     else (if same word word_task then task_of fields
-    else None))
+    else (if same word word_after then after_of fields
+    else None)))
 
 -- a line's record, if it is one
 unfoldable pub record_of : List ℕ → Option Record
@@ -52,3 +59,4 @@ unfoldable pub record_line : Record → List ℕ
 record_line (plan_record h cs) = word_plan ++ number_fields (h ∷ cs)
 record_line (cal_record symbols) = word_cal ++ (tab ∷ symbols)
 record_line (task_record numbers) = word_task ++ number_fields numbers
+record_line (after_record earlier later) = word_after ++ number_fields (earlier ∷ later ∷ [])

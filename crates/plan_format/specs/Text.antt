@@ -1,4 +1,4 @@
--- Plan text, line by line (01, "Plan text and listing"; rooms: 02, W-202). Read: the first line that breaks the rules, or the plan's records.
+-- Plan text, line by line (01, "Plan text and listing"; rooms: 02, W-202; pairs: W-206). Read: the first line that breaks the rules, or the plan's records.
 -- Written: each record's line.
 use Rattle.std.specs.Prelude.{Bool, true, List, [], ◌∷◌, ◌++◌, ℕ, ◌+◌, leb, eqb, length, take, if◌then◌else◌}
 use Rattle.std.specs.Prelude.{Option, None}
@@ -7,7 +7,7 @@ use Rattle.units.specs.Limits.{within}
 use Rattle.plan.specs.Refusals.{fault, Answer, refused, answered}
 use Rattle.text.specs.Fields.{lf, parts}
 use Rattle.text.specs.Lines.{ended}
-use Rattle.plan_format.specs.Records.{Record, plan_record, cal_record, task_record, record_of, record_line}
+use Rattle.plan_format.specs.Records.{Record, plan_record, cal_record, task_record, after_record, record_of, record_line}
 
 -- ---- read
 
@@ -15,7 +15,7 @@ use Rattle.plan_format.specs.Records.{Record, plan_record, cal_record, task_reco
 abbrev pub most_bytes : ℕ
 most_bytes = 32768
 
--- The sections of a text, in their order: nothing yet (0), the plan line, calendars, tasks.
+-- The sections of a text, in their order: nothing yet (0), the plan line, calendars, tasks, pairs.
 abbrev pub plan_section : ℕ
 plan_section = 1
 
@@ -25,16 +25,20 @@ cal_section = 2
 abbrev pub task_section : ℕ
 task_section = 3
 
--- What has been read: the section reached, and what the records so far say; a task by its numbers.
+abbrev pub after_section : ℕ
+after_section = 4
+
+-- What has been read: the section reached, and what the records so far say; a task by its numbers, and the pairs as they lie in memory.
 pub record Read : Type 0 where
   pub reached : ℕ
   pub hours : ℕ
   pub capacities : List ℕ
   pub calendars : List (List ℕ)
   pub tasks : List (List ℕ)
+  pub pairs : List ℕ
 
 abbrev pub nothing : Read
-nothing = record { reached = 0; hours = 0; capacities = []; calendars = []; tasks = [] }
+nothing = record { reached = 0; hours = 0; capacities = []; calendars = []; tasks = []; pairs = [] }
 
 -- `plan` comes first and once; each other record comes after it, and not after a later section
 unfoldable pub comes : ℕ → ℕ → Bool
@@ -46,13 +50,37 @@ is_task_line rooms numbers = if eqb numbers (rooms + 2) then true else eqb numbe
 
 unfoldable pub with_record : Read → Record → Option Read
 with_record r (plan_record h cs) =
-    some_if (comes plan_section r.reached) (record { reached = plan_section; hours = h; capacities = cs; calendars = []; tasks = [] })
+    some_if (comes plan_section r.reached) (record { reached = plan_section; hours = h; capacities = cs; calendars = []; tasks = []; pairs = [] })
 with_record r (cal_record symbols) =
     some_if (comes cal_section r.reached)
-    (record { reached = cal_section; hours = r.hours; capacities = r.capacities; calendars = r.calendars ++ (symbols ∷ []); tasks = r.tasks })
+    (record {
+      reached = cal_section;
+      hours = r.hours;
+      capacities = r.capacities;
+      calendars = r.calendars ++ (symbols ∷ []);
+      tasks = r.tasks;
+      pairs = r.pairs;
+    })
 with_record r (task_record numbers) =
     some_if (comes task_section r.reached and is_task_line (length r.capacities) (length numbers))
-    (record { reached = task_section; hours = r.hours; capacities = r.capacities; calendars = r.calendars; tasks = r.tasks ++ (numbers ∷ []) })
+    (record {
+      reached = task_section;
+      hours = r.hours;
+      capacities = r.capacities;
+      calendars = r.calendars;
+      tasks = r.tasks ++ (numbers ∷ []);
+      pairs = r.pairs;
+    })
+with_record r (after_record earlier later) =
+    some_if (comes after_section r.reached)
+    (record {
+      reached = after_section;
+      hours = r.hours;
+      capacities = r.capacities;
+      calendars = r.calendars;
+      tasks = r.tasks;
+      pairs = r.pairs ++ (earlier ∷ later ∷ []);
+    })
 
 unfoldable pub with_line : Read → List ℕ → Option Read
 with_line r line = on_option (record_of line) None (with_record r)

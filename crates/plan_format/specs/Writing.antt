@@ -1,16 +1,16 @@
--- Writing a plan as text (02, W-201; rooms: W-202): the plan's records, its text, the refusals in their order, what lent memory holds after, and that the text
+-- Writing a plan as text (02, W-201; rooms: W-202; pairs: W-206): the plan's records, its text, the refusals in their order, what lent memory holds after, and that the text
 -- read again is the plan.
 use Rattle.std.specs.Prelude.{true, List, ◌∷◌, ◌++◌, ◌≡◌, ℕ, ◌≤◌, leb, length, get_or}
 use Rattle.std.specs.Prelude.{Option}
 use Rattle.units.specs.Cells.{written}
 use Rattle.units.specs.Choice.{on_option, ◌or_else◌}
 use Rattle.units.specs.Lists.{list_to}
-use Rattle.plan.specs.Plan.{Shifts, Plan, room_count, task_count, calendar_count, calendar_at, room_part}
+use Rattle.plan.specs.Plan.{Shifts, Plan, room_count, task_count, pair_count, calendar_count, calendar_at, room_part, pair_of}
 use Rattle.plan.specs.Boxes.{bounds_at, box_cells}
 use Rattle.plan.specs.declared.Fault.{Fault}
 use Rattle.plan.specs.Refusals.{unless, Answer, refused, answered}
 use Rattle.plan.specs.Faults.{input_fault}
-use Rattle.plan_format.specs.Records.{Record, plan_record, cal_record, task_record}
+use Rattle.plan_format.specs.Records.{Record, plan_record, cal_record, task_record, after_record}
 use Rattle.plan_format.specs.Text.{Read, most_bytes, read_text, text_of}
 use Rattle.plan_format.specs.Reading.{plan_in, boxes_in, is_enough, end_with, read_plan}
 
@@ -32,12 +32,17 @@ unfoldable pub task_records : ℕ → List ℕ → List ℕ → List ℕ → Lis
 task_records rooms task_calendars work_times heights boxes n =
     list_to (λ i. task_record (task_numbers rooms task_calendars work_times heights boxes i)) n
 
--- the records of a plan: `plan`, then its calendars, then its tasks
+-- the first n pairs, a record each
+unfoldable pub after_records : Plan → ℕ → List Record
+after_records P n = list_to (λ k. after_record (pair_of P k).earlier (pair_of P k).later) n
+
+-- the records of a plan: `plan`, then its calendars, then its tasks, then its pairs
 unfoldable pub records_of : Plan → List ℕ → List Record
 records_of P boxes =
     plan_record P.shifts.hours P.capacities
     ∷ (cal_records P.shifts (calendar_count P.shifts)
-    ++ task_records (room_count P) P.shifts.task_calendars P.shifts.work_times P.heights boxes (task_count P))
+    ++ task_records (room_count P) P.shifts.task_calendars P.shifts.work_times P.heights boxes (task_count P)
+    ++ after_records P (pair_count P))
 
 -- a plan's text, every task line with all its bounds
 unfoldable pub text_of_plan : Plan → List ℕ → List ℕ
@@ -67,14 +72,21 @@ write_plan P boxes out =
 pub record ReadsBack (P : Plan) (boxes text : List ℕ) : Type 0 where
   pub short : length text ≤ most_bytes
   pub again : (r : Read) × (read_text text ≡ answered r) × (plan_in r ≡ P) × (boxes_in r ≡ boxes)
-  pub read : (rs cs ts ws hs bs : List ℕ) → is_enough rs cs ts ws hs bs ≡ true
-      → read_plan rs cs ts ws hs bs text
+  pub read : (rs cs ts ws hs ps bs : List ℕ) → is_enough rs cs ts ws hs ps bs ≡ true
+      → read_plan rs cs ts ws hs ps bs text
       ≡ end_with
       (answered
-      (record { hours = P.shifts.hours; rooms = room_count P; calendars = calendar_count P.shifts; tasks = task_count P }))
+      (record {
+        hours = P.shifts.hours;
+        rooms = room_count P;
+        calendars = calendar_count P.shifts;
+        tasks = task_count P;
+        pairs = pair_count P;
+      }))
       (written P.capacities rs)
       (written P.shifts.calendars cs)
       (written P.shifts.task_calendars ts)
       (written P.shifts.work_times ws)
       (written P.heights hs)
+      (written P.pairs ps)
       (written boxes bs)

@@ -1,8 +1,8 @@
--- The schedule checker as an entry point (01, "Refused because of the input", and the order below it; rooms: 02, W-202).
+-- The schedule checker as an entry point (01, "Refused because of the input", and the order below it; rooms: 02, W-202; pairs: W-206).
 use Rattle.std.specs.Prelude.{Bool, List, ℕ, ◌*◌, leb, eqb, length}
 use Rattle.std.specs.Prelude.{Option, Result, Ok, Err}
 use Rattle.units.specs.Choice.{◌and◌, ◌or_else◌, first_of}
-use Rattle.plan.specs.Plan.{Shifts, Plan, room_count, task_count, calendar_of, work_time_of, capacity_of}
+use Rattle.plan.specs.Plan.{Shifts, Plan, room_count, task_count, pair_count, calendar_of, work_time_of, capacity_of, pair_of}
 use Rattle.plan.specs.Boxes.{bounds_at}
 use Rattle.plan.specs.declared.Fault.{Fault}
 use Rattle.plan.specs.Refusals.{unless, Answer, refused, answered, fault_of, answer_unless}
@@ -12,7 +12,7 @@ use Rattle.calendar.specs.declared.Triple.{Triple}
 use Rattle.calendar.specs.Triples.{triple_numbers, valid_triple, in_bounds}
 use Rattle.plan.specs.declared.Refusal.{Refusal}
 use Rattle.units.specs.declared.Hour.{Hour}
-use Rattle.schedule.specs.Schedule.{triple_at, running, makespan}
+use Rattle.schedule.specs.Schedule.{triple_at, running, in_turn, makespan}
 
 -- task by task 14, 15: of task i, by its calendar, its work time p, its box and its triple
 unfoldable pub one_triple_fault : List ℕ → ℕ → Bounds → ℕ → Triple → Option Fault
@@ -28,9 +28,16 @@ room_fault P σ t room = unless (leb (running P room σ t) (capacity_of P room))
 unfoldable pub hour_fault : Plan → (ℕ → Triple) → ℕ → Option Fault
 hour_fault P σ t = first_of (room_fault P σ t) (room_count P)
 
--- the tasks, and at last 16 at the first such hour
+-- 20, of pair k
+unfoldable pub order_fault : Plan → (ℕ → Triple) → ℕ → Option Fault
+order_fault P σ k = unless (in_turn (pair_of P k) σ) 20 k
+
+-- the tasks, 16 at the first such hour, and at last 20 at the first such pair
 unfoldable pub schedule_fault : Plan → List ℕ → (ℕ → Triple) → Option Fault
-schedule_fault P boxes σ = first_of (triple_fault P.shifts boxes σ) (task_count P) or_else first_of (hour_fault P σ) P.shifts.hours
+schedule_fault P boxes σ =
+    first_of (triple_fault P.shifts boxes σ) (task_count P)
+    or_else first_of (hour_fault P σ) P.shifts.hours
+    or_else first_of (order_fault P σ) (pair_count P)
 
 -- one triple for each task
 unfoldable pub is_sized : ℕ → List ℕ → Bool

@@ -1,10 +1,11 @@
--- The filter (01, "Steps"; rooms: 02, W-202): the first admitted step of each turn, until none is admitted, one says impossible, or the log has no room.
+-- The filter (01, "Steps"; rooms: 02, W-202; pairs: W-206): the first admitted step of each turn, until none is admitted, one says impossible, or the log has no room.
 use Rattle.std.specs.Prelude.{Option, None, Some}
 use Rattle.std.specs.Prelude.{List, [], ◌∷◌, ℕ, zero, suc, length}
 use Rattle.units.specs.Choice.{on_option, ◌or_else◌, first_of}
-use Rattle.plan.specs.Plan.{Plan, room_count, task_count}
+use Rattle.plan.specs.Plan.{Plan, room_count, task_count, pair_count}
 use Rattle.steps.specs.declared.Step.{Step}
-use Rattle.steps.specs.Steps.{step, letter_c, letter_o, letter_l, letter_u, Kind, kind_c, kind_o, kind_l, kind_u, unknown_kind, judge, on_judgement}
+use Rattle.steps.specs.Steps.{step, letter_c, letter_o, letter_l, letter_u, letter_f, letter_b, Kind, kind_c, kind_o, kind_l, kind_u, kind_f, kind_b}
+use Rattle.steps.specs.Steps.{unknown_kind, judge, on_judgement}
 
 -- An admitted step: one that says impossible, or one that moves a bound, with the boxes that it leaves.
 pub data Admitted : Type 0 where
@@ -23,13 +24,16 @@ on_admitted (moves x left) f g = g x left
 unfoldable pub if_admitted : Plan → List ℕ → Step → Option Admitted
 if_admitted P boxes x = on_judgement (judge P boxes x) None None (Some (stops x)) (λ left. Some (moves x left))
 
--- the first that f finds among the steps of a kind: C by task; O by room, then hour; L by task, then hour; U by task, then hour
-module _ {A : Type 0} (rooms tasks hours : ℕ) (f : Step → Option A) where
+-- the first that f finds among the steps of a kind: C by task; O by room, then hour; L by task, then hour; U by task, then hour; F by pair; B by
+-- pair
+module _ {A : Type 0} (P : Plan) (f : Step → Option A) where
   unfoldable pub first_of_kind : Kind → Option A
-  first_of_kind kind_c = first_of (λ i. f (step letter_c i 0)) tasks
-  first_of_kind kind_o = first_of (λ room. first_of (λ t. f (step letter_o room t)) hours) rooms
-  first_of_kind kind_l = first_of (λ i. first_of (λ t. f (step letter_l i t)) hours) tasks
-  first_of_kind kind_u = first_of (λ i. first_of (λ t. f (step letter_u i t)) hours) tasks
+  first_of_kind kind_c = first_of (λ i. f (step letter_c i 0)) (task_count P)
+  first_of_kind kind_o = first_of (λ room. first_of (λ t. f (step letter_o room t)) P.shifts.hours) (room_count P)
+  first_of_kind kind_l = first_of (λ i. first_of (λ t. f (step letter_l i t)) P.shifts.hours) (task_count P)
+  first_of_kind kind_u = first_of (λ i. first_of (λ t. f (step letter_u i t)) P.shifts.hours) (task_count P)
+  first_of_kind kind_f = first_of (λ k. f (step letter_f k 0)) (pair_count P)
+  first_of_kind kind_b = first_of (λ k. f (step letter_b k 0)) (pair_count P)
   first_of_kind unknown_kind = None
 
   -- and in an order of kinds
@@ -39,11 +43,11 @@ module _ {A : Type 0} (rooms tasks hours : ℕ) (f : Step → Option A) where
 
 -- the filter's order
 unfoldable pub filter_order : List Kind
-filter_order = kind_c ∷ kind_o ∷ kind_l ∷ kind_u ∷ []
+filter_order = kind_c ∷ kind_o ∷ kind_l ∷ kind_u ∷ kind_f ∷ kind_b ∷ []
 
 -- the first admitted step, in an order of kinds; in the filter's
 unfoldable pub next_by : List Kind → Plan → List ℕ → Option Admitted
-next_by order P boxes = first_by (room_count P) (task_count P) P.shifts.hours (if_admitted P boxes) order
+next_by order P boxes = first_by P (if_admitted P boxes) order
 
 abbrev pub next : Plan → List ℕ → Option Admitted
 next = next_by filter_order

@@ -7,8 +7,8 @@ ghost use Rattle.steps.specs.Steps.{kind_of, kind_in, letter_of};
 
 use units::Bounds;
 
-// A step of a log: its kind, a letter as one byte, a task and an hour. A field that the kind does not use is 0. The letter is no `StepKind`, since a
-// log from anyone may hold any byte, which refusal 11 names.
+// A step of a log: its kind, a letter as one byte, a task, or the room or the pair that the kind names in its place, and an hour. A field that the
+// kind does not use is 0. The letter is no `StepKind`, since a log from anyone may hold any byte, which refusal 11 names.
 #[derive(Clone, Copy, PartialEq, Eq)]
 pub struct Step {
     pub kind: u8,
@@ -23,6 +23,8 @@ pub enum StepKind {
     Overload = b'O' as isize,
     Lower = b'L' as isize,
     Upper = b'U' as isize,
+    Forward = b'F' as isize,
+    Backward = b'B' as isize,
 }
 
 impl StepKind {
@@ -36,6 +38,8 @@ impl StepKind {
             b'O' => Some(StepKind::Overload),
             b'L' => Some(StepKind::Lower),
             b'U' => Some(StepKind::Upper),
+            b'F' => Some(StepKind::Forward),
+            b'B' => Some(StepKind::Backward),
             _ => None,
         }
     }

@@ -1,7 +1,7 @@
 -- The words that open a line of plan text or of a listing (01, "Plan text and listing").
 use Rattle.std.specs.Prelude.{List, [], ◌∷◌, ℕ}
 
--- `plan`, `cal`, `task`
+-- `plan`, `cal`, `task`, `after`
 abbrev pub word_plan : List ℕ
 word_plan = 112 ∷ 108 ∷ 97 ∷ 110 ∷ []
 
@@ -10,6 +10,9 @@ word_cal = 99 ∷ 97 ∷ 108 ∷ []
 
 abbrev pub word_task : List ℕ
 word_task = 116 ∷ 97 ∷ 115 ∷ 107 ∷ []
+
+abbrev pub word_after : List ℕ
+word_after = 97 ∷ 102 ∷ 116 ∷ 101 ∷ 114 ∷ []
 
 -- `settled`, `impossible`, `room`, `refused`
 abbrev pub word_settled : List ℕ

@@ -1,12 +1,13 @@
--- The kinds of value that a plan is made of, and their limits (01, "A plan"; rooms: 02, W-202).
-use Rattle.std.specs.Prelude.{Bool, ℕ, ◌≤◌, ◌<◌, leb, ltb}
+-- The kinds of value that a plan is made of, and their limits (01, "A plan"; rooms: 02, W-202; pairs: W-206).
+use Rattle.std.specs.Prelude.{Bool, not, ℕ, ◌≤◌, ◌<◌, leb, ltb, eqb}
 use Rattle.units.specs.Choice.{◌and◌}
 use Rattle.units.specs.declared.Hour.{Hour}
 use Rattle.units.specs.declared.Duration.{Duration}
 use Rattle.units.specs.declared.Height.{Height}
 use Rattle.units.specs.declared.Bounds.{Bounds}
+use Rattle.units.specs.declared.Pair.{Pair}
 
--- 01, "A plan": H to 1,008; 16 calendars; capacity to 60,000; 64 tasks; height to 1,000. 02, W-202: eight rooms
+-- 01, "A plan": H to 1,008; 16 calendars; capacity to 60,000; 64 tasks; height to 1,000. 02, W-202: eight rooms; W-206: 256 pairs
 abbrev pub most_hours : ℕ
 most_hours = 1008
 
@@ -25,9 +26,15 @@ most_tasks = 64
 abbrev pub most_height : ℕ
 most_height = 1000
 
--- a box is six numbers in lent memory
+abbrev pub most_pairs : ℕ
+most_pairs = 256
+
+-- a box is six numbers in lent memory, and a pair is two
 abbrev pub box_numbers : ℕ
 box_numbers = 6
+
+abbrev pub pair_numbers : ℕ
+pair_numbers = 2
 
 -- values of each kind, from their numbers
 abbrev pub hour : ℕ → Hour
@@ -82,6 +89,14 @@ is_room_number count n = ltb n count
 -- there are 0 to 64 tasks, each with a box
 abbrev pub is_task_count : ℕ → Bool
 is_task_count n = leb n most_tasks
+
+-- there are 0 to 256 pairs
+abbrev pub is_pair_count : ℕ → Bool
+is_pair_count n = leb n most_pairs
+
+-- a pair of a plan with so many tasks: two of the plan's tasks, and not one twice
+unfoldable pub is_pair : ℕ → Pair → Bool
+is_pair tasks x = ltb x.earlier tasks and ltb x.later tasks and not (eqb x.earlier x.later)
 
 -- overtime is 0 to p
 abbrev pub is_overtime : ℕ → ℕ → Bool

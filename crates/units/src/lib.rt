@@ -2,7 +2,7 @@
 #![tactic(auto)]
 
 ghost use Rattle.std.specs.Prelude.{◌≡◌, ◌+◌, ◌-◌, ◌*◌, ◌≤◌, ◌<◌, leb, ltb, eqb};
-ghost use Rattle.units.specs.Limits.{hour, duration, height, within, is_plan_length, is_hour, is_work_time, is_height, is_capacity, is_task_count, is_overtime, is_box, with_earliest, with_latest};
+ghost use Rattle.units.specs.Limits.{hour, duration, height, within, is_plan_length, is_hour, is_work_time, is_height, is_capacity, is_task_count, is_pair_count, is_pair, is_overtime, is_box, with_earliest, with_latest};
 ghost use Rattle.units.specs.Choice.{some_if};
 ghost use Rattle.units.specs.Inner.Order.{in_order};
 
@@ -41,6 +41,13 @@ pub struct Bounds {
     pub longest: Duration,
     pub fewest: Duration,
     pub most: Duration,
+}
+
+// Two tasks of a plan: the earlier one is to end before the later one starts, or as it does.
+#[derive(Clone, Copy, PartialEq, Eq)]
+pub struct Pair {
+    pub earlier: u16,
+    pub later: u16,
 }
 
 impl Hour {
@@ -197,6 +204,32 @@ impl Bounds {
         ensures { result ≡ some_if (leb self.earliest.0 latest.0) (with_latest self latest.0) }
     {
         (self.earliest <= latest).then_some(Bounds { latest, ..self })
+    }
+}
+
+impl Pair {
+    // The most pairs of a plan.
+    pub const MOST: usize = 256;
+
+    // How many numbers a pair has in lent memory: the earlier task, then the later.
+    pub const NUMBERS: usize = 2;
+
+    // Whether a plan may have so many pairs.
+    pub fn is_count(pairs: usize) -> bool
+        ensures { result ≡ is_pair_count pairs }
+    {
+        pairs <= Pair::MOST
+    }
+
+    // A pair of a plan with so many tasks.
+    #[tactic(auto, unfolding(crate::specs::Limits::is_pair))]
+    pub fn of_plan(pair: Pair, tasks: usize) -> Option<Pair>
+        ensures { result ≡ some_if (is_pair tasks pair) pair }
+    {
+        let is_pair = (pair.earlier as usize) < tasks
+            && (pair.later as usize) < tasks
+            && pair.earlier != pair.later;
+        is_pair.then_some(pair)
     }
 }
 
