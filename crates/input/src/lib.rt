@@ -5,14 +5,14 @@ ghost use Rattle.std.specs.Prelude.{true, ◌≡◌, ◌≤◌, ◌<◌, IfOk, l
 ghost use Rattle.units.specs.Choice.{first_of};
 ghost use Rattle.plan.specs.HourKinds.{is_symbol};
 ghost use Rattle.plan.specs.Refusals.{tested_fault};
-ghost use Rattle.plan.specs.Plan.{room_count, task_count};
-ghost use Rattle.plan.specs.Faults.{is_right_size, is_calendars, symbol_fault, calendars_fault, capacity_fault, counts_fault, height_fault, task_fault, tasks_fault, plan_fault, input_fault};
+ghost use Rattle.plan.specs.Plan.{room_count, task_count, pair_count};
+ghost use Rattle.plan.specs.Faults.{is_right_size, is_calendars, symbol_fault, calendars_fault, capacity_fault, counts_fault, height_fault, task_fault, tasks_fault, pairs_fault, plan_fault, input_fault};
 ghost use Rattle.plan.specs.Passed.{Passed};
 ghost use Rattle.plan.specs.Lent.{shifts_in, plan_in};
 ghost use Rattle.input.specs.Inner.Ready.{TasksReady, HeightsReady};
 
 use plan::{HourKind, Plan, Refusal, Shifts, bounds_at};
-use units::{Bounds, CalendarNumber, Duration, Height, RoomNumber};
+use units::{Bounds, CalendarNumber, Duration, Height, Pair, RoomNumber};
 
 // A plan and its boxes that have passed every test.
 #[derive(Clone, Copy)]
@@ -22,15 +22,16 @@ pub struct Tested<'a> {
     pub ghost passed: { Passed (plan_in plan.now) boxes.now },
 }
 
-// Whether the fields and the boxes number one for each task, the heights in each room.
-#[tactic(auto, unfolding(plan::specs::Faults::one_for_each_task))]
-pub fn has_one_for_each_task(plan: &Plan, boxes: &[u16]) -> bool
+// Whether the fields and the boxes number one for each task, the heights in each room, and each pair has two numbers.
+#[tactic(auto, unfolding(plan::specs::Faults::one_for_each_task, plan::specs::Faults::is_whole_pairs))]
+pub fn is_right_size(plan: &Plan, boxes: &[u16]) -> bool
     ensures { result ≡ is_right_size (plan_in plan.now) boxes.now }
 {
     let tasks = plan.tasks();
     plan.shifts.work_times.len() == tasks
         && units::is_for_each(plan.heights.len(), plan.rooms(), tasks)
         && units::is_for_each(boxes.len(), Bounds::NUMBERS, tasks)
+        && plan.pairs.len() % Pair::NUMBERS == 0
 }
 
 // Whether the symbols make calendars of so many hours each, and as many as a plan may have.
@@ -88,12 +89,15 @@ fn test_capacities(capacities: &[u16]) -> Result<(), Refusal>
     Ok(())
 }
 
-// Counts and the capacities: 5, 17, 10.
+// Counts and the capacities: 5, 19, 17, 10.
 fn test_counts(plan: &Plan) -> Result<(), Refusal>
-    ensures { tested_fault result ≡ counts_fault (task_count (plan_in plan.now)) plan.now.capacities.now }
+    ensures { let P = plan_in plan.now in tested_fault result ≡ counts_fault (task_count P) (pair_count P) P.capacities }
 {
     if !Bounds::is_count(plan.tasks()) {
         return Err(Refusal::Tasks);
+    }
+    if !Pair::is_count(plan.pair_count()) {
+        return Err(Refusal::Pairs);
     }
     if !RoomNumber::is_count(plan.rooms()) {
         return Err(Refusal::Rooms);
@@ -146,21 +150,33 @@ fn test_tasks(plan: &Plan, boxes: &[u16]) -> Result<(), Refusal>
     Ok(())
 }
 
-// The plan's tests on memory of the right size: H and the calendars, the counts, then task by task.
+// Pair by pair: 18.
+fn test_pairs(plan: &Plan) -> Result<(), Refusal>
+    ensures { tested_fault result ≡ pairs_fault (plan_in plan.now) }
+{
+    // By number: it is the refusal's place, and a pair is two of the lent numbers.
+    for k in 0..plan.pair_count() {
+        Pair::of_plan(plan.pair_of(k), plan.tasks()).ok_or(Refusal::PairTasks(k))?;
+    }
+    Ok(())
+}
+
+// The plan's tests on memory of the right size: H and the calendars, the counts, then task by task, then pair by pair.
 pub fn test_plan(plan: &Plan, boxes: &[u16]) -> Result<(), Refusal>
     requires { is_right_size (plan_in plan.now) boxes.now ≡ true }
     ensures { tested_fault result ≡ plan_fault (plan_in plan.now) boxes.now }
 {
     test_calendars(&plan.shifts)?;
     test_counts(plan)?;
-    test_tasks(plan, boxes)
+    test_tasks(plan, boxes)?;
+    test_pairs(plan)
 }
 
 // The plan's tests: 31 before all others.
 pub fn test_input(plan: &Plan, boxes: &[u16]) -> Result<(), Refusal>
     ensures { tested_fault result ≡ input_fault (plan_in plan.now) boxes.now }
 {
-    if !has_one_for_each_task(plan, boxes) {
+    if !is_right_size(plan, boxes) {
         return Err(Refusal::MemorySize);
     }
     test_plan(plan, boxes)

@@ -14,7 +14,7 @@ use Rattle.units.specs.Limits.{within, is_pair}
 use Rattle.units.proofs.Choices.{and_left, and_right, else-none, neither, first-none, first-all-none}
 use Rattle.units.proofs.Multiples.{part-within}
 use Rattle.units.proofs.Ranges.{boxed, is-boxed, from-least, to-most}
-use Rattle.plan.specs.Plan.{Shifts, Plan, room_count, task_count, pair_count, calendar_count, first_symbol, calendar_at, calendar_of, room_part}
+use Rattle.plan.specs.Plan.{Shifts, Plan, room_count, task_count, calendar_count, first_symbol, calendar_at, calendar_of, room_part}
 use Rattle.plan.specs.Plan.{heights_of, height_of}
 use Rattle.plan.specs.HourKinds.{is_symbol}
 use Rattle.plan.specs.Faults.{one_for_each_task, is_whole_pairs, is_right_size, is_calendars, symbol_fault, calendars_fault}

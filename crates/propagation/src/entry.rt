@@ -25,7 +25,7 @@ pub fn test_entry(
     ensures { let P = plan_in plan.now in
         tested_fault result ≡ entry_fault P boxes.now log_kinds.now log_tasks.now log_hours.now }
 {
-    if !input::has_one_for_each_task(plan, boxes)
+    if !input::is_right_size(plan, boxes)
         || !has_one_for_each_step(log_kinds, log_tasks, log_hours)
     {
         return Err(Refusal::MemorySize);

@@ -2,13 +2,11 @@
 use Rattle.std.proofs.Common.{rules}
 use Rattle.std.specs.Ordering.{is_le, is_lt, is_gt, nat_cmp}
 use native.Mathlib.Decide.{dec_le}
-use mathlib.Core.Path.{◌≡◌, sym, ap, ◌∙◌}
+use mathlib.Core.Path.{◌≡◌, sym, ◌∙◌}
 use mathlib.Core.Bool.{Bool, true, false}
 use Prim.Native.Nat.{ℕ, ◌≤◌, ◌<◌}
 use lib.Dec.{leb, ltb}
 use borrow.Author.Tests.{ltb-true, ltb-false, leb-true, leb-false}
-use Rattle.units.specs.Limits.{hour}
-use Rattle.units.specs.declared.Hour.{Hour}
 
 -- what the order of hours, and of durations and heights, says of their numbers
 module _ (l u : ℕ) where

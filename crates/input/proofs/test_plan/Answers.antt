@@ -1,5 +1,5 @@
 use mathlib.Core.Path.{sym, ◌∙◌}
-use Rattle.units.proofs.Choices.{else-none, else-some}
+use Rattle.units.proofs.Choices.{and_left, else-none, else-some}
 use Rattle.plan.specs.Faults.{plan_fault}
 use Rattle.plan.proofs.Refusals.{handed-on}
 use Rattle.plan.proofs.Passed.{sized, calendars-passed}
@@ -17,7 +17,7 @@ returns-in_err-test_counts c =
 
 pub test_tasks-requires : goal.test_tasks-requires
 test_tasks-requires c =
-    let size = sized _ _ _ _ _ c.requires in
+    let size = sized _ _ _ _ _ (and_left _ _ c.requires) in
     record {
       some_hours = (calendars-passed (sym c.in_ok-test_calendars.ensures)).some_hours;
       work_times = size.work_times;
@@ -25,6 +25,18 @@ test_tasks-requires c =
       boxes = size.boxes;
     }
 
+pub returns-in_err-test_tasks : goal.returns-in_err-test_tasks
+unfolding plan_fault
+returns-in_err-test_tasks c =
+    handed-on _ _ c.from_residual-in_err-test_tasks.ensures.1
+    ∙ sym (else-none _ _ (sym c.in_ok-test_calendars.ensures)
+    ∙ else-none _ _ (sym c.in_ok-test_counts.ensures)
+    ∙ else-some _ _ _ (sym c.in_err-test_tasks.ensures))
+
 pub returns : goal.returns
 unfolding plan_fault
-returns c = c.test_tasks.ensures ∙ sym (else-none _ _ (sym c.in_ok-test_calendars.ensures) ∙ else-none _ _ (sym c.in_ok-test_counts.ensures))
+returns c =
+    c.test_pairs.ensures
+    ∙ sym (else-none _ _ (sym c.in_ok-test_calendars.ensures)
+    ∙ else-none _ _ (sym c.in_ok-test_counts.ensures)
+    ∙ else-none _ _ (sym c.in_ok-test_tasks.ensures))
