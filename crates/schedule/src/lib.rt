@@ -1,15 +1,15 @@
 // The schedule checker: whether a schedule is feasible, and its makespan.
 #![tactic(auto)]
 
-ghost use Rattle.std.specs.Prelude.{◌≡◌, ◌+◌, ◌*◌, ◌≤◌, ◌<◌, IfOk, length};
+ghost use Rattle.std.specs.Prelude.{◌≡◌, ◌+◌, ◌*◌, ◌≤◌, ◌<◌, leb, IfOk, length};
 ghost use Rattle.units.specs.Choice.{first_of};
 ghost use Rattle.units.specs.Limits.{most_hours};
 ghost use Rattle.plan.specs.Refusals.{tested_fault};
-ghost use Rattle.plan.specs.Plan.{room_count, task_count};
+ghost use Rattle.plan.specs.Plan.{room_count, task_count, pair_count};
 ghost use Rattle.plan.specs.Lent.{plan_in};
-ghost use Rattle.calendar.specs.Triples.{triple_numbers, in_bounds};
+ghost use Rattle.calendar.specs.Triples.{triple_numbers, end_of, in_bounds};
 ghost use Rattle.schedule.specs.Schedule.{triple_at, runs, running, Feasible, makespan};
-ghost use Rattle.schedule.specs.Entry.{one_triple_fault, triple_fault, hour_fault, check_fault, check_schedule, schedule_answer};
+ghost use Rattle.schedule.specs.Entry.{one_triple_fault, triple_fault, hour_fault, order_fault, check_fault, check_schedule, schedule_answer};
 ghost use Rattle.schedule.specs.Decision.{Decides};
 
 use calendar::Triple;
@@ -76,6 +76,13 @@ fn is_running(t: Triple, hour: Hour) -> bool
     hour.since(t.start) < t.elapsed
 }
 
+// Whether a task with the triple ends by the hour. The time since its start is compared, likewise.
+fn ends_by(t: Triple, hour: Hour) -> bool
+    ensures { result ≡ leb (end_of t) hour.0 }
+{
+    t.start <= hour && t.elapsed <= hour.since(t.start)
+}
+
 impl Scheduled<'_> {
     // Task by task.
     fn test_triples(&self) -> Result<(), Refusal>
@@ -130,6 +137,22 @@ impl Scheduled<'_> {
         Ok(())
     }
 
+    // 20, at the first pair whose earlier task ends after the later one's start.
+    fn test_pairs(&self) -> Result<(), Refusal>
+        ensures { let P = plan_in self.now.tested.plan.now in
+            tested_fault result ≡ first_of (order_fault P (triple_at self.now.schedule.now)) (pair_count P) }
+    {
+        // By number: it is the refusal's place, and a pair is two of the lent numbers.
+        for k in 0..self.tested.plan.pair_count() {
+            let pair = self.tested.plan.pair_of(k);
+            let later = triple_at(self.schedule, pair.later as usize);
+            if !ends_by(triple_at(self.schedule, pair.earlier as usize), later.start) {
+                return Err(Refusal::PairBroken(k));
+            }
+        }
+        Ok(())
+    }
+
     // The largest end.
     fn latest_end(&self) -> Hour
         requires { Feasible (plan_in self.now.tested.plan.now) self.now.tested.boxes.now (triple_at self.now.schedule.now) }
@@ -146,7 +169,7 @@ impl Scheduled<'_> {
     }
 }
 
-// The tests of a schedule: 31, the plan's tests, the triples, the hours. What has passed them is what was lent.
+// The tests of a schedule: 31, the plan's tests, the triples, the hours, the pairs. What has passed them is what was lent.
 fn test_schedule<'a>(
     plan: &'a Plan<'a>,
     boxes: &'a [u16],
@@ -163,6 +186,7 @@ fn test_schedule<'a>(
     let scheduled = Scheduled { tested, schedule };
     scheduled.test_triples()?;
     scheduled.test_hours()?;
+    scheduled.test_pairs()?;
     Ok(scheduled)
 }
 

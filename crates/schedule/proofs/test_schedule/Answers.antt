@@ -5,9 +5,9 @@ use Prim.Native.Nat.{ℕ, ◌*◌}
 use lib.Dec.{eqb}
 use lib.ListN.{length}
 use Rattle.std.specs.Prelude.{Option}
-use Rattle.units.specs.Choice.{◌and◌, ◌or_else◌}
+use Rattle.units.specs.Choice.{◌and◌, ◌or_else◌, first_of}
 use Rattle.units.proofs.Choices.{not_right, else-none, else-some}
-use Rattle.plan.specs.Plan.{Plan, task_count}
+use Rattle.plan.specs.Plan.{Plan, task_count, pair_count}
 use Rattle.plan.specs.declared.Fault.{Fault}
 use Rattle.plan.specs.Refusals.{unless}
 use Rattle.plan.specs.Lent.{plan_in}
@@ -15,8 +15,8 @@ use Rattle.plan.specs.Faults.{is_right_size, plan_fault, input_fault}
 use Rattle.plan.proofs.Refusals.{refuse, handed-on}
 use Rattle.calendar.specs.Triples.{triple_numbers}
 use Rattle.schedule.specs.Schedule.{triple_at}
-use Rattle.schedule.specs.Entry.{is_sized, schedule_fault, check_fault}
-use Rattle.schedule.proofs.test_schedule.Goals.{In_ok-tested}
+use Rattle.schedule.specs.Entry.{is_sized, order_fault, schedule_fault, check_fault}
+use Rattle.schedule.proofs.test_schedule.Goals.{In_ok-tested, In_ok-test_hours}
 use Rattle.schedule.proofs.test_schedule.Goals as goal
 
 -- what the code found of the schedule's length
@@ -68,16 +68,29 @@ unfolding schedule_fault
 returns-in_err-test_hours-clause-tests c =
     let lent = c.in_ok-tested.ensures.lends in
     handed-on _ _ c.from_residual-in_err-test_hours.ensures.1
-    ∙ (rw lent.0 at c.in_err-test_hours.ensures)
     ∙ sym
     (past-input (goal.at.returns-in_err-test_hours-clause-tests c).In_ok-tested
-    ∙ else-none _ _ (sym (rw (lent.0, lent.1) at c.in_ok-test_triples.ensures)))
+    ∙ else-none _ _ (sym (rw (lent.0, lent.1) at c.in_ok-test_triples.ensures))
+    ∙ else-some _ _ _ (sym (rw lent.0 at c.in_err-test_hours.ensures)))
+
+-- past the hours the pairs decide
+past-hours : (c : In_ok-test_hours) → let P = plan_in c.args.plan.now in
+    check_fault P c.args.boxes.now c.args.schedule.now ≡ first_of (order_fault P (triple_at c.args.schedule.now)) (pair_count P)
+unfolding schedule_fault
+past-hours c =
+    let lent = c.in_ok-tested.ensures.lends in
+    past-input (goal.at.In_ok-test_hours c).In_ok-tested
+    ∙ else-none _ _ (sym (rw (lent.0, lent.1) at c.in_ok-test_triples.ensures))
+    ∙ else-none _ _ (sym (rw lent.0 at c.in_ok-test_hours.ensures))
+
+pub returns-in_err-test_pairs-clause-tests : goal.returns-in_err-test_pairs-clause-tests
+returns-in_err-test_pairs-clause-tests c =
+    let lent = c.in_ok-tested.ensures.lends in
+    handed-on _ _ c.from_residual-in_err-test_pairs.ensures.1
+    ∙ (rw lent.0 at c.in_err-test_pairs.ensures)
+    ∙ sym (past-hours (goal.at.returns-in_err-test_pairs-clause-tests c).In_ok-test_hours)
 
 pub returns-clause-tests : goal.returns-clause-tests
-unfolding schedule_fault
 returns-clause-tests c =
     let lent = c.in_ok-tested.ensures.lends in
-    (rw lent.0 at c.in_ok-test_hours.ensures)
-    ∙ sym
-    (past-input (goal.at.returns-clause-tests c).In_ok-tested
-    ∙ else-none _ _ (sym (rw (lent.0, lent.1) at c.in_ok-test_triples.ensures)))
+    (rw lent.0 at c.in_ok-test_pairs.ensures) ∙ sym (past-hours (goal.at.returns-clause-tests c).In_ok-test_hours)
