@@ -13,7 +13,7 @@ use Rattle.units.specs.declared.Bounds.{Bounds}
 use Rattle.units.proofs.Choices.{and_both}
 use Rattle.units.specs.Limits.{Boxed, with_earliest, with_latest}
 use Rattle.units.proofs.Summing.{sum-gap}
-use Rattle.plan.specs.Plan.{Plan, task_count, work_time_of}
+use Rattle.plan.specs.Plan.{Plan, task_count, work_time_of, pair_of}
 use Rattle.plan.specs.Boxes.{bounds_at, with_bounds}
 use Rattle.plan.specs.Passed.{PassedTask, Passed}
 use Rattle.plan.proofs.Boxes.{length-with, bounds-same, bounds-other}
@@ -27,8 +27,9 @@ use Rattle.steps.specs.declared.Step.{Step}
 use Rattle.steps.specs.Load.{fit_at}
 use Rattle.steps.specs.Steps.{Kind, same_bounds, impossible, moved, judge}
 use Rattle.steps.specs.Widths.{width, widths}
-use Rattle.steps.proofs.Loads.{fit-held, load-runs, others-run}
-use Rattle.steps.proofs.Judgements.{Crowded, Moves, moves_c, moves_l, moves_u, Stops, stops_c, stops_o, stops_l, stops_u, judged-moved, judged-impossible}
+use Rattle.steps.proofs.Loads.{fit-there, fit-held, kept-pair, load-runs, others-run}
+use Rattle.steps.proofs.Judgements.{Crowded, Paired, Moves, moves_c, moves_l, moves_u, moves_f, moves_b, Stops}
+use Rattle.steps.proofs.Judgements.{stops_c, stops_o, stops_l, stops_u, stops_f, stops_b, judged-moved, judged-impossible}
 
 -- one task's box becomes a narrower one, a box still, and no feasible schedule is lost
 pub record Change (P : Plan) (boxes left : List ℕ) : Type 0 where
@@ -117,7 +118,33 @@ module _ (P : Plan) (boxes : List ℕ) (σ : ℕ → Triple) (F : Feasible P box
         go true e = absurd (crowded-out (omega (arith, (fit-held P boxes σ F i c.task w c.fit).inside.latest)) (ltb-true _ _ e))
         go false e = ltb-false _ _ e
 
-module _ (P : Plan) (boxes : List ℕ) (i t : ℕ) where
+-- where there is a box for each task
+module _ (P : Plan) (boxes : List ℕ) (sized : length boxes ≡ 6 * task_count P) (i t : ℕ) where
+  -- what a feasible schedule's triples of pair i keep to: the earlier's ends no sooner than its ect, the later's starts no later than its lst, and
+  -- the former's end is at most the latter's start
+  record PairHeld (w v : Window) (σ : ℕ → Triple) : Type 0 where
+    earlier : InBounds (bounds_at boxes (pair_of P i).earlier) (σ (pair_of P i).earlier)
+    later : InBounds (bounds_at boxes (pair_of P i).later) (σ (pair_of P i).later)
+    ends : ect w ≤ end_of (σ (pair_of P i).earlier)
+    starts : start_of (σ (pair_of P i).later) ≤ lst v
+    in_turn : end_of (σ (pair_of P i).earlier) ≤ start_of (σ (pair_of P i).later)
+
+  first-there : {w v : Window} → Paired P boxes i w v → (pair_of P i).earlier < task_count P
+  first-there p = fit-there P boxes sized _ _ p.earlier
+
+  second-there : {w v : Window} → Paired P boxes i w v → (pair_of P i).later < task_count P
+  second-there p = fit-there P boxes sized _ _ p.later
+
+  pair-held : (w v : Window) → Paired P boxes i w v → (σ : ℕ → Triple) → Feasible P boxes σ → PairHeld w v σ
+  pair-held w v p σ F =
+      record {
+        earlier = inside P boxes σ F _ (first-there p);
+        later = inside P boxes σ F _ (second-there p);
+        ends = (fit-held P boxes σ F _ (first-there p) w p.earlier).ect;
+        starts = (fit-held P boxes σ F _ (second-there p) v p.later).inside.latest;
+        in_turn = kept-pair P boxes σ F i p.pair;
+      }
+
   moves-change : (left : List ℕ) (k : Kind) → Moves P boxes i t left k → Change P boxes left
   unfolding width with_earliest with_latest
   moves-change left k (moves_c w l q differ e) =
@@ -169,21 +196,62 @@ module _ (P : Plan) (boxes : List ℕ) (i t : ℕ) where
               most = h.most;
             };
       }
+  moves-change left k (moves_f w v p from to e) =
+      record {
+        task = (pair_of P i).later;
+        bounds = with_earliest (bounds_at boxes (pair_of P i).later) (ect w);
+        there = second-there p;
+        leaves = e;
+        narrower = omega arith;
+        boxed = λ x. starts-boxed _ _ _ x (omega arith) (omega arith);
+        keeps = λ σ F.
+            let h = pair-held w v p σ F in
+            record {
+              earliest = omega (arith, h.ends, h.in_turn);
+              latest = h.later.latest;
+              shortest = h.later.shortest;
+              longest = h.later.longest;
+              fewest = h.later.fewest;
+              most = h.later.most;
+            };
+      }
+  moves-change left k (moves_b w v p from to e) =
+      record {
+        task = (pair_of P i).earlier;
+        bounds = with_latest (bounds_at boxes (pair_of P i).earlier) (lst v - (bounds_at boxes (pair_of P i).earlier).shortest.0);
+        there = first-there p;
+        leaves = e;
+        narrower = omega arith;
+        boxed = λ x. starts-boxed _ _ _ x (omega arith) (omega arith);
+        keeps = λ σ F.
+            let h = pair-held w v p σ F in
+            record {
+              earliest = h.earlier.earliest;
+              latest = omega (arith, h.in_turn, h.starts, h.earlier.shortest);
+              shortest = h.earlier.shortest;
+              longest = h.earlier.longest;
+              fewest = h.earlier.fewest;
+              most = h.earlier.most;
+            };
+      }
 
   stops-none : (k : Kind) → Stops P boxes i t k → (σ : ℕ → Triple) → Feasible P boxes σ → ⊥
   stops-none k (stops_c l q) σ F = unfold fit_at in (never-valid _ _ (bounds_at boxes i) q (σ i) (inside P boxes σ F i l) (F.fits i l))
   stops-none k (stops_o l m over) σ F = omega (arith, load-runs P boxes σ F i t, F.capacity i l t m)
   stops-none k (stops_l w c ends last) σ F = omega (arith, starts-later P boxes σ F i t w c ends, inside P boxes σ F i c.task)
   stops-none k (stops_u w c starts first) σ F = omega (arith, ends-before P boxes σ F i t w c starts, inside P boxes σ F i c.task)
+  stops-none k (stops_f w v p last) σ F = let h = pair-held w v p σ F in omega (arith, h.ends, h.in_turn, h.later.latest, last)
+  stops-none k (stops_b w v p first) σ F =
+      let h = pair-held w v p σ F in omega (arith, h.starts, h.in_turn, h.earlier.earliest, h.earlier.shortest, first)
 
-module _ (P : Plan) (boxes : List ℕ) (x : Step) where
+module _ (P : Plan) (boxes : List ℕ) (sized : length boxes ≡ 6 * task_count P) (x : Step) where
   pub judge-change : (left : List ℕ) → judge P boxes x ≡ moved left → Change P boxes left
-  judge-change left e = moves-change P boxes x.task x.hour left _ (judged-moved P boxes x left e)
+  judge-change left e = moves-change P boxes sized x.task x.hour left _ (judged-moved P boxes x left e)
 
   pub judge-impossible : judge P boxes x ≡ impossible → (σ : ℕ → Triple) → Feasible P boxes σ → ⊥
-  judge-impossible e = stops-none P boxes x.task x.hour _ (judged-impossible P boxes x e)
+  judge-impossible e = stops-none P boxes sized x.task x.hour _ (judged-impossible P boxes x e)
 
--- ---- where there is a box for each task
+-- ---- what a change keeps
 
 module _ (P : Plan) (boxes left : List ℕ) (c : Change P boxes left) where
   else_same : (j : ℕ) → j ≢ c.task → bounds_at left j ≡ bounds_at boxes j
@@ -198,7 +266,7 @@ module _ (P : Plan) (boxes left : List ℕ) (c : Change P boxes left) where
 
     -- a feasible schedule stays feasible
     pub change-keeps : (σ : ℕ → Triple) → Feasible P boxes σ → Feasible P left σ
-    change-keeps σ F = record { inside = λ j l. go j l (eqb j c.task) refl; fits = F.fits; capacity = F.capacity }
+    change-keeps σ F = record { inside = λ j l. go j l (eqb j c.task) refl; fits = F.fits; capacity = F.capacity; pairs = F.pairs }
       where
         go : (j : ℕ) → j < task_count P → (b : Bool) → eqb j c.task ≡ b → in_bounds (bounds_at left j) (σ j) ≡ true
         go j l true e = let q : j ≡ c.task = eqb-true _ _ e in rw (q, is-there) (bounds-in _ _ (c.keeps σ F))
@@ -227,7 +295,10 @@ change-passes P boxes left c passed =
       work_times = passed.work_times;
       heights = passed.heights;
       boxes = change-length P boxes left c ∙ passed.boxes;
+      few_pairs = passed.few_pairs;
+      pairs = passed.pairs;
       task = λ j l. go j l (eqb j c.task) refl;
+      pair = passed.pair;
     }
   where
     with-box : (j : ℕ) → j < task_count P → Boxed P.shifts.hours (work_time_of P.shifts j) (bounds_at left j) → PassedTask P left j

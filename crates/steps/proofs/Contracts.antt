@@ -52,7 +52,7 @@ module _ (P : Plan) (boxes : List ℕ) (f : Fault) where
 module _ (P : Plan) (boxes : List ℕ) where
   pub first-sized : input_fault P boxes ≡ None → length boxes ≡ 6 * task_count P
   unfolding input_fault one_for_each_task
-  first-sized e = eqb-true _ _ (and_right _ _ (and_right _ _ (unless-none _ 31 0 (neither _ _ e).0)))
+  first-sized e = eqb-true _ _ (and_right _ _ (and_right _ _ (and_left _ _ (unless-none _ 31 0 (neither _ _ e).0))))
 
   -- the tests of a log checker and of a filter are those of the plan and the boxes, and that of the log's slices; where these are of one length, just
   -- the former

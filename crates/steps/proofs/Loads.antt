@@ -1,25 +1,27 @@
 -- Laws of sums over the tasks that pass a test, and of the load against the heights of a feasible schedule's running tasks. Assumes nothing.
 use Rattle.std.specs.Prelude.{Option, None, Some}
 use Rattle.std.specs.Prelude.{if◌then◌else◌}
-use mathlib.Core.Path.{◌≡◌, refl, ap}
+use mathlib.Core.Path.{◌≡◌, refl, sym, ap, ◌∙◌}
 use mathlib.Core.Bool.{Bool, true, false, not, false≢true}
 use mathlib.Core.List.{List}
-use Prim.Native.Nat.{ℕ, ◌+◌, ◌≤◌, ◌<◌}
+use Prim.Native.Nat.{ℕ, ◌+◌, ◌*◌, ◌≤◌, ◌<◌}
 use native.Mathlib.Omega.{arith}
-use lib.Dec.{eqb}
-use borrow.Author.Tests.{leb-true, ltb-true, le-leb, lt-ltb, eq-eqb}
+use lib.Dec.{ltb, eqb}
+use lib.ListN.{length}
+use Rattle.std.proofs.lemmas.List.{get_or_past}
+use borrow.Author.Tests.{leb-true, ltb-true, ltb-false, le-leb, lt-ltb, eq-eqb}
 use Rattle.units.specs.Choice.{◌and◌}
 use Rattle.units.specs.Sums.{sum_where}
-use Rattle.units.proofs.Choices.{and_both, and_left, and_right, not_left, if-true, if-false}
+use Rattle.units.proofs.Choices.{and_both, and_left, and_right, not_left, if-true, if-false, None≢Some}
 use Rattle.units.proofs.Summing.{sum-le, sum-gap}
-use Rattle.plan.specs.Plan.{Plan, task_count, height_of, heights_where}
+use Rattle.plan.specs.Plan.{Plan, task_count, pair_count, height_of, heights_where, pair_of}
 use Rattle.plan.specs.Boxes.{bounds_at}
 use Rattle.calendar.specs.declared.Triple.{Triple}
 use Rattle.calendar.specs.declared.Window.{Window}
 use Rattle.calendar.specs.Triples.{start_of, end_of}
 use Rattle.calendar.specs.Rule.{lst, ect}
-use Rattle.calendar.proofs.Triples.{in_bounds_lem, Held, rule-held}
-use Rattle.schedule.specs.Schedule.{runs, running, Feasible}
+use Rattle.calendar.proofs.Triples.{in_bounds_lem, Held, rule-held, never-lasts}
+use Rattle.schedule.specs.Schedule.{runs, running, in_turn, Feasible}
 use Rattle.steps.specs.Load.{fit_at, must_run, load, others_load}
 
 -- ---- for any heights, any number of tasks and any two tests, of which the first holds only where the second does
@@ -60,11 +62,29 @@ must-run (Some w) x t held e =
     let u : t < ect w = ltb-true _ _ (and_right _ _ e) in
     and_both _ _ (le-leb (start_of x) t (omega arith)) (lt-ltb t (end_of x) (omega arith))
 
+-- a task with a valid triple is one of the plan's, where there is a box for each task: of any other all bounds are 0, and every triple lasts longer
+pub fit-there : (P : Plan) (boxes : List ℕ) → length boxes ≡ 6 * task_count P → (i : ℕ) (w : Window) → fit_at P.shifts boxes i ≡ Some w
+    → i < task_count P
+unfolding fit_at
+fit-there P boxes sized i w e = go (ltb i (task_count P)) refl
+  where
+    go : (b : Bool) → ltb i (task_count P) ≡ b → i < task_count P
+    go true q = ltb-true _ _ q
+    go false q =
+        let out : task_count P ≤ i = ltb-false _ _ q in
+        let none : (bounds_at boxes i).longest.0 ≡ 0 = unfold bounds_at in (get_or_past boxes (6 * i + 3) 0 (omega arith)) in
+        None≢Some (sym (never-lasts _ _ (bounds_at boxes i) none) ∙ e)
+
 module _ (P : Plan) (boxes : List ℕ) (σ : ℕ → Triple) (F : Feasible P boxes σ) where
   -- the windows hold the triples of a feasible schedule
   pub fit-held : (i : ℕ) → i < task_count P → (w : Window) → fit_at P.shifts boxes i ≡ Some w → Held w (σ i)
   unfolding fit_at
   fit-held i l w e = rule-held _ _ (bounds_at boxes i) w e (σ i) (in_bounds_lem _ _ (F.inside i l)) (F.fits i l)
+
+  -- a pair of the plan's is kept by a feasible schedule
+  pub kept-pair : (k : ℕ) → k < pair_count P → end_of (σ (pair_of P k).earlier) ≤ start_of (σ (pair_of P k).later)
+  unfolding in_turn
+  kept-pair k l = leb-true _ _ (F.pairs k l)
 
   running-must : (t j : ℕ) → j < task_count P → must_run (fit_at P.shifts boxes j) t ≡ true → runs (σ j) t ≡ true
   running-must t j l e = must-run (fit_at P.shifts boxes j) (σ j) t (fit-held j l) e

@@ -23,7 +23,7 @@ use Rattle.schedule.specs.Schedule.{runs, running, Feasible}
 use Rattle.schedule.specs.Entry.{room_fault, hour_fault, schedule_fault}
 use Rattle.steps.specs.declared.Step.{Step}
 use Rattle.steps.specs.Load.{fit_at, must_run, load, others_load, room_excess, excess}
-use Rattle.steps.specs.Steps.{Kind, kind_c, kind_o, kind_l, kind_u, unknown_kind, kind_of, is_step, Judgement, unknown}
+use Rattle.steps.specs.Steps.{Kind, kind_c, kind_o, kind_l, kind_u, kind_f, kind_b, unknown_kind, kind_of, is_step, Judgement, unknown}
 use Rattle.steps.specs.Steps.{not_admitted, impossible, judge_o, judge_l, judge_u}
 use Rattle.steps.specs.Steps.{on_judgement, judge_kind, judge}
 use Rattle.steps.specs.Log.{replay, replay_by}
@@ -76,11 +76,16 @@ module _ (P : Plan) (one : room_count P ≡ 1) where
 
   schedule-is : (boxes : List ℕ) (σ : ℕ → Triple) → schedule_fault P boxes σ ≡ before.schedule_fault P boxes σ
   unfolding schedule_fault before.schedule_fault
-  schedule-is boxes σ = ap (◌or_else◌ _) (first-eq _ _ P.shifts.hours (λ t l. hour-is σ t))
+  schedule-is boxes σ = ap (◌or_else◌ _) (ap₂ ◌or_else◌ (first-eq _ _ P.shifts.hours (λ t l. hour-is σ t)) refl)
 
   feasible-before : (boxes : List ℕ) (σ : ℕ → Triple) → Feasible P boxes σ → before.Feasible P boxes σ
   feasible-before boxes σ F =
-      record { inside = F.inside; fits = F.fits; room = λ t l. omega (arith, running-is σ t, capacity-is, F.capacity 0 (omega (arith, one)) t l) }
+      record {
+        inside = F.inside;
+        fits = F.fits;
+        room = λ t l. omega (arith, running-is σ t, capacity-is, F.capacity 0 (omega (arith, one)) t l);
+        pairs = F.pairs;
+      }
 
   before-feasible : (boxes : List ℕ) (σ : ℕ → Triple) → before.Feasible P boxes σ → Feasible P boxes σ
   before-feasible boxes σ F =
@@ -88,6 +93,7 @@ module _ (P : Plan) (one : room_count P ≡ 1) where
         inside = F.inside;
         fits = F.fits;
         capacity = λ room l t m. rw (only room l) (omega (arith, running-is σ t, capacity-is, F.room t m));
+        pairs = F.pairs;
       }
 
   -- ---- steps
@@ -105,12 +111,14 @@ module _ (P : Plan) (one : room_count P ≡ 1) where
       go true e = lt-ltb i (room_count P) (omega (arith, eqb-true i 0 e, one)) ∙ sym e
       go false e = let ne : i ≢ 0 = eqb-false i 0 e in le-ltb i (room_count P) (omega (arith, one)) ∙ sym e
 
-  is-step : (k : Kind) (i t : ℕ) → is_step (room_count P) (task_count P) P.shifts.hours k i t ≡ before.is_step P k i t
+  is-step : (k : Kind) (i t : ℕ) → is_step P k i t ≡ before.is_step P k i t
   unfolding is_step before.is_step
   is-step kind_c i t = refl
   is-step kind_o i t = ap (λ (b : Bool). b and is_hour P.shifts.hours t) (room-zero i)
   is-step kind_l i t = refl
   is-step kind_u i t = refl
+  is-step kind_f k t = refl
+  is-step kind_b k t = refl
   is-step unknown_kind i t = refl
 
   kind-is : (boxes : List ℕ) (k : Kind) (i t : ℕ) → before.is_step P k i t ≡ true → judge_kind P boxes k i t ≡ before.judge_kind P boxes k i t
@@ -121,6 +129,8 @@ module _ (P : Plan) (one : room_count P ≡ 1) where
       (ap₂ (λ (c n : ℕ). if ltb c n then impossible else not_admitted) capacity-is (heights-are (λ j. must_run (fit_at P.shifts boxes j) t)))
   kind-is boxes kind_l i t e = rw (excess-is boxes i t (ltb-true _ _ (and_left _ _ e)))
   kind-is boxes kind_u i t e = rw (excess-is boxes i t (ltb-true _ _ (and_left _ _ e)))
+  kind-is boxes kind_f k t e = refl
+  kind-is boxes kind_b k t e = refl
   kind-is boxes unknown_kind i t e = refl
 
   judge-is : (boxes : List ℕ) (x : Step) → judge P boxes x ≡ before.judge P boxes x
@@ -144,8 +154,9 @@ module _ (P : Plan) (one : room_count P ≡ 1) where
   next-is : (boxes : List ℕ) → next P boxes ≡ before.next P boxes
   unfolding next_by first_by first_of_kind filter_order before.next
   next-is boxes =
-      ap (λ (f : Step → Option Admitted). first_by (room_count P) (task_count P) P.shifts.hours f filter_order) (admitted-is boxes)
-      ∙ ap (◌or_else◌ _) (ap₂ ◌or_else◌ (first-room _) (ap (◌or_else◌ _) (else-end _)))
+      ap (λ (f : Step → Option Admitted). first_by P f filter_order) (admitted-is boxes)
+      ∙ ap (◌or_else◌ _)
+      (ap₂ ◌or_else◌ (first-room _) (ap (◌or_else◌ _) (ap (◌or_else◌ _) (ap (◌or_else◌ _) (else-end _)))))
 
   pub one-room : AsBefore P
   unfolding replay

@@ -79,7 +79,7 @@ module _ (P : Plan) where
   Sized boxes = length boxes ≡ 6 * task_count P
 
   size-kept : (boxes left : List ℕ) (x : Step) → Sized boxes → judge P boxes x ≡ moved left → Sized left
-  size-kept boxes left x sized e = change-length P boxes left (judge-change P boxes x left e) ∙ sized
+  size-kept boxes left x sized e = change-length P boxes left (judge-change P boxes sized x left e) ∙ sized
 
   module _ (boxes : List ℕ) (log : List Step) where
     pub accepted-admitted : (replay P boxes log).refusal ≡ None → AllAdmitted P boxes log
@@ -100,8 +100,8 @@ module _ (P : Plan) where
       unfolding replay
       keeps =
           kept_from (judge P) (λ boxes. Sized boxes × Feasible P boxes σ)
-          (λ boxes left x (s, f) e. (size-kept boxes left x s e, change-keeps P boxes left (judge-change P boxes x left e) s σ f))
-          (λ boxes x (s, f) e. judge-impossible P boxes x e σ f)
+          (λ boxes left x (s, f) e. (size-kept boxes left x s e, change-keeps P boxes left (judge-change P boxes s x left e) s σ f))
+          (λ boxes x (s, f) e. judge-impossible P boxes s x e σ f)
           0
           boxes
           log
@@ -116,4 +116,4 @@ module _ (P : Plan) where
   -- each step but the last takes something off the widths
   pub admitted-short : {boxes : List ℕ} {log : List Step} → AllAdmitted P boxes log → Sized boxes → length log ≤ 1 + widths P boxes
   admitted-short a sized =
-      admitted-few (judge P) Sized size-kept (widths P) (λ boxes left x s e. change-widths P boxes left (judge-change P boxes x left e) s) a sized
+      admitted-few (judge P) Sized size-kept (widths P) (λ boxes left x s e. change-widths P boxes left (judge-change P boxes s x left e) s) a sized

@@ -1,11 +1,11 @@
 -- A plan of one room as 01 speaks of it: what 02, W-202, gave each room, in 01's words, of the capacity and of one height a task. That a plan of one
--- room answers by these as before is proved.
+-- room answers by these as before is proved. Its pairs (W-206) are any plan's.
 use Rattle.std.specs.Prelude.{Bool, true, false, not, List, ◌↔◌, ◌≡◌, ℕ, ◌+◌, ◌-◌, ◌≤◌, ◌<◌, leb, ltb, eqb, get_or, if◌then◌else◌}
 use Rattle.std.specs.Prelude.{Option, None, Some}
 use Rattle.units.specs.Choice.{◌and◌, ◌or_else◌, first_of}
 use Rattle.units.specs.Limits.{is_hour, with_earliest, with_latest}
 use Rattle.units.specs.Sums.{sum_where}
-use Rattle.plan.specs.Plan.{Plan, task_count, calendar_of, work_time_of}
+use Rattle.plan.specs.Plan.{Plan, task_count, pair_count, calendar_of, work_time_of, pair_of}
 use Rattle.plan.specs.Boxes.{bounds_at, with_bounds}
 use Rattle.plan.specs.declared.Fault.{Fault}
 use Rattle.plan.specs.Refusals.{unless}
@@ -13,14 +13,15 @@ use Rattle.calendar.specs.declared.Triple.{Triple}
 use Rattle.calendar.specs.Triples.{valid_triple, in_bounds}
 use Rattle.calendar.specs.Rule.{lst, ect}
 use Rattle.schedule.specs.Schedule as rooms
-use Rattle.schedule.specs.Schedule.{runs}
+use Rattle.schedule.specs.Schedule.{runs, in_turn}
 use Rattle.schedule.specs.Entry as rooms-entry
-use Rattle.schedule.specs.Entry.{triple_fault}
+use Rattle.schedule.specs.Entry.{triple_fault, order_fault}
 use Rattle.steps.specs.declared.Step.{Step}
 use Rattle.steps.specs.Load.{fit_at, must_run}
 use Rattle.steps.specs.Steps as rooms-steps
-use Rattle.steps.specs.Steps.{step, letter_c, letter_o, letter_l, letter_u, Kind, kind_c, kind_o, kind_l, kind_u, unknown_kind, kind_of}
-use Rattle.steps.specs.Steps.{Judgement, unknown, not_admitted, impossible, moved, on_judgement, on_fit, judge_c}
+use Rattle.steps.specs.Steps.{step, letter_c, letter_o, letter_l, letter_u, letter_f, letter_b, Kind, kind_c, kind_o, kind_l, kind_u, kind_f, kind_b}
+use Rattle.steps.specs.Steps.{unknown_kind, kind_of}
+use Rattle.steps.specs.Steps.{Judgement, unknown, not_admitted, impossible, moved, on_judgement, on_fit, judge_c, judge_f, judge_b}
 use Rattle.steps.specs.Log.{replay, replay_by}
 use Rattle.steps.specs.Filter as rooms-filter
 use Rattle.steps.specs.Filter.{Admitted, stops, moves, run, run_by}
@@ -44,12 +45,16 @@ module _ (P : Plan) where
     pub inside : (i : ℕ) → i < task_count P → in_bounds (bounds_at boxes i) (σ i) ≡ true
     pub fits : (i : ℕ) → i < task_count P → valid_triple (calendar_of P.shifts i) (work_time_of P.shifts i) (σ i) ≡ true
     pub room : (t : ℕ) → t < P.shifts.hours → running σ t ≤ capacity
+    pub pairs : (k : ℕ) → k < pair_count P → in_turn (pair_of P k) σ ≡ true
 
   unfoldable pub hour_fault : (ℕ → Triple) → ℕ → Option Fault
   hour_fault σ t = unless (leb (running σ t) capacity) 16 t
 
   unfoldable pub schedule_fault : List ℕ → (ℕ → Triple) → Option Fault
-  schedule_fault boxes σ = first_of (triple_fault P.shifts boxes σ) (task_count P) or_else first_of (hour_fault σ) P.shifts.hours
+  schedule_fault boxes σ =
+      first_of (triple_fault P.shifts boxes σ) (task_count P)
+      or_else first_of (hour_fault σ) P.shifts.hours
+      or_else first_of (order_fault P σ) (pair_count P)
 
   -- ---- steps
 
@@ -67,6 +72,8 @@ module _ (P : Plan) where
   is_step kind_o i t = eqb i 0 and is_hour P.shifts.hours t
   is_step kind_l i t = ltb i (task_count P) and is_hour P.shifts.hours t
   is_step kind_u i t = ltb i (task_count P) and is_hour P.shifts.hours t
+  is_step kind_f k t = ltb k (pair_count P) and eqb t 0
+  is_step kind_b k t = ltb k (pair_count P) and eqb t 0
   is_step unknown_kind i t = false
 
   unfoldable pub judge_o : List ℕ → ℕ → Judgement
@@ -95,6 +102,8 @@ module _ (P : Plan) where
   judge_kind boxes kind_o i t = judge_o boxes t
   judge_kind boxes kind_l i t = judge_l boxes i t
   judge_kind boxes kind_u i t = judge_u boxes i t
+  judge_kind boxes kind_f k t = judge_f P boxes (pair_of P k)
+  judge_kind boxes kind_b k t = judge_b P boxes (pair_of P k)
   judge_kind boxes unknown_kind i t = unknown
 
   unfoldable pub judge : List ℕ → Step → Judgement
@@ -106,13 +115,15 @@ module _ (P : Plan) where
   unfoldable pub if_admitted : List ℕ → Step → Option Admitted
   if_admitted boxes x = on_judgement (judge boxes x) None None (Some (stops x)) (λ left. Some (moves x left))
 
-  -- the first admitted step: C by task; O by hour; L by task, then hour; U by task, then hour
+  -- the first admitted step: C by task; O by hour; L by task, then hour; U by task, then hour; F by pair; B by pair
   unfoldable pub next : List ℕ → Option Admitted
   next boxes =
       first_of (λ i. if_admitted boxes (step letter_c i 0)) (task_count P)
       or_else first_of (λ t. if_admitted boxes (step letter_o 0 t)) P.shifts.hours
       or_else first_of (λ i. first_of (λ t. if_admitted boxes (step letter_l i t)) P.shifts.hours) (task_count P)
       or_else first_of (λ i. first_of (λ t. if_admitted boxes (step letter_u i t)) P.shifts.hours) (task_count P)
+      or_else first_of (λ k. if_admitted boxes (step letter_f k 0)) (pair_count P)
+      or_else first_of (λ k. if_admitted boxes (step letter_b k 0)) (pair_count P)
 
 -- A plan answers as before: its feasible schedules and the refusals of others, its steps, the filter's choice and its run, and the replay of a log.
 pub record AsBefore (P : Plan) : Type 0 where

@@ -80,14 +80,14 @@ calendar_a = closed ∷ overtime ∷ overtime ∷ overtime ∷ closed ∷ overti
 
 -- the week that 01 prints under "Plan text and listing", and its boxes
 abbrev pub printed : Plan
-printed = plan 6 (1 ∷ []) (regular ∷ closed ∷ regular ∷ regular ∷ regular ∷ regular ∷ []) (0 ∷ 0 ∷ []) (2 ∷ 2 ∷ []) (1 ∷ 1 ∷ [])
+printed = plan 6 (1 ∷ []) (regular ∷ closed ∷ regular ∷ regular ∷ regular ∷ regular ∷ []) (0 ∷ 0 ∷ []) (2 ∷ 2 ∷ []) (1 ∷ 1 ∷ []) []
 
 abbrev pub printed_boxes : List ℕ
 printed_boxes = 0 ∷ 3 ∷ 2 ∷ 3 ∷ 0 ∷ 0 ∷ 0 ∷ 2 ∷ 2 ∷ 3 ∷ 0 ∷ 0 ∷ []
 
 -- `rr`, capacity 1, one task of height 2
 abbrev pub too_high : Plan
-too_high = plan 2 (1 ∷ []) (regular ∷ regular ∷ []) (0 ∷ []) (1 ∷ []) (2 ∷ [])
+too_high = plan 2 (1 ∷ []) (regular ∷ regular ∷ []) (0 ∷ []) (1 ∷ []) (2 ∷ []) []
 
 unfoldable pub weeks : List Starred
 weeks =
