@@ -40,11 +40,16 @@ sized rs cs ws hs bs e =
       boxes = eqb-true _ _ (and_right _ _ (and_right _ _ e));
     }
 
+-- two numbers a pair are as many as are lent
 pub pairs_whole : (pairs : List ℕ) → is_whole_pairs pairs ≡ true → length pairs ≡ pair_numbers * (length pairs / pair_numbers)
 unfolding is_whole_pairs
 pairs_whole pairs e =
     let even : length pairs % pair_numbers ≡ 0 = eqb-true _ _ e in
     omega (arith, div-add-mod' (length pairs) pair_numbers)
+
+-- a pair's two numbers lie among those lent
+pub pair-within : (pairs : List ℕ) {k : ℕ} → k < length pairs / pair_numbers → pair_numbers * k + pair_numbers ≤ length pairs
+pair-within pairs l = omega (arith, div-add-mod' (length pairs) pair_numbers)
 
 -- ---- H and the calendars
 

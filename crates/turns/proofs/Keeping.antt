@@ -9,14 +9,15 @@ use mathlib.Core.List.{List}
 use Prim.Native.Nat.{ℕ, ◌+◌, ◌-◌, ◌<◌}
 use native.Mathlib.Omega.{arith}
 use lib.Dec.{leb, ltb}
-use lib.ListN.{length, get_or}
+use lib.ListN.{get_or}
 use borrow.Author.Tests.{ltb-true}
 use Rattle.units.specs.Choice.{◌and◌, on_option}
 use Rattle.units.specs.Limits.{with_earliest, with_latest}
 use Rattle.units.specs.declared.Bounds.{Bounds}
 use Rattle.units.proofs.Choices.{and_left, if-true, if-false, if-case, if-all, if-ap, some-eq}
 use Rattle.units.proofs.Summing.{where-eq, where-split}
-use Rattle.plan.specs.Plan.{Plan, room_part, room_count, task_count, capacity_of, heights_of, height_of, heights_where}
+use Rattle.plan.specs.Plan.{Plan, room_count, task_count, pair_count, capacity_of, heights_of, height_of, heights_where, pair_of}
+use Rattle.plan.specs.Passed.{PassedPair}
 use Rattle.plan.specs.Boxes.{bounds_at, with_bounds}
 use Rattle.plan.proofs.Passed.{room-heights}
 use Rattle.calendar.specs.declared.Window.{Window}
@@ -25,14 +26,14 @@ use Rattle.steps.specs.declared.Step.{Step}
 use Rattle.steps.specs.declared.Judged.{Judged}
 use Rattle.steps.specs.declared.Judged.TheVariants.{Unknown, NotAdmitted, Impossible, Moved}
 use Rattle.steps.specs.Load.{fit_at, must_run, load, others_load, room_excess, excess}
-use Rattle.steps.specs.Steps.{Kind, kind_c, kind_o, kind_l, kind_u, unknown_kind, kind_of, is_step, Judgement, unknown, not_admitted}
-use Rattle.steps.specs.Steps.{impossible, moved, on_judgement, on_fit, same_bounds, judge_c, judge_o, judge_l, judge_u, judge_kind}
+use Rattle.steps.specs.Steps.{Kind, kind_c, kind_o, kind_l, kind_u, kind_f, kind_b, unknown_kind, kind_of, is_step, Judgement, unknown, not_admitted}
+use Rattle.steps.specs.Steps.{impossible, moved, on_judgement, on_fit, on_pair, same_bounds, judge_c, judge_o, judge_l, judge_u, judge_f, judge_b, judge_kind}
 use Rattle.steps.specs.Steps.{judge}
 use Rattle.steps.specs.Filter.{stops, moves, step_of, if_admitted, first_by, next_by}
 use Rattle.steps.proofs.Judgements.{fit_all}
 use Rattle.steps.proofs.Searches.{first-maps}
 use Rattle.turns.specs.Inner.Kept.{Keeping, load_of, exceeds, excess_in, excess_by, on_judged, calendar_by, lower_by, upper_by}
-use Rattle.turns.specs.Inner.Kept.{move_by, bound_by, judge_kind_by, judge_by, admitted_by, judgement_of}
+use Rattle.turns.specs.Inner.Kept.{forward_by, backward_by, move_by, bound_by, pair_by, judge_kind_by, judge_by, admitted_by, judgement_of}
 
 -- ---- the excess, from the load
 
@@ -96,9 +97,19 @@ module _ (boxes : List ℕ) (i : ℕ) where
   bound-judged by says f e same None h = refl
   bound-judged by says f e same (Some w) h = rw (h w refl) (same w)
 
+-- F and B: of a pair whose tasks both have a window
+pair-judged : (boxes : List ℕ) (f g : Option Window) (by : Window → Window → Judged) (says : Window → Window → Judgement)
+    → ((w v : Window) → judgement_of boxes (by w v) ≡ says w v)
+    → judgement_of boxes (on_fit f NotAdmitted (λ w. on_fit g NotAdmitted (λ v. by w v)))
+    ≡ on_fit f not_admitted (λ w. on_fit g not_admitted (λ v. says w v))
+unfolding on_fit judgement_of on_judged
+pair-judged boxes None g by says same = refl
+pair-judged boxes (Some w) None by says same = refl
+pair-judged boxes (Some w) (Some v) by says same = same w v
+
 module _ (P : Plan) (boxes : List ℕ) (fits : List (Option Window)) (k : Keeping P boxes fits) where
   abbrev By : Step → Judged
-  By = judge_by P.shifts.hours (task_count P) P.capacities P.heights boxes fits
+  By = judge_by P boxes fits
 
   pub load_kept : (room t : ℕ) → room < room_count P → load_of fits (heights_of P room) t ≡ load P room boxes t
   unfolding load_of load heights_where height_of
@@ -106,17 +117,18 @@ module _ (P : Plan) (boxes : List ℕ) (fits : List (Option Window)) (k : Keepin
       rw (room-heights P boxes k.passed room l) (where-eq _ _ _ (task_count P) (λ j m. ap (λ (f : Option Window). must_run f t) (k.kept j m)))
 
   excess-kept : (i t : ℕ) → i < task_count P → (w : Window) → fit_at P.shifts boxes i ≡ Some w
-      → excess_by (task_count P) P.capacities P.heights fits w i t ≡ excess P boxes i t
+      → excess_by P fits w i t ≡ excess P boxes i t
   unfolding excess_by excess
   excess-kept i t l w e = some-eq _ _ (room_count P) (λ room m. room-kept room m)
     where
       room-kept : (room : ℕ) → room < room_count P
-          → excess_in (task_count P) P.capacities P.heights fits w i t room ≡ room_excess P room boxes i t
-      room-kept room m = unfold excess_in heights_of height_of in (rw (load_kept room t m) (exceeds-excess P room boxes i t w l e))
+          → excess_in P fits w i t room ≡ room_excess P room boxes i t
+      room-kept room m = unfold excess_in in (rw (load_kept room t m) (exceeds-excess P room boxes i t w l e))
 
-  kind-kept : (kind : Kind) (i t : ℕ) → is_step (room_count P) (task_count P) P.shifts.hours kind i t ≡ true
-      → judgement_of boxes (judge_kind_by P.shifts.hours (task_count P) P.capacities P.heights boxes fits kind i t) ≡ judge_kind P boxes kind i t
-  unfolding judge_kind_by judge_kind judge_c judge_o judge_l judge_u bound_by is_step heights_of judgement_of on_judged
+  kind-kept : (kind : Kind) (i t : ℕ) → is_step P kind i t ≡ true
+      → judgement_of boxes (judge_kind_by P boxes fits kind i t) ≡ judge_kind P boxes kind i t
+  unfolding judge_kind_by judge_kind judge_c judge_o judge_l judge_u judge_f judge_b on_pair bound_by pair_by forward_by backward_by is_step
+      judgement_of on_judged
   kind-kept kind_c i t is =
       rw (k.kept i (ltb-true _ _ (and_left _ _ is))) (calendar-judged boxes i (fit_at P.shifts boxes i) (bounds_at boxes i))
   kind-kept kind_o room t is = rw (load_kept room t (ltb-true _ _ (and_left _ _ is))) (if-ap (judgement_of boxes) _ _ _)
@@ -134,6 +146,12 @@ module _ (P : Plan) (boxes : List ℕ) (fits : List (Option Window)) (k : Keepin
       (λ w. upper-judged boxes i w (bounds_at boxes i) (excess P boxes i t) t)
       (fit_at P.shifts boxes i)
       (excess-kept i t l))
+  kind-kept kind_f n t is =
+      let pair = k.passed.pair n (ltb-true _ _ (and_left _ _ is)) in
+      rw (k.kept _ pair.earlier, k.kept _ pair.later) (pair-judged boxes _ _ _ _ (λ w v. test-judged boxes _ _ _ _))
+  kind-kept kind_b n t is =
+      let pair = k.passed.pair n (ltb-true _ _ (and_left _ _ is)) in
+      rw (k.kept _ pair.earlier, k.kept _ pair.later) (pair-judged boxes _ _ _ _ (λ w v. test-judged boxes _ _ _ _))
   kind-kept unknown_kind i t is = refl
 
   pub judge-kept : (x : Step) → judgement_of boxes (By x) ≡ judge P boxes x
@@ -155,15 +173,15 @@ module _ (P : Plan) (boxes : List ℕ) (fits : List (Option Window)) (k : Keepin
   by-judged x (Moved i b) = refl
 
   admitted-kept : (x : Step)
-      → admitted_by P.shifts.hours (task_count P) P.capacities P.heights boxes fits x ≡ on_option (if_admitted P boxes x) None (λ a. Some (step_of a))
+      → admitted_by P boxes fits x ≡ on_option (if_admitted P boxes x) None (λ a. Some (step_of a))
   unfolding admitted_by if_admitted
   admitted-kept x = rw (← judge-kept x) (by-judged x _)
 
   pub next-kept : (order : List Kind)
-      → first_by (room_count P) (task_count P) P.shifts.hours (admitted_by P.shifts.hours (task_count P) P.capacities P.heights boxes fits) order
+      → first_by P (admitted_by P boxes fits) order
       ≡ on_option (next_by order P boxes) None (λ a. Some (step_of a))
   unfolding next_by
-  next-kept order = first-maps (room_count P) (task_count P) P.shifts.hours step_of (if_admitted P boxes) _ admitted-kept order
+  next-kept order = first-maps P step_of (if_admitted P boxes) _ admitted-kept order
 
   -- ---- what is known of a step that the code has judged
 
@@ -220,32 +238,37 @@ module _ (i : ℕ) (b : Bounds) (n : ℕ) where
   names-move true w c excess t = names-test _ _ _
   names-move false w c excess t = names-test _ _ _
 
-  names-bound : (hours tasks : ℕ) (capacities heights boxes : List ℕ) (fits : List (Option Window)) (lower : Bool) (t : ℕ)
-      → Names (bound_by hours tasks capacities heights boxes fits lower n t)
+  names-bound : (P : Plan) (boxes : List ℕ) (fits : List (Option Window)) (lower : Bool) (t : ℕ) → Names (bound_by P boxes fits lower n t)
   unfolding bound_by
-  names-bound hours tasks capacities heights boxes fits lower t =
+  names-bound P boxes fits lower t =
       fit_all Names (get_or fits n None) _ _ (λ q. not-names)
       (λ w q. names-move lower w (bounds_at boxes n) _ t)
 
-  names-kind : (hours tasks : ℕ) (capacities heights boxes : List ℕ) (fits : List (Option Window)) (kind : Kind) (t : ℕ)
-      → is_step (length capacities) tasks hours kind n t ≡ true → judge_kind_by hours tasks capacities heights boxes fits kind n t ≡ Moved i b
-      → (i ≡ n) × (n < tasks)
-  unfolding judge_kind_by is_step Names
-  names-kind hours tasks capacities heights boxes fits kind_c t is e =
-      (names-calendar (get_or fits n None) (bounds_at boxes n) e, ltb-true _ _ (and_left _ _ is))
-  names-kind hours tasks capacities heights boxes fits kind_o t is e =
-      absurd (if-case (ltb (get_or capacities n 0) (load_of fits (room_part tasks heights n) t)) Impossible NotAdmitted (Moved i b) e
-      (λ p q. let z : ◌≡◌ {A = ℕ} 0 1 = cc in omega arith) (λ p q. let z : ◌≡◌ {A = ℕ} 0 1 = cc in omega arith))
-  names-kind hours tasks capacities heights boxes fits kind_l t is e =
-      (names-bound hours tasks capacities heights boxes fits true t e, ltb-true _ _ (and_left _ _ is))
-  names-kind hours tasks capacities heights boxes fits kind_u t is e =
-      (names-bound hours tasks capacities heights boxes fits false t e, ltb-true _ _ (and_left _ _ is))
-  names-kind hours tasks capacities heights boxes fits unknown_kind t is e = absurd (false≢true is)
+  -- of two tasks that both have to have a window
+  names-pair : (f g : Option Window) (by : Window → Window → Judged) → ((w v : Window) → Names (by w v))
+      → Names (on_fit f NotAdmitted (λ w. on_fit g NotAdmitted (λ v. by w v)))
+  names-pair f g by h = fit_all Names f _ _ (λ q. not-names) (λ w q. fit_all Names g _ _ (λ r. not-names) (λ v r. h w v))
 
-pub moved-there : (hours tasks : ℕ) (capacities heights boxes : List ℕ) (fits : List (Option Window)) (x : Step) (r : Judged) (i : ℕ) (b : Bounds)
-    → r ≡ judge_by hours tasks capacities heights boxes fits x → r ≡ Moved i b → i < tasks
-unfolding judge_by
-moved-there hours tasks capacities heights boxes fits x r i b is e =
-    if-case _ _ _ _ (sym is ∙ e)
-    (λ w q. let (same, l) = names-kind i b x.task hours tasks capacities heights boxes fits (kind_of x.kind) x.hour w q in omega arith)
-    (λ w q. absurd (let z : ◌≡◌ {A = ℕ} 0 1 = cc in omega arith))
+module _ (P : Plan) (boxes : List ℕ) (fits : List (Option Window)) (paired : (k : ℕ) → k < pair_count P → PassedPair P k) (i : ℕ) (b : Bounds) where
+  there-if : (n : ℕ) → i ≡ n → n < task_count P → i < task_count P
+  there-if n e l = omega arith
+
+  kind-there : (kind : Kind) (n t : ℕ) → is_step P kind n t ≡ true → judge_kind_by P boxes fits kind n t ≡ Moved i b → i < task_count P
+  unfolding judge_kind_by is_step pair_by forward_by backward_by Names
+  kind-there kind_c n t is e = there-if n (names-calendar i b n (get_or fits n None) (bounds_at boxes n) e) (ltb-true _ _ (and_left _ _ is))
+  kind-there kind_o n t is e =
+      absurd (if-case (ltb (capacity_of P n) (load_of fits (heights_of P n) t)) Impossible NotAdmitted (Moved i b) e
+      (λ p q. let z : ◌≡◌ {A = ℕ} 0 1 = cc in omega arith) (λ p q. let z : ◌≡◌ {A = ℕ} 0 1 = cc in omega arith))
+  kind-there kind_l n t is e = there-if n (names-bound i b n P boxes fits true t e) (ltb-true _ _ (and_left _ _ is))
+  kind-there kind_u n t is e = there-if n (names-bound i b n P boxes fits false t e) (ltb-true _ _ (and_left _ _ is))
+  kind-there kind_f n t is e =
+      there-if _ (names-pair i b (pair_of P n).later _ _ _ (λ w v. names-test i b _ _ _ _) e) (paired n (ltb-true _ _ (and_left _ _ is))).later
+  kind-there kind_b n t is e =
+      there-if _ (names-pair i b (pair_of P n).earlier _ _ _ (λ w v. names-test i b _ _ _ _) e) (paired n (ltb-true _ _ (and_left _ _ is))).earlier
+  kind-there unknown_kind n t is e = absurd (false≢true is)
+
+  pub moved-there : (x : Step) (r : Judged) → r ≡ judge_by P boxes fits x → r ≡ Moved i b → i < task_count P
+  unfolding judge_by
+  moved-there x r is e =
+      if-case _ _ _ _ (sym is ∙ e) (λ w q. kind-there (kind_of x.kind) x.task x.hour w q)
+      (λ w q. absurd (let z : ◌≡◌ {A = ℕ} 0 1 = cc in omega arith))

@@ -8,7 +8,7 @@ use Prim.Native.Nat.{ℕ}
 use native.Mathlib.Omega.{arith}
 use Rattle.units.specs.Choice.{on_option}
 use Rattle.units.proofs.Choices.{option-case, None≢Some}
-use Rattle.plan.specs.Plan.{Plan, room_count, task_count}
+use Rattle.plan.specs.Plan.{Plan}
 use Rattle.plan.specs.Boxes.{with_bounds}
 use Rattle.steps.specs.declared.Step.{Step}
 use Rattle.steps.specs.declared.Judged.{Judged}
@@ -38,7 +38,7 @@ moves-is boxes left x y (Moved i b) e s = let z : with_bounds boxes i b ≡ left
 module _ (P : Plan) (boxes : List ℕ) (fits : List (Option Window)) (k : Keeping P boxes fits) (r : Option Step)
     (is :
     r
-    ≡ first_by (room_count P) (task_count P) P.shifts.hours (admitted_by P.shifts.hours (task_count P) P.capacities P.heights boxes fits)
+    ≡ first_by P (admitted_by P boxes fits)
     filter_order) where
   finds : r ≡ on_option (next P boxes) None (λ a. Some (step_of a))
   finds = is ∙ next-kept P boxes fits k filter_order
@@ -46,7 +46,7 @@ module _ (P : Plan) (boxes : List ℕ) (fits : List (Option Window)) (k : Keepin
   pub turn-settles : r ≡ None → None ≡ next P boxes
   turn-settles e = option-case _ _ _ _ (sym finds ∙ e) (λ q b. sym q) (λ a q b. None≢Some (sym b))
 
-  pub turn-found : (x : Step) (j : Judged) → r ≡ Some x → j ≡ judge_by P.shifts.hours (task_count P) P.capacities P.heights boxes fits x
+  pub turn-found : (x : Step) (j : Judged) → r ≡ Some x → j ≡ judge_by P boxes fits x
       → Some (admitted_of boxes x j) ≡ next P boxes
   unfolding Rightly
   turn-found x j found js =

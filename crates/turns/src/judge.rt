@@ -6,14 +6,14 @@ ghost use Rattle.units.specs.declared.Height.{Height};
 ghost use Rattle.plan.specs.Plan.{room_count, task_count, heights_of};
 ghost use Rattle.plan.specs.Lent.{plan_in};
 ghost use Rattle.steps.specs.Steps.{kind_in, is_step};
-ghost use Rattle.turns.specs.Inner.Kept.{load_of, exceeds, excess_by, calendar_by, bound_by, judge_by, is_lower};
+ghost use Rattle.turns.specs.Inner.Kept.{load_of, exceeds, excess_by, calendar_by, bound_by, pair_by, judge_by, is_lower};
 
 use crate::side::Side;
 use crate::{State, load};
 use calendar::Window;
 use plan::Plan;
 use steps::{Judged, Step, StepKind};
-use units::{Bounds, Duration, Height, Hour, RoomNumber};
+use units::{Bounds, Duration, Height, Hour, Pair, RoomNumber};
 
 // Whether a task of the height exceeds a room's capacity in the hour, with the other tasks' load there. A task that must run in the hour is in its
 // load already.
@@ -51,7 +51,7 @@ fn judge_load(capacity: Height, load: Height) -> Judged
     Judged::NotAdmitted
 }
 
-// What an admitted L or U comes to: the task with other bounds, or none that it could have.
+// What an admitted step that is to move a bound of S comes to: the task with other bounds, or none that it could have.
 #[tactic(auto, unfolding(units::specs::Choice::on_option))]
 fn moved(task: u16, bounds: Option<Bounds>) -> Judged
     ensures { result ≡ on_option bounds Judged.Impossible (λ b. Judged.Moved task b) }
@@ -62,15 +62,15 @@ fn moved(task: u16, bounds: Option<Bounds>) -> Judged
     }
 }
 
-// L of a task with the bounds, where it is admitted in the hour.
-fn judge_lower(task: u16, b: Bounds, t: Hour) -> Judged
-    requires { t.0 < most_hours }
-    ensures { result ≡ (if leb b.latest.0 t.0 then Judged.Impossible else Judged.Moved task (with_earliest b (t.0 + 1))) }
+// L or F of a task with the bounds, where it is admitted: the lower S becomes the hour.
+fn judge_lower(task: u16, b: Bounds, earliest: Hour) -> Judged
+    ensures { result ≡
+        (if ltb b.latest.0 earliest.0 then Judged.Impossible else Judged.Moved task (with_earliest b earliest.0)) }
 {
-    moved(task, b.starting_from(t.plus(Duration(1))))
+    moved(task, b.starting_from(earliest))
 }
 
-// U likewise. Where the hour minus the lower E would be before the plan, it is below the lower S.
+// U or B likewise: the upper S becomes the hour minus the lower E. Where that would be before the plan, it is below the lower S.
 fn judge_upper(task: u16, b: Bounds, t: Hour) -> Judged
     ensures { result ≡
         (if ltb t.0 (b.earliest.0 + b.shortest.0) then Judged.Impossible else Judged.Moved task (with_latest b (t.0 - b.shortest.0))) }
@@ -97,13 +97,15 @@ fn is_room(rooms: usize, number: u16) -> bool
 #[tactic(auto, unfolding(steps::specs::Steps::is_step))]
 fn is_step(plan: &Plan, kind: StepKind, x: Step) -> bool
     ensures { let P = plan_in plan.now in
-        result ≡ is_step (room_count P) (task_count P) P.shifts.hours (kind_in (Some kind)) x.task x.hour }
+        result ≡ is_step P (kind_in (Some kind)) x.task x.hour }
 {
     match kind {
         StepKind::Calendar => (x.task as usize) < plan.tasks() && x.hour == 0,
         StepKind::Overload => is_room(plan.rooms(), x.task) && is_hour(plan.shifts.hours, x.hour),
         StepKind::Lower | StepKind::Upper => (x.task as usize) < plan.tasks()
             && is_hour(plan.shifts.hours, x.hour),
+        StepKind::Forward | StepKind::Backward => (x.task as usize) < plan.pair_count()
+            && x.hour == 0,
     }
 }
 
@@ -121,7 +123,7 @@ impl State<'_> {
         requires loads { let P = plan_in self.now.plan.now in
             (room : ℕ) → room < room_count P → F.pre load_in room
             × ((load : Height) → F.post load_in room load → load.0 ≡ load_of self.now.fits.now (heights_of P room) t.0) }
-        ensures { let P = plan_in self.now.plan.now in result ≡ excess_by (task_count P) P.capacities P.heights self.now.fits.now w i t.0 }
+        ensures { let P = plan_in self.now.plan.now in result ≡ excess_by P self.now.fits.now w i t.0 }
     {
         for (room, capacity) in self.plan.capacities.iter().enumerate() {
             let height = plan::height_at(self.plan.heights_of(room), i);
@@ -135,8 +137,7 @@ impl State<'_> {
     // L of a task, or U: which of the two bounds of its start moves.
     fn judge_bound(&self, side: Side, task: u16, t: Hour) -> Judged
         requires { (task < task_count (plan_in self.now.plan.now)) × (t.0 < most_hours) }
-        ensures { let P = plan_in self.now.plan.now in (hours : ℕ)
-            → result ≡ bound_by hours (task_count P) P.capacities P.heights self.now.boxes.now self.now.fits.now (is_lower side) task t.0 }
+        ensures { result ≡ bound_by (plan_in self.now.plan.now) self.now.boxes.now self.now.fits.now (is_lower side) task t.0 }
     {
         let i = task as usize;
         let Some(w) = self.fits[i] else {
@@ -150,15 +151,44 @@ impl State<'_> {
             return Judged::NotAdmitted;
         }
         match side {
-            Side::Lower => judge_lower(task, b, t),
+            Side::Lower => judge_lower(task, b, t.plus(Duration(1))),
             Side::Upper => judge_upper(task, b, t),
+        }
+    }
+
+    // F of a pair, or B: the bound of the later task's start moves, or of the earlier one's.
+    pub(crate) fn judge_pair(&self, side: Side, pair: Pair) -> Judged
+        requires { let P = plan_in self.now.plan.now in (pair.earlier < task_count P) × (pair.later < task_count P) }
+        ensures { result ≡ pair_by (plan_in self.now.plan.now) self.now.boxes.now self.now.fits.now (is_lower side) pair }
+    {
+        let Some(first) = self.fits[pair.earlier as usize] else {
+            return Judged::NotAdmitted;
+        };
+        let Some(second) = self.fits[pair.later as usize] else {
+            return Judged::NotAdmitted;
+        };
+        match side {
+            Side::Lower => {
+                let b = plan::bounds_at(self.boxes, pair.later as usize);
+                if first.ect <= b.earliest {
+                    return Judged::NotAdmitted;
+                }
+                judge_lower(pair.later, b, first.ect)
+            }
+            Side::Upper => {
+                let b = plan::bounds_at(self.boxes, pair.earlier as usize);
+                let latest = second.bounds.latest;
+                if b.latest.plus(b.shortest) <= latest {
+                    return Judged::NotAdmitted;
+                }
+                judge_upper(pair.earlier, b, latest)
+            }
         }
     }
 
     // What a step comes to at its turn.
     pub fn judge_step(&self, x: Step) -> Judged
-        ensures { let P = plan_in self.now.plan.now in
-            result ≡ judge_by P.shifts.hours (task_count P) P.capacities P.heights self.now.boxes.now self.now.fits.now x }
+        ensures { result ≡ judge_by (plan_in self.now.plan.now) self.now.boxes.now self.now.fits.now x }
     {
         let Some(kind) = StepKind::of_letter(x.kind) else {
             return Judged::Unknown;
@@ -178,6 +208,8 @@ impl State<'_> {
             StepKind::Overload => judge_load(self.plan.capacity_of(i), self.load_in(i, t)),
             StepKind::Lower => self.judge_bound(Side::Lower, task, t),
             StepKind::Upper => self.judge_bound(Side::Upper, task, t),
+            StepKind::Forward => self.judge_pair(Side::Lower, self.plan.pair_of(i)),
+            StepKind::Backward => self.judge_pair(Side::Upper, self.plan.pair_of(i)),
         }
     }
 }

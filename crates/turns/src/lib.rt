@@ -5,7 +5,7 @@ ghost use Rattle.std.specs.Prelude.{◌≤◌};
 ghost use Rattle.units.specs.Limits.{most_hours};
 ghost use Rattle.plan.specs.Plan.{room_count, task_count};
 ghost use Rattle.plan.specs.Lent.{plan_in};
-ghost use Rattle.turns.specs.Inner.Ready.{Ready};
+ghost use Rattle.turns.specs.Inner.Ready.{Ready, PairsReady};
 
 use calendar::Window;
 use plan::Plan;
@@ -21,7 +21,7 @@ pub mod turn;
 pub type Fits = [Option<Window>; Bounds::MOST];
 
 // What a turn is judged from: a plan, the boxes as they are, and the answers of the calendar rule that are kept. Plan and boxes are small enough
-// that no sum of a turn wraps.
+// that no sum of a turn wraps, and the pairs name tasks of the plan.
 #[derive(Clone, Copy)]
 pub struct State<'a> {
     pub plan: &'a Plan<'a>,
@@ -29,4 +29,5 @@ pub struct State<'a> {
     pub fits: &'a Fits,
     ghost ready: { let P = plan_in plan.now in Ready (room_count P) (task_count P) P.heights boxes.now },
     ghost short: { (plan_in plan.now).shifts.hours ≤ most_hours },
+    ghost pairs_ready: { PairsReady (plan_in plan.now) },
 }

@@ -5,12 +5,12 @@ ghost use Rattle.plan.specs.Plan.{room_count, task_count};
 ghost use Rattle.plan.specs.Lent.{plan_in};
 ghost use Rattle.steps.specs.Filter.{first_by, filter_order};
 ghost use Rattle.turns.specs.Inner.Kept.{calendar_by, admitted_by, is_lower};
-ghost use Rattle.turns.specs.Inner.Finding.{admits, Loaded, load_order, first_calendar, room_overload, first_overload, first_excess};
+ghost use Rattle.turns.specs.Inner.Finding.{admits, Loaded, load_order, first_calendar, room_overload, first_overload, first_excess, first_pair};
 
 use crate::State;
 use crate::side::Side;
 use calendar::Window;
-use steps::{Step, StepKind};
+use steps::{Judged, Step, StepKind};
 use units::{Bounds, Duration, Height, Hour, MOST_ROOMS};
 
 // Whether C is admitted: the task has no valid triple, or a bound changes.
@@ -18,6 +18,14 @@ fn is_narrowed(fit: Option<Window>, b: Bounds) -> bool
     ensures { (task : ℕ) → result ≡ admits (calendar_by fit task b) }
 {
     fit.is_none_or(|w| w.bounds != b)
+}
+
+// Whether a step so judged is admitted.
+#[tactic(auto, unfolding(crate::specs::Inner::Finding::admits, crate::specs::Inner::Kept::on_judged))]
+fn is_admitted(judged: Judged) -> bool
+    ensures { result ≡ admits judged }
+{
+    matches!(judged, Judged::Impossible | Judged::Moved { .. })
 }
 
 // The first O of a room, by hour: the first hour whose load exceeds the capacity.
@@ -41,7 +49,7 @@ const MOST_LOADS: usize = MOST_ROOMS * Duration::MOST as usize;
 impl State<'_> {
     // The first C, by task.
     fn first_calendar(&self) -> Option<Step>
-        ensures { result ≡ first_calendar self.now.boxes.now self.now.fits.now (task_count (plan_in self.now.plan.now)) }
+        ensures { result ≡ first_calendar (plan_in self.now.plan.now) self.now.boxes.now self.now.fits.now }
     {
         // By number: an answer is kept for each of the most tasks, and a box is six numbers.
         for i in 0..self.plan.tasks() {
@@ -59,7 +67,7 @@ impl State<'_> {
     // The first O, by room, then hour, by the loads.
     fn first_overload(&self, loads: &[u16]) -> Option<Step>
         requires { let P = plan_in self.now.plan.now in length loads.now ≡ room_count P * P.shifts.hours }
-        ensures { let P = plan_in self.now.plan.now in result ≡ first_overload P.shifts.hours loads.now P.capacities }
+        ensures { result ≡ first_overload (plan_in self.now.plan.now) loads.now }
     {
         let hours = self.plan.shifts.hours.0 as usize;
         for (room, capacity) in self.plan.capacities.iter().enumerate() {
@@ -75,8 +83,7 @@ impl State<'_> {
     // its can be admitted.
     fn first_excess(&self, side: Side, loads: &[u16]) -> Option<Step>
         requires { let P = plan_in self.now.plan.now in Loaded P.shifts.hours (room_count P) (task_count P) loads.now self.now.fits.now P.heights }
-        ensures { let P = plan_in self.now.plan.now in
-            result ≡ first_excess P.shifts.hours (task_count P) P.capacities P.heights self.now.boxes.now self.now.fits.now (is_lower side) }
+        ensures { result ≡ first_excess (plan_in self.now.plan.now) self.now.boxes.now self.now.fits.now (is_lower side) }
     {
         let hours = self.plan.shifts.hours.0 as usize;
         let mut found = None;
@@ -108,8 +115,7 @@ impl State<'_> {
         requires { let P = plan_in self.now.plan.now in
             (length loads.old ≡ room_count P * P.shifts.hours) × ((k : ℕ) → k < length loads.old → get_or loads.old k 0 ≡ 0) }
         ensures { let P = plan_in self.now.plan.now in
-            result ≡ first_by (room_count P) (task_count P) P.shifts.hours
-            (admitted_by P.shifts.hours (task_count P) P.capacities P.heights self.now.boxes.now self.now.fits.now) load_order }
+            result ≡ first_by P (admitted_by P self.now.boxes.now self.now.fits.now) load_order }
     {
         self.fill_loads(loads);
         // In a chain of `or_else`, a closure without clauses says nothing of its answer, and its clauses would repeat the contract of what it calls.
@@ -126,8 +132,7 @@ impl State<'_> {
     // to 0 at each turn.
     fn first_by_load(&self) -> Option<Step>
         ensures { let P = plan_in self.now.plan.now in
-            result ≡ first_by (room_count P) (task_count P) P.shifts.hours
-            (admitted_by P.shifts.hours (task_count P) P.capacities P.heights self.now.boxes.now self.now.fits.now) load_order }
+            result ≡ first_by P (admitted_by P self.now.boxes.now self.now.fits.now) load_order }
     {
         let count = self.plan.rooms() * self.plan.shifts.hours.0 as usize;
         if count <= Duration::MOST as usize {
@@ -138,16 +143,38 @@ impl State<'_> {
         self.first_with_loads(&mut loads[..count])
     }
 
-    // The first admitted step: C by task; O by room, then hour; L by task, then hour; U by task, then hour.
+    // The first F, or the first B, by pair.
+    fn first_pair(&self, side: Side) -> Option<Step>
+        ensures { result ≡ first_pair (plan_in self.now.plan.now) self.now.boxes.now self.now.fits.now (is_lower side) }
+    {
+        // By number, which the step names.
+        for k in 0..self.plan.pair_count() {
+            if is_admitted(self.judge_pair(side, self.plan.pair_of(k))) {
+                return Some(Step {
+                    kind: side.pair_letter(),
+                    task: k as u16,
+                    hour: 0,
+                });
+            }
+        }
+        None
+    }
+
+    // The first admitted step: C by task; O by room, then hour; L by task, then hour; U by task, then hour; F by pair; B by pair.
     pub(crate) fn next_step(&self) -> Option<Step>
         ensures { let P = plan_in self.now.plan.now in
-            result ≡ first_by (room_count P) (task_count P) P.shifts.hours
-            (admitted_by P.shifts.hours (task_count P) P.capacities P.heights self.now.boxes.now self.now.fits.now) filter_order }
+            result ≡ first_by P (admitted_by P self.now.boxes.now self.now.fits.now) filter_order }
     {
         // No `or_else` here, likewise: its closure's clause would repeat the contract of `first_by_load`.
         if let Some(calendar) = self.first_calendar() {
             return Some(calendar);
         }
-        self.first_by_load()
+        if let Some(by_load) = self.first_by_load() {
+            return Some(by_load);
+        }
+        if let Some(forward) = self.first_pair(Side::Lower) {
+            return Some(forward);
+        }
+        self.first_pair(Side::Upper)
     }
 }

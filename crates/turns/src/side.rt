@@ -1,13 +1,13 @@
 // The two bounds of a task's start that a step may move, with the hours in which it can be admitted.
 ghost use Rattle.std.specs.Prelude.{◌≡◌, ◌+◌, ◌<◌};
 ghost use Rattle.turns.specs.Inner.Kept.{is_lower};
-ghost use Rattle.turns.specs.Inner.Finding.{letter_of, first_hour, end_hour};
+ghost use Rattle.turns.specs.Inner.Finding.{letter_of, pair_letter_of, first_hour, end_hour};
 
 use calendar::Window;
 use steps::StepKind;
 use units::{Bounds, Hour};
 
-// L moves the lower bound of S, U the upper.
+// L and F move the lower bound of S, U and B the upper.
 #[derive(Clone, Copy, PartialEq, Eq)]
 pub enum Side {
     Lower,
@@ -15,7 +15,7 @@ pub enum Side {
 }
 
 impl Side {
-    // The letter of the steps that move it.
+    // The letter of the steps that move it for an hour's load.
     #[tactic(auto, unfolding(crate::specs::Inner::Finding::letter_of))]
     pub fn letter(self) -> u8
         ensures { result ≡ letter_of (is_lower self) }
@@ -23,6 +23,17 @@ impl Side {
         match self {
             Side::Lower => StepKind::Lower.letter(),
             Side::Upper => StepKind::Upper.letter(),
+        }
+    }
+
+    // And of those that move it for a pair.
+    #[tactic(auto, unfolding(crate::specs::Inner::Finding::pair_letter_of))]
+    pub fn pair_letter(self) -> u8
+        ensures { result ≡ pair_letter_of (is_lower self) }
+    {
+        match self {
+            Side::Lower => StepKind::Forward.letter(),
+            Side::Upper => StepKind::Backward.letter(),
         }
     }
 

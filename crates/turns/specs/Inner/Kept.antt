@@ -6,7 +6,8 @@ use Rattle.units.specs.Choice.{◌and◌, some_of}
 use Rattle.units.specs.Limits.{most_tasks, with_earliest, with_latest}
 use Rattle.units.specs.Sums.{sum_where}
 use Rattle.units.specs.declared.Bounds.{Bounds}
-use Rattle.plan.specs.Plan.{Plan, task_count, room_part}
+use Rattle.units.specs.declared.Pair.{Pair}
+use Rattle.plan.specs.Plan.{Plan, room_count, task_count, capacity_of, heights_of, height_of, pair_of}
 use Rattle.plan.specs.Boxes.{bounds_at, with_bounds}
 use Rattle.plan.specs.Passed.{Passed}
 use Rattle.calendar.specs.declared.Window.{Window}
@@ -16,7 +17,7 @@ use Rattle.steps.specs.declared.Judged.{Judged}
 use Rattle.steps.specs.declared.Judged.TheVariants.{Unknown, NotAdmitted, Impossible, Moved}
 use Rattle.steps.specs.Load.{fit_at, must_run}
 use Rattle.steps.specs.Steps as steps
-use Rattle.steps.specs.Steps.{Kind, kind_c, kind_o, kind_l, kind_u, unknown_kind, kind_of, is_step, on_fit, same_bounds, Judgement}
+use Rattle.steps.specs.Steps.{Kind, kind_c, kind_o, kind_l, kind_u, kind_f, kind_b, unknown_kind, kind_of, is_step, on_fit, same_bounds, Judgement}
 use Rattle.steps.specs.Filter.{Admitted, stops, moves}
 use Rattle.turns.specs.declared.side.Side.{Side}
 use Rattle.turns.specs.declared.side.Side.TheVariants.{Lower, Upper}
@@ -58,6 +59,18 @@ upper_by w i b excess t =
     then (if ltb t (b.earliest.0 + b.shortest.0) then Impossible else Moved i (with_latest b (t - b.shortest.0)))
     else NotAdmitted
 
+-- F of a pair, of which the earlier task has the window w and the later one is task i with the bounds b; B of a pair, of which the later task has the
+-- window v and the earlier one is task i with the bounds b
+unfoldable pub forward_by : Window → ℕ → Bounds → Judged
+forward_by w i b =
+    if ltb b.earliest.0 (ect w) then (if ltb b.latest.0 (ect w) then Impossible else Moved i (with_earliest b (ect w))) else NotAdmitted
+
+unfoldable pub backward_by : Window → ℕ → Bounds → Judged
+backward_by v i b =
+    if ltb (lst v) (b.latest.0 + b.shortest.0)
+    then (if ltb (lst v) (b.earliest.0 + b.shortest.0) then Impossible else Moved i (with_latest b (lst v - b.shortest.0)))
+    else NotAdmitted
+
 -- of the code's two bounds of S, whether it is the lower
 abbrev pub is_lower : Side → Bool
 is_lower Lower = true
@@ -69,32 +82,41 @@ move_by true w i b excess t = lower_by w i b excess t
 move_by false w i b excess t = upper_by w i b excess t
 
 -- the excess of task i, in a room; in some room
-module _ (tasks : ℕ) (capacities heights : List ℕ) (fits : List (Option Window)) (w : Window) (i t : ℕ) where
+module _ (P : Plan) (fits : List (Option Window)) (w : Window) (i t : ℕ) where
   unfoldable pub excess_in : ℕ → Bool
-  excess_in room =
-      exceeds w (get_or (room_part tasks heights room) i 0) (load_of fits (room_part tasks heights room) t) (get_or capacities room 0) t
+  excess_in room = exceeds w (height_of P room i) (load_of fits (heights_of P room) t) (capacity_of P room) t
 
   unfoldable pub excess_by : Bool
-  excess_by = some_of excess_in (length capacities)
+  excess_by = some_of excess_in (room_count P)
 
--- a step, from H, the number of tasks, the capacities, the heights, the boxes and the answers kept
-module _ (hours tasks : ℕ) (capacities heights boxes : List ℕ) (fits : List (Option Window)) where
+-- a step, from the plan, the boxes and the answers kept
+module _ (P : Plan) (boxes : List ℕ) (fits : List (Option Window)) where
   unfoldable pub bound_by : Bool → ℕ → ℕ → Judged
   bound_by lower i t =
       on_fit (get_or fits i None) NotAdmitted
-      (λ w. move_by lower w i (bounds_at boxes i) (excess_by tasks capacities heights fits w i t) t)
+      (λ w. move_by lower w i (bounds_at boxes i) (excess_by P fits w i t) t)
+
+  -- F where the lower bound of S is to move, B where the upper is
+  unfoldable pub pair_by : Bool → Pair → Judged
+  pair_by true x =
+      on_fit (get_or fits x.earlier None) NotAdmitted
+      (λ w. on_fit (get_or fits x.later None) NotAdmitted (λ v. forward_by w x.later (bounds_at boxes x.later)))
+  pair_by false x =
+      on_fit (get_or fits x.earlier None) NotAdmitted
+      (λ w. on_fit (get_or fits x.later None) NotAdmitted (λ v. backward_by v x.earlier (bounds_at boxes x.earlier)))
 
   unfoldable pub judge_kind_by : Kind → ℕ → ℕ → Judged
   judge_kind_by kind_c i t = calendar_by (get_or fits i None) i (bounds_at boxes i)
-  judge_kind_by kind_o room t =
-      if ltb (get_or capacities room 0) (load_of fits (room_part tasks heights room) t) then Impossible else NotAdmitted
+  judge_kind_by kind_o room t = if ltb (capacity_of P room) (load_of fits (heights_of P room) t) then Impossible else NotAdmitted
   judge_kind_by kind_l i t = bound_by true i t
   judge_kind_by kind_u i t = bound_by false i t
+  judge_kind_by kind_f k t = pair_by true (pair_of P k)
+  judge_kind_by kind_b k t = pair_by false (pair_of P k)
   judge_kind_by unknown_kind i t = Unknown
 
   unfoldable pub judge_by : Step → Judged
   judge_by x =
-      if is_step (length capacities) tasks hours (kind_of x.kind) x.task x.hour
+      if is_step P (kind_of x.kind) x.task x.hour
       then judge_kind_by (kind_of x.kind) x.task x.hour
       else Unknown
 

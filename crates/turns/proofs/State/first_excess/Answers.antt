@@ -17,17 +17,17 @@ outer-init c = (refl, unfound-first)
 pub outer-preserved-in_default : goal.outer-preserved-in_default
 outer-preserved-in_default c =
     let inv = c.outer.invariant in
-    (inv.0, unfound-next inv.1 (rw c.tasks-i-end.ensures at c.outer-test.true) (never _ _ _ _ _ _ _ _ c.in_default.is))
+    (inv.0, unfound-next inv.1 (rw c.tasks-i-end.ensures at c.outer-test.true) (never _ _ _ _ _ c.in_default.is))
 
 pub loop-t-init : goal.loop-t-init
-loop-t-init c = (c.outer.invariant.0, early _ _ _ _ _ _ _ _ _ _ c.in-Some.is c.bounds_at-b.ensures _ c.first_hour-t.ensures)
+loop-t-init c = (c.outer.invariant.0, early _ _ _ _ _ _ _ c.in-Some.is c.bounds_at-b.ensures _ c.first_hour-t.ensures)
 
 pub loop-t-preserved : goal.loop-t-preserved
 loop-t-preserved c =
     let inv = c.loop-t.invariant in
     let there = rw c.tasks-i-end.ensures at c.outer-test.true in
     let tested =
-    test-hour _ _ _ _ _ _ _ _ _ _ c.in-Some.is c.bounds_at-b.ensures _ _ _ _ _ c.first_hour-t.ensures c.end_hour.ensures
+    test-hour _ _ _ _ _ _ _ c.in-Some.is c.bounds_at-b.ensures _ _ _ _ _ c.first_hour-t.ensures c.end_hour.ensures
     c.min-end.ensures c.loop-t.auto.t c.loop-t-test.true there c.has_excess.ensures in
     (inv.0, first_next _ _ inv.1 ∙ tested ∙ none-if _ _ c.if-has_excess.false)
 
@@ -36,7 +36,7 @@ outer-preserved c =
     let inv = c.loop-t.invariant in (
       inv.0,
       unfound-next c.outer.invariant.1 (rw c.tasks-i-end.ensures at c.outer-test.true)
-          (late _ _ _ _ _ _ _ _ _ _ c.in-Some.is c.bounds_at-b.ensures _ _ _ c.end_hour.ensures c.min-end.ensures c.loop-t-test.false inv.1),
+          (late _ _ _ _ _ _ _ c.in-Some.is c.bounds_at-b.ensures _ _ _ c.end_hour.ensures c.min-end.ensures c.loop-t-test.false inv.1),
     )
 
 pub returns-after-outer : goal.returns-after-outer
@@ -48,7 +48,7 @@ unfolding first_excess
 returns-then-has_excess c =
     let there = rw c.tasks-i-end.ensures at c.outer-test.true in
     let tested =
-    test-hour _ _ _ _ _ _ _ _ _ _ c.in-Some.is c.bounds_at-b.ensures _ _ _ _ _ c.first_hour-t.ensures c.end_hour.ensures
+    test-hour _ _ _ _ _ _ _ c.in-Some.is c.bounds_at-b.ensures _ _ _ _ _ c.first_hour-t.ensures c.end_hour.ensures
     c.min-end.ensures c.loop-t.auto.t c.loop-t-test.true there c.has_excess.ensures in
     let below : c.loop-t.t < c.args.self.now.plan.now.shifts.hours.0 = omega (arith, c.loop-t-test.true, c.min-end.ensures) in
     rw c.letter.ensures

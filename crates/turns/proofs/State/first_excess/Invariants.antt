@@ -12,7 +12,7 @@ abbrev pub invariant-loop-t : goal.invariant-loop-t
 invariant-loop-t l =
     let s = l.self in
     let P = plan_in s.plan.now in
-    let tested = at_hour P.shifts.hours (task_count P) P.capacities P.heights s.boxes.now s.fits.now (is_lower l.side) l.i in
+    let tested = at_hour P s.boxes.now s.fits.now (is_lower l.side) l.i in
     (l.found ≡ None) × (first_of tested l.t ≡ None)
 
 abbrev pub invariant-outer : goal.invariant-outer
@@ -20,4 +20,4 @@ invariant-outer l =
     let s = l.self in
     let P = plan_in s.plan.now in
     (l.found ≡ None)
-    × Unfound (of_task P.shifts.hours (task_count P) P.capacities P.heights s.boxes.now s.fits.now (is_lower l.side)) (task_count P) l.i
+    × Unfound (of_task P s.boxes.now s.fits.now (is_lower l.side)) (task_count P) l.i

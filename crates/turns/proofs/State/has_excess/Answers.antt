@@ -3,7 +3,7 @@ use native.Mathlib.Omega.{arith}
 use lib.ListN.{length}
 use Rattle.units.proofs.Choices.{some-hit}
 use Rattle.units.proofs.Searching.{unmet-first, unmet-next, unmet-end}
-use Rattle.plan.specs.Plan.{task_count, heights_of}
+use Rattle.plan.specs.Plan.{heights_of, height_of}
 use Rattle.plan.specs.Lent.{plan_in}
 use Rattle.plan.proofs.Passed.{room_in, room-length}
 use Rattle.turns.specs.Inner.Kept.{excess_in, excess_by}
@@ -36,19 +36,19 @@ exceeds-requires g c =
     load-most _ _ _ (c.args.self.now.ready.rooms_ready.room _ c.loop-room-test.true) _ _ load (rw c.heights_of.ensures at c.height_at-height.ensures)
 
 pub returns-then-exceeds : goal.returns-then-exceeds
-unfolding excess_by heights_of
+unfolding excess_by height_of
 returns-then-exceeds g c =
     let P = plan_in c.args.self.now.plan.now in
     let load = (c.requires.loads _ c.loop-room-test.true).1 _ c.load_in.ensures in
     let own = rw c.heights_of.ensures at c.height_at-height.ensures in
-    let tested = room-excess _ _ _ _ _ _ _ _ own load c.exceeds.ensures in
-    let test = excess_in (task_count P) P.capacities P.heights c.args.self.now.fits.now c.args.w c.args.i c.args.t.0 in
+    let tested = room-excess _ _ _ _ _ _ own load c.exceeds.ensures in
+    let test = excess_in P c.args.self.now.fits.now c.args.w c.args.i c.args.t.0 in
     sym (some-hit test _ _ c.loop-room-test.true (sym tested ∙ c.if-exceeds.true))
 
 pub loop-room-preserved : goal.loop-room-preserved
-unfolding heights_of
+unfolding height_of
 loop-room-preserved g c =
     let load = (c.requires.loads _ c.loop-room-test.true).1 _ c.load_in.ensures in
     let own = rw c.heights_of.ensures at c.height_at-height.ensures in
-    let tested = room-excess _ _ _ _ _ _ _ _ own load c.exceeds.ensures in
+    let tested = room-excess _ _ _ _ _ _ own load c.exceeds.ensures in
     unmet-next c.loop-room.invariant c.loop-room-test.true (sym tested ∙ c.if-exceeds.false)

@@ -1,5 +1,5 @@
 use Rattle.units.proofs.Searching.{Unmet}
-use Rattle.plan.specs.Plan.{task_count, room_count}
+use Rattle.plan.specs.Plan.{room_count}
 use Rattle.plan.specs.Lent.{plan_in}
 use Rattle.turns.specs.Inner.Kept.{excess_in}
 use Rattle.turns.proofs.State.has_excess.Given as goal
@@ -7,4 +7,4 @@ use Rattle.turns.proofs.State.has_excess.Given as goal
 abbrev pub invariant-loop-room : goal.invariant-loop-room
 invariant-loop-room g l =
     let P = plan_in l.self.plan.now in
-    Unmet (excess_in (task_count P) P.capacities P.heights l.self.fits.now l.w l.i l.t.0) (room_count P) l.room
+    Unmet (excess_in P l.self.fits.now l.w l.i l.t.0) (room_count P) l.room

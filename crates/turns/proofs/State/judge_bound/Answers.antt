@@ -9,14 +9,14 @@ use Rattle.turns.proofs.State.judge_bound.Goals as goal
 use Rattle.turns.proofs.State.judge_bound.Goals.{Else-not-has_excess, then-lt-via-then-lt, then-lt-via-else-lt+then-le}
 
 pub returns-in_default : goal.returns-in_default
-returns-in_default c hours = bound-never hours _ _ _ _ _ _ _ _ _ c.in_default.is refl
+returns-in_default c = bound-never _ _ _ _ _ _ _ c.in_default.is refl
 
 pub bounds_at-b-requires : goal.bounds_at-b-requires
 bounds_at-b-requires c = omega (arith, c.args.self.now.ready.sized, c.requires.0)
 
 pub returns-then-lt : goal.returns-then-lt
-returns-then-lt c hours =
-    bound-within hours _ _ _ _ _ _ _ _ _ _ _ c.in-Some.is c.bounds_at-b.ensures
+returns-then-lt c =
+    bound-within _ _ _ _ _ _ _ _ _ c.in-Some.is c.bounds_at-b.ensures
     (elim c.then-lt.branch [
       | then-lt-via-then-lt w ↦
           let early = before c.args.t.0 c.first_hour.result.0 (c.lt.ensures ∙ lt-cmp _ _) w.if-lt.true in
@@ -27,8 +27,8 @@ returns-then-lt c hours =
     ])
 
 pub returns-then-not-has_excess : goal.returns-then-not-has_excess
-returns-then-not-has_excess c hours =
-    bound-within hours _ _ _ _ _ _ _ _ _ _ _ c.in-Some.is c.bounds_at-b.ensures
+returns-then-not-has_excess c =
+    bound-within _ _ _ _ _ _ _ _ _ c.in-Some.is c.bounds_at-b.ensures
     (sym (move-none _ _ _ _ _ _ (sym c.has_excess.ensures ∙ c.if-not-has_excess.true)))
 
 -- past the tests the hour is one in which the step is admitted
@@ -41,15 +41,15 @@ admitted c =
     (omega (arith, c.first_hour.ensures, from), omega (arith, c.end_hour.ensures, below))
 
 pub returns-in-Lower : goal.returns-in-Lower
-returns-in-Lower c hours =
+returns-in-Lower c =
     let (from, below) = admitted (goal.at.returns-in-Lower c).Else-not-has_excess in
-    bound-within hours _ _ _ _ _ _ _ _ _ _ _ c.in-Some.is c.bounds_at-b.ensures
-    (c.judge_lower.ensures
+    bound-within _ _ _ _ _ _ _ _ _ c.in-Some.is c.bounds_at-b.ensures
+    (rw c.plus.ensures at c.judge_lower.ensures
     ∙ sym (move-lower _ _ _ _ _ _ from below (sym c.has_excess.ensures ∙ c.if-not-has_excess.false) (ap is_lower c.in-Lower.is)))
 
 pub returns-in-Upper : goal.returns-in-Upper
-returns-in-Upper c hours =
+returns-in-Upper c =
     let (from, below) = admitted (goal.at.returns-in-Upper c).Else-not-has_excess in
-    bound-within hours _ _ _ _ _ _ _ _ _ _ _ c.in-Some.is c.bounds_at-b.ensures
+    bound-within _ _ _ _ _ _ _ _ _ c.in-Some.is c.bounds_at-b.ensures
     (c.judge_upper.ensures
     ∙ sym (move-upper _ _ _ _ _ _ from below (sym c.has_excess.ensures ∙ c.if-not-has_excess.false) (ap is_lower c.in-Upper.is)))

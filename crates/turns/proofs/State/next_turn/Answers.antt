@@ -12,4 +12,4 @@ pub returns-clause-answer : goal.returns-clause-answer
 returns-clause-answer c k = turn-found _ _ _ k _ c.next_step.ensures _ _ c.in_ok-step.was c.judge_step-judged.ensures
 
 pub returns-clause-there : goal.returns-clause-there
-returns-clause-there c x i b e = moved-there _ _ _ _ _ _ _ _ i b c.judge_step-judged.ensures (judged-of e)
+returns-clause-there c x i b e = moved-there _ _ _ c.args.self.now.pairs_ready.pair i b _ _ c.judge_step-judged.ensures (judged-of e)

@@ -3,5 +3,6 @@ use Rattle.turns.proofs.judge.judge_lower.Goals as goal
 
 pub returns : goal.returns
 returns c =
-    moved-either _ c.args.b c.args.t.0 _ c.moved.ensures (lower-stops _ c.args.b c.args.t.0 _ _ c.plus.ensures c.starting_from.ensures)
-    (lower-moves _ c.args.b c.args.t.0 _ _ c.plus.ensures c.starting_from.ensures)
+    let a = c.args in
+    moved-either _ a.b a.earliest.0 _ c.moved.ensures (lower-stops _ a.b a.earliest.0 _ c.starting_from.ensures)
+    (lower-moves _ a.b a.earliest.0 _ c.starting_from.ensures)
