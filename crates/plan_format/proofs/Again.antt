@@ -9,7 +9,7 @@ use lib.ListN.{length, take}
 use lib.Seq.{take-append_seam}
 use Rattle.units.specs.Cells.{written}
 use Rattle.units.proofs.Choices.{option-case, else-none, neither}
-use Rattle.plan.specs.Plan.{Plan, room_count, task_count, calendar_count}
+use Rattle.plan.specs.Plan.{Plan, room_count, task_count, pair_count, calendar_count}
 use Rattle.plan.specs.Passed.{Passed}
 use Rattle.plan.specs.Refusals.{Answer, answered}
 use Rattle.plan.specs.Faults.{plan_fault, input_fault}
@@ -24,33 +24,48 @@ use Rattle.plan_format.proofs.Readings.{read_whole, not-refused}
 
 -- ---- read into memory
 
-module _ (rs cs ts ws hs bs : List ℕ) where
+module _ (rs cs ts ws hs ps bs : List ℕ) where
   module _ {P : Plan} {boxes : List ℕ} (p : Passed P boxes) where
     -- memory that is enough is not refused
-    no-fault : plan_fault P boxes ≡ None → is_enough rs cs ts ws hs bs ≡ true → read_fault (is_enough rs cs ts ws hs bs) (read_of P boxes) ≡ None
+    no-fault : plan_fault P boxes ≡ None → is_enough rs cs ts ws hs ps bs ≡ true → read_fault (is_enough rs cs ts ws hs ps bs) (read_of P boxes) ≡ None
     unfolding read_fault
     no-fault e enough = go_on _ 31 0 _ enough ∙ else-none _ _ (lines-pass p) ∙ ap₂ plan_fault (plan-held p) (boxes-held p) ∙ e
 
     -- and holds the plan
-    stored-plan : stored rs cs ts ws hs bs (read_of P boxes)
+    stored-plan : stored rs cs ts ws hs ps bs (read_of P boxes)
         ≡ end_with
-        (answered (record { hours = P.shifts.hours; rooms = room_count P; calendars = calendar_count P.shifts; tasks = task_count P }))
+        (answered
+        (record {
+          hours = P.shifts.hours;
+          rooms = room_count P;
+          calendars = calendar_count P.shifts;
+          tasks = task_count P;
+          pairs = pair_count P;
+        }))
         (written P.capacities rs)
         (written P.shifts.calendars cs)
         (written P.shifts.task_calendars ts)
         (written P.shifts.work_times ws)
         (written P.heights hs)
+        (written P.pairs ps)
         (written boxes bs)
     unfolding stored read_of
     stored-plan =
         λ k. end_with
         (answered
-        (record { hours = P.shifts.hours; rooms = room_count P; calendars = calendars-count P boxes k; tasks = tasks-count P boxes k }))
+        (record {
+          hours = P.shifts.hours;
+          rooms = room_count P;
+          calendars = calendars-count P boxes k;
+          tasks = tasks-count P boxes k;
+          pairs = pair_count (plan-held p k);
+        }))
         (written (plan-held p k).capacities rs)
         (written (plan-held p k).shifts.calendars cs)
         (written (plan-held p k).shifts.task_calendars ts)
         (written (plan-held p k).shifts.work_times ws)
         (written (plan-held p k).heights hs)
+        (written (plan-held p k).pairs ps)
         (written (boxes-held p k) bs)
 
 -- ---- the goals
@@ -72,10 +87,10 @@ reads-back P boxes e =
     record {
       short = short;
       again = (read_of P boxes, is, plan-held p, boxes-held p);
-      read = λ rs cs ts ws hs bs enough.
-          sym (read_whole rs cs ts ws hs bs _ _ is)
-          ∙ sym (not-refused rs cs ts ws hs bs _ (no-fault rs cs ts ws hs bs p (neither _ _ e).1 enough))
-          ∙ stored-plan rs cs ts ws hs bs p;
+      read = λ rs cs ts ws hs ps bs enough.
+          sym (read_whole rs cs ts ws hs ps bs _ _ is)
+          ∙ sym (not-refused rs cs ts ws hs ps bs _ (no-fault rs cs ts ws hs ps bs p (neither _ _ e).1 enough))
+          ∙ stored-plan rs cs ts ws hs ps bs p;
     }
 
 -- two plans that pass have two texts

@@ -16,12 +16,12 @@ use Rattle.text.specs.Fields.{lf}
 use Rattle.text.specs.Lines.{ended, line_of}
 use Rattle.text.specs.Putting.{Put}
 use Rattle.text.proofs.Puts.{put_both}
-use Rattle.plan.specs.Plan.{Shifts, Plan, shifts, room_count, task_count, calendar_count, calendar_at}
+use Rattle.plan.specs.Plan.{Shifts, Plan, shifts, room_count, task_count, pair_count, calendar_count, calendar_at}
 use Rattle.plan.specs.Passed.{Passed}
 use Rattle.plan.proofs.Passed.{calendar-hours}
 use Rattle.plan_format.specs.Records.{Record, cal_record, task_record, record_line}
 use Rattle.plan_format.specs.Text.{text_of}
-use Rattle.plan_format.specs.Writing.{cal_records, task_numbers, task_records, records_of, text_of_plan}
+use Rattle.plan_format.specs.Writing.{cal_records, task_numbers, task_records, after_records, records_of, text_of_plan}
 use Rattle.plan_format.proofs.Texts.{text-both}
 use Rattle.plan_format.proofs.Written.{numbers-count}
 
@@ -153,14 +153,28 @@ module _ (P : Plan) (boxes : List ℕ) where
   abbrev tasks : List ℕ
   tasks = text_of task_lines
 
-  -- the plan line, the calendars' lines, the tasks' lines
-  pub plan-text : text_of_plan P boxes ≡ first ++ calendars ++ tasks
+  abbrev pairs : List ℕ
+  pairs = text_of (after_records P (pair_count P))
+
+  -- the plan line, the calendars' lines, the tasks' lines, the pairs' lines
+  pub plan-text : text_of_plan P boxes ≡ first ++ calendars ++ tasks ++ pairs
   unfolding text_of_plan records_of text_of cal_records calendar_at line_of record_line
   plan-text =
-      ap (λ l. first ++ l) (text-both (cal_records P.shifts (calendar_count P.shifts)) task_lines) ∙ sym (append_assoc first calendars tasks)
+      let cals = cal_records P.shifts (calendar_count P.shifts) in
+      ap (λ l. first ++ l)
+      (text-both (cals ++ task_lines) (after_records P (pair_count P)) ∙ ap (λ l. l ++ pairs) (text-both cals task_lines))
+      ∙ sym (append_assoc first (calendars ++ tasks) pairs)
+      ∙ ap (λ l. l ++ pairs) (sym (append_assoc first calendars tasks))
 
-  pub plan-length : length (text_of_plan P boxes) ≡ length first + length calendars + length tasks
-  plan-length = ap length plan-text ∙ length-append (first ++ calendars) tasks ∙ ap (λ n. n + length tasks) (length-append first calendars)
+  pub plan-length : length (text_of_plan P boxes) ≡ length first + length calendars + length tasks + length pairs
+  plan-length =
+      omega (
+        arith,
+        ap length plan-text,
+        length-append (first ++ calendars ++ tasks) pairs,
+        length-append (first ++ calendars) tasks,
+        length-append first calendars,
+      )
 
   pub calendars-length : Passed P boxes → length calendars ≡ length P.shifts.calendars + 5 * calendar_count (alone P)
   calendars-length p =

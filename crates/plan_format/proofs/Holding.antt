@@ -8,10 +8,10 @@ use native.Mathlib.Nat.{mul-le-mul}
 use native.Mathlib.Omega.{arith}
 use lib.ListN.{length, get_or, length-map}
 use Rattle.units.specs.Choice.{on_option}
-use Rattle.units.specs.Limits.{most_hours, most_calendars, most_rooms, most_tasks}
+use Rattle.units.specs.Limits.{most_hours, most_calendars, most_rooms, most_tasks, most_pairs}
 use Rattle.units.proofs.Choices.{and_left, neither}
 use Rattle.units.proofs.Ranges.{to-most}
-use Rattle.plan.specs.Plan.{first_symbol}
+use Rattle.plan.specs.Plan.{first_symbol, pair_count}
 use Rattle.plan.specs.declared.Fault.{Fault}
 use Rattle.plan.specs.Refusals.{Answer, refused, answered, on_answer}
 use Rattle.plan.specs.Faults.{plan_fault}
@@ -27,9 +27,20 @@ pub record Holds (a : PlanRead) : Type 0 where
   pub tasks : a.tasks ≤ most_tasks
   pub symbols : first_symbol a.hours a.calendars ≤ most_symbols
   pub heights : a.rooms * a.tasks ≤ most_heights
+  pub pairs : a.pairs ≤ most_pairs
 
-fault-free : (enough : Bool) (r : Read) → read_fault enough r ≡ None
-    → Holds (record { hours = r.hours; rooms = length r.capacities; calendars = length r.calendars; tasks = length r.tasks })
+-- what is answered of a plan that was read
+abbrev answer_of : Read → PlanRead
+answer_of r =
+    record {
+      hours = r.hours;
+      rooms = length r.capacities;
+      calendars = length r.calendars;
+      tasks = length r.tasks;
+      pairs = pair_count (plan_in r);
+    }
+
+fault-free : (enough : Bool) (r : Read) → read_fault enough r ≡ None → Holds (answer_of r)
 unfolding read_fault line_fault plan_fault plan_in first_symbol
 fault-free enough r e =
     let after-31 = neither _ _ e in
@@ -46,31 +57,32 @@ fault-free enough r e =
       tasks = few;
       symbols = mul-le-mul c h;
       heights = mul-le-mul counts.rooms few;
+      pairs = counts.few_pairs;
     }
 
-module _ (capacities calendars task_calendars work_times heights boxes : List ℕ) where
-  from-tested : (r : Read) (a : PlanRead) → (read_tested capacities calendars task_calendars work_times heights boxes r).answer ≡ answered a → Holds a
+module _ (capacities calendars task_calendars work_times heights pairs boxes : List ℕ) where
+  from-tested : (r : Read) (a : PlanRead) → (read_tested capacities calendars task_calendars work_times heights pairs boxes r).answer ≡ answered a → Holds a
   unfolding read_tested on_option unread stored
-  from-tested r a e = go (read_fault (is_enough capacities calendars task_calendars work_times heights boxes) r) refl e
+  from-tested r a e = go (read_fault (is_enough capacities calendars task_calendars work_times heights pairs boxes) r) refl e
     where
-      go : (o : Option Fault) → read_fault (is_enough capacities calendars task_calendars work_times heights boxes) r ≡ o
-          → (on_option o (stored capacities calendars task_calendars work_times heights boxes r)
-          (unread capacities calendars task_calendars work_times heights boxes)).answer
+      go : (o : Option Fault) → read_fault (is_enough capacities calendars task_calendars work_times heights pairs boxes) r ≡ o
+          → (on_option o (stored capacities calendars task_calendars work_times heights pairs boxes r)
+          (unread capacities calendars task_calendars work_times heights pairs boxes)).answer
           ≡ answered a → Holds a
       go None q s =
-          let is : record { hours = r.hours; rooms = length r.capacities; calendars = length r.calendars; tasks = length r.tasks } ≡ a = cc in
+          let is : answer_of r ≡ a = cc in
           subst Holds is (fault-free _ r q)
       go (Some f) q s = refused≢answered s
 
   from-read : (o : Answer Read) (a : PlanRead)
-      → (on_answer o (unread capacities calendars task_calendars work_times heights boxes)
-      (read_tested capacities calendars task_calendars work_times heights boxes)).answer
+      → (on_answer o (unread capacities calendars task_calendars work_times heights pairs boxes)
+      (read_tested capacities calendars task_calendars work_times heights pairs boxes)).answer
       ≡ answered a → Holds a
   unfolding on_answer unread
   from-read (refused f) a e = refused≢answered e
   from-read (answered r) a e = from-tested r a e
 
   pub read-holds : (text : List ℕ) (a : PlanRead)
-      → answered a ≡ (read_plan capacities calendars task_calendars work_times heights boxes text).answer → Holds a
+      → answered a ≡ (read_plan capacities calendars task_calendars work_times heights pairs boxes text).answer → Holds a
   unfolding read_plan
   read-holds text a e = from-read (read_text text) a (sym e)

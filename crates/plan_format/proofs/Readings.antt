@@ -13,10 +13,10 @@ use Rattle.plan.specs.declared.Fault.{Fault}
 use Rattle.plan.specs.Refusals.{fault, refused, answered, on_answer}
 use Rattle.plan.proofs.Refusals.{refuse}
 use Rattle.plan_format.specs.Text.{Read, read_text}
-use Rattle.plan_format.specs.Reading.{most_symbols, most_heights, most_bounds, is_enough, read_fault, end_with, unread, stored, read_tested, read_plan}
+use Rattle.plan_format.specs.Reading.{most_symbols, most_heights, most_paired, most_bounds, is_enough, read_fault, end_with, unread, stored, read_tested, read_plan}
 
 -- the memory lent
-module _ (rs cs ts ws ks bs : List ℕ) where
+module _ (rs cs ts ws ks ps bs : List ℕ) where
   -- enough of it
   pub record Enough : Type 0 where
     pub capacities : most_rooms ≤ length rs
@@ -24,47 +24,50 @@ module _ (rs cs ts ws ks bs : List ℕ) where
     pub task_calendars : most_tasks ≤ length ts
     pub work_times : most_tasks ≤ length ws
     pub heights : most_heights ≤ length ks
+    pub pairs : most_paired ≤ length ps
     pub boxes : most_bounds ≤ length bs
 
-  pub enough : is_enough rs cs ts ws ks bs ≡ true → Enough
+  pub enough : is_enough rs cs ts ws ks ps bs ≡ true → Enough
   unfolding is_enough
   enough e =
       let after-capacities = and_right _ _ e in
       let after-calendars = and_right _ _ after-capacities in
       let after-tasks = and_right _ _ after-calendars in
       let after-work-times = and_right _ _ after-tasks in
+      let after-heights = and_right _ _ after-work-times in
       record {
         capacities = leb-true _ _ (and_left _ _ e);
         calendars = leb-true _ _ (and_left _ _ after-capacities);
         task_calendars = leb-true _ _ (and_left _ _ after-calendars);
         work_times = leb-true _ _ (and_left _ _ after-tasks);
         heights = leb-true _ _ (and_left _ _ after-work-times);
-        boxes = leb-true _ _ (and_right _ _ after-work-times);
+        pairs = leb-true _ _ (and_left _ _ after-heights);
+        boxes = leb-true _ _ (and_right _ _ after-heights);
       }
 
   module _ (text : List ℕ) where
-    pub read-malformed : (f : Fault) → read_text text ≡ refused f → end_with (refused f) rs cs ts ws ks bs ≡ read_plan rs cs ts ws ks bs text
+    pub read-malformed : (f : Fault) → read_text text ≡ refused f → end_with (refused f) rs cs ts ws ks ps bs ≡ read_plan rs cs ts ws ks ps bs text
     unfolding read_plan on_answer unread
     read-malformed f e = rw e
 
-    pub read_whole : (r : Read) → read_text text ≡ answered r → read_tested rs cs ts ws ks bs r ≡ read_plan rs cs ts ws ks bs text
+    pub read_whole : (r : Read) → read_text text ≡ answered r → read_tested rs cs ts ws ks ps bs r ≡ read_plan rs cs ts ws ks ps bs text
     unfolding read_plan on_answer
     read_whole r e = rw e
 
   module _ (r : Read) where
-    refused-by : (f : Fault) → read_fault (is_enough rs cs ts ws ks bs) r ≡ Some f
-        → end_with (refused f) rs cs ts ws ks bs ≡ read_tested rs cs ts ws ks bs r
+    refused-by : (f : Fault) → read_fault (is_enough rs cs ts ws ks ps bs) r ≡ Some f
+        → end_with (refused f) rs cs ts ws ks ps bs ≡ read_tested rs cs ts ws ks ps bs r
     unfolding read_tested on_option unread
     refused-by f e = rw e
 
-    pub too_small : is_enough rs cs ts ws ks bs ≡ false → end_with (refused (fault 31 0)) rs cs ts ws ks bs ≡ read_tested rs cs ts ws ks bs r
+    pub too_small : is_enough rs cs ts ws ks ps bs ≡ false → end_with (refused (fault 31 0)) rs cs ts ws ks ps bs ≡ read_tested rs cs ts ws ks ps bs r
     unfolding read_fault
     too_small e = refused-by (fault 31 0) (refuse _ 31 0 _ e)
 
-    pub not-passed : (f : Fault) → is_enough rs cs ts ws ks bs ≡ true → Some f ≡ read_fault true r
-        → end_with (refused f) rs cs ts ws ks bs ≡ read_tested rs cs ts ws ks bs r
+    pub not-passed : (f : Fault) → is_enough rs cs ts ws ks ps bs ≡ true → Some f ≡ read_fault true r
+        → end_with (refused f) rs cs ts ws ks ps bs ≡ read_tested rs cs ts ws ks ps bs r
     not-passed f e q = refused-by f (rw e (sym q))
 
-    pub not-refused : read_fault (is_enough rs cs ts ws ks bs) r ≡ None → stored rs cs ts ws ks bs r ≡ read_tested rs cs ts ws ks bs r
+    pub not-refused : read_fault (is_enough rs cs ts ws ks ps bs) r ≡ None → stored rs cs ts ws ks ps bs r ≡ read_tested rs cs ts ws ks ps bs r
     unfolding read_tested on_option
     not-refused e = rw e

@@ -1,7 +1,7 @@
 -- A plan's text, read again, holds the plan's records. Assumes nothing.
 use Rattle.std.specs.Prelude.{if◌then◌else◌}
 use mathlib.Core.Path.{◌≡◌, refl, ap, ◌∙◌}
-use mathlib.Core.Bool.{true, false}
+use mathlib.Core.Bool.{Bool, true, false}
 use Rattle.std.specs.Prelude.{Some}
 use mathlib.Core.List.{List, [], ◌++◌}
 use Prim.Native.Nat.{ℕ, zero, suc, ◌+◌, ◌≤◌, ◌<◌}
@@ -14,7 +14,7 @@ use Rattle.units.specs.Choice.{on_option}
 use Rattle.units.specs.Limits.{within}
 use Rattle.units.specs.Lists.{list_to}
 use Rattle.units.proofs.Choices.{if-case, if-all}
-use Rattle.plan.specs.Plan.{Plan, room_count, task_count, calendar_count, first_symbol, calendar_at}
+use Rattle.plan.specs.Plan.{Plan, room_count, task_count, pair_count, calendar_count, first_symbol, calendar_at, pair_of}
 use Rattle.plan.specs.HourKinds.{is_kind, is_symbol, regular, closed, overtime}
 use Rattle.plan.specs.Passed.{Passed}
 use Rattle.plan.specs.Refusals.{answered}
@@ -24,10 +24,13 @@ use Rattle.text.specs.Fields.{tab, lf, first_at}
 use Rattle.text.specs.Numbers.{most_number}
 use Rattle.text.proofs.Parting.{without-each}
 use Rattle.text.proofs.Lines.{Below}
-use Rattle.plan_format.specs.Records.{Record, cal_record, task_record}
-use Rattle.plan_format.specs.Text.{most_bytes, plan_section, cal_section, task_section, Read, nothing, comes, is_task_line, with_record, read_text}
-use Rattle.plan_format.specs.Writing.{cal_records, task_numbers, task_records, records_of, text_of_plan}
-use Rattle.plan_format.proofs.Written.{read_of, numbers-count, numbers-below, capacities-below}
+use Rattle.plan_format.specs.Records.{Record, cal_record, task_record, after_record}
+use Rattle.plan_format.specs.Text.{most_bytes, plan_section, cal_section, task_section, after_section, Read, nothing, comes, is_task_line}
+use Rattle.plan_format.specs.Text.{with_record, read_text}
+use Rattle.plan_format.specs.Reading.{joined}
+use Rattle.plan_format.specs.Writing.{cal_records, task_numbers, task_records, after_records, records_of, text_of_plan}
+use Rattle.plan_format.proofs.Written.{tasks_section, pairs_section, paired, pairs_to, read_of, numbers-count, numbers-below, paired-below, capacities-below}
+use Rattle.plan_format.proofs.Joined.{joined-more}
 use Rattle.plan_format.proofs.Lines.{Readable}
 use Rattle.plan_format.proofs.Texts.{Each, each_both, each_to, with_records, records-both, records-to, lines-read}
 
@@ -49,6 +52,9 @@ module _ (P : Plan) (boxes : List ℕ) where
 
   abbrev tasks : List Record
   tasks = task_records (room_count P) P.shifts.task_calendars P.shifts.work_times P.heights boxes (task_count P)
+
+  abbrev pairs : List Record
+  pairs = after_records P (pair_count P)
 
   abbrev numbers : ℕ → List ℕ
   numbers = task_numbers (room_count P) P.shifts.task_calendars P.shifts.work_times P.heights boxes
@@ -87,16 +93,20 @@ module _ (P : Plan) (boxes : List ℕ) where
     unfolding task_records Readable
     tasks-readable = each_to Readable _ _ (λ i l. (omega (arith, line-count i), numbers-below p (suc most_number) (omega arith) i l))
 
+    pairs-readable : Each Readable pairs
+    unfolding after_records Readable
+    pairs-readable = each_to Readable _ _ (λ k l. paired-below p (suc most_number) (omega arith) k l)
+
     records-readable : Each Readable (records_of P boxes)
     unfolding Each records_of Readable Below
     records-readable = (
       (omega (arith, p.hours), capacities-below p (suc most_number) (omega arith)),
-      each_both Readable calendars tasks calendars-readable tasks-readable,
+      each_both Readable (calendars ++ tasks) pairs (each_both Readable calendars tasks calendars-readable tasks-readable) pairs-readable,
     )
 
   -- ---- the records taken one after the other
 
-  -- what has been read after the plan line and n calendars, and after all calendars and n tasks
+  -- what has been read after the plan line and n calendars, after all calendars and n tasks, and after all tasks and n pairs
   abbrev after_calendars : ℕ → Read
   after_calendars n =
       record {
@@ -105,16 +115,29 @@ module _ (P : Plan) (boxes : List ℕ) where
         capacities = P.capacities;
         calendars = list_to (calendar_at P.shifts) n;
         tasks = [];
+        pairs = [];
       }
 
   abbrev after_tasks : ℕ → Read
   after_tasks n =
       record {
-        reached = if eqb n 0 then cal_section else task_section;
+        reached = tasks_section n;
         hours = P.shifts.hours;
         capacities = P.capacities;
         calendars = list_to (calendar_at P.shifts) (calendar_count P.shifts);
         tasks = list_to numbers n;
+        pairs = [];
+      }
+
+  abbrev after_pairs : ℕ → Read
+  after_pairs n =
+      record {
+        reached = pairs_section (task_count P) n;
+        hours = P.shifts.hours;
+        capacities = P.capacities;
+        calendars = list_to (calendar_at P.shifts) (calendar_count P.shifts);
+        tasks = list_to numbers (task_count P);
+        pairs = pairs_to P n;
       }
 
   calendar-taken : (k : ℕ) → with_record (after_calendars k) (cal_record (calendar_at P.shifts k)) ≡ Some (after_calendars (suc k))
@@ -132,7 +155,17 @@ module _ (P : Plan) (boxes : List ℕ) where
   task-taken zero = rw (is-line zero)
   task-taken (suc i) = rw (not_none i, not_none (suc i), is-line (suc i))
 
-  plan-taken : with_records nothing (records_of P boxes) ≡ with_records (after_calendars 0) (calendars ++ tasks)
+  -- the pairs may follow the calendars, where there is no task
+  may-follow : comes after_section (tasks_section (task_count P)) ≡ true
+  unfolding comes within
+  may-follow = if-all (λ (n : ℕ). comes after_section n ≡ true) (eqb (task_count P) 0) cal_section task_section (λ q. refl) (λ q. refl)
+
+  pair-taken : (k : ℕ) → with_record (after_pairs k) (after_record (pair_of P k).earlier (pair_of P k).later) ≡ Some (after_pairs (suc k))
+  unfolding with_record comes within list_to joined
+  pair-taken zero = rw may-follow
+  pair-taken (suc k) = rw (not_none k, not_none (suc k), joined-more (list_to (paired P) (suc k)) (paired P (suc k)))
+
+  plan-taken : with_records nothing (records_of P boxes) ≡ with_records (after_calendars 0) (calendars ++ tasks ++ pairs)
   unfolding records_of with_records with_record comes on_option list_to
   plan-taken = refl
 
@@ -141,19 +174,28 @@ module _ (P : Plan) (boxes : List ℕ) where
   unfolding list_to
   calendars-taken l = rw (ne_eqb (calendar_count P.shifts) 0 (λ e. omega arith))
 
+  tasks-taken : after_tasks (task_count P) ≡ after_pairs 0
+  unfolding list_to joined
+  tasks-taken = refl
+
   records-taken : 1 ≤ calendar_count P.shifts → with_records nothing (records_of P boxes) ≡ Some (read_of P boxes)
-  unfolding cal_records task_records read_of
+  unfolding cal_records task_records after_records read_of
   records-taken l =
       plan-taken
-      ∙ records-both calendars tasks (after_calendars 0) (after_calendars (calendar_count P.shifts))
+      ∙ records-both (calendars ++ tasks) pairs (after_calendars 0) (after_tasks (task_count P))
+      (records-both calendars tasks (after_calendars 0) (after_calendars (calendar_count P.shifts))
       (records-to _ after_calendars calendar-taken (calendar_count P.shifts))
       ∙ ap (λ r. with_records r tasks) (calendars-taken l)
-      ∙ records-to _ after_tasks task-taken (task_count P)
+      ∙ records-to _ after_tasks task-taken (task_count P))
+      ∙ ap (λ r. with_records r pairs) tasks-taken
+      ∙ records-to _ after_pairs pair-taken (pair_count P)
 
   -- the text has begun
   begun : plan_section ≤ (read_of P boxes).reached
   unfolding read_of
-  begun = if-all (λ (n : ℕ). plan_section ≤ n) (eqb (task_count P) 0) cal_section task_section (λ q. omega arith) (λ q. omega arith)
+  begun =
+      let low : (t : Bool) (a b : ℕ) → 1 ≤ a → 1 ≤ b → 1 ≤ (if t then a else b) = λ t a b h k. if-all (λ (n : ℕ). plan_section ≤ n) t a b (λ q. h) (λ q. k) in
+      low (eqb (pair_count P) 0) _ _ (low (eqb (task_count P) 0) _ _ (omega arith) (omega arith)) (omega arith)
 
   pub text-read : Passed P boxes → length (text_of_plan P boxes) ≤ most_bytes → read_text (text_of_plan P boxes) ≡ answered (read_of P boxes)
   unfolding read_text text_of_plan

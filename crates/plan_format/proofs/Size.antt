@@ -6,25 +6,25 @@ use native.Mathlib.Nat.{suc-mul}
 use native.Mathlib.Numerals.{add-one}
 use native.Mathlib.Omega.{arith}
 use lib.ListN.{length, get_or, length-append}
-use Rattle.units.specs.Limits.{most_hours, most_calendars, most_rooms, most_tasks, box_numbers}
+use Rattle.units.specs.Limits.{most_hours, most_calendars, most_rooms, most_tasks, most_pairs, box_numbers, pair_numbers}
 use Rattle.units.specs.Lists.{list_to}
-use Rattle.text.specs.Words.{word_plan, word_task}
+use Rattle.text.specs.Words.{word_plan, word_task, word_after}
 use Rattle.text.specs.Numbers.{decimal_text}
 use Rattle.text.specs.Lines.{number_fields, ended, line_of}
 use Rattle.text.proofs.Decimals.{reach, decimal-width}
 use Rattle.text.proofs.Lines.{Below, fields-width, line-length}
-use Rattle.plan.specs.Plan.{Plan, room_count, task_count, calendar_count, calendar_at}
+use Rattle.plan.specs.Plan.{Plan, room_count, task_count, pair_count, calendar_count, calendar_at, pair_of}
 use Rattle.plan.specs.Boxes.{bounds_at, box_cells}
 use Rattle.plan.specs.Passed.{Passed}
 use Rattle.plan.proofs.Passed.{calendar-hours}
-use Rattle.plan_format.specs.Records.{Record, task_record, record_line}
+use Rattle.plan_format.specs.Records.{Record, task_record, after_record, record_line}
 use Rattle.plan_format.specs.Text.{most_bytes, text_of}
-use Rattle.plan_format.specs.Writing.{cal_records, heights_at, task_numbers, task_records, text_of_plan}
+use Rattle.plan_format.specs.Writing.{cal_records, heights_at, task_numbers, task_records, after_records, text_of_plan}
 use Rattle.plan_format.proofs.Growing.{cal-length, text-none, text-longer, alone, plan-length}
-use Rattle.plan_format.proofs.Written.{numbers-count, numbers-below, capacities-below}
+use Rattle.plan_format.proofs.Written.{paired, numbers-count, numbers-below, paired-below, capacities-below}
 
 -- The most bytes of a line, with its LF: a word, a tab before each field, and no more digits than the limits have. H has 4 and each capacity 5; a
--- task's calendar has 2, and each number after it 4: p, the height in each room, and the six bounds.
+-- task's calendar has 2, and each number after it 4: p, the height in each room, and the six bounds. Each task of a pair has 2.
 abbrev pub most_plan_line : ℕ
 most_plan_line = 4 + (1 + 4) + most_rooms * (1 + 5) + 1
 
@@ -34,11 +34,14 @@ most_cal_line = 3 + (1 + most_hours) + 1
 abbrev pub most_task_line : ℕ
 most_task_line = 4 + (1 + 2) + (1 + most_rooms + box_numbers) * (1 + 4) + 1
 
+abbrev pub most_pair_line : ℕ
+most_pair_line = 5 + pair_numbers * (1 + 2) + 1
+
 -- and of a text
 abbrev pub most_text : ℕ
-most_text = most_plan_line + most_calendars * most_cal_line + most_tasks * most_task_line
+most_text = most_plan_line + most_calendars * most_cal_line + most_tasks * most_task_line + most_pairs * most_pair_line
 
-pub most-text : most_text ≡ 21578
+pub most-text : most_text ≡ 24650
 most-text = refl
 
 -- ---- line by line
@@ -95,6 +98,14 @@ module _ (P : Plan) (boxes : List ℕ) (p : Passed P boxes) where
   unfolding task_records
   tasks-size = lines-size _ (task_count P) most_task_line task-width
 
+  pair-width : (k : ℕ) → k < pair_count P → length (ended (record_line (after_record (pair_of P k).earlier (pair_of P k).later))) ≤ most_pair_line
+  unfolding record_line line_of
+  pair-width k l = omega (arith, line-length word_after (paired P k), fields-width 1 (paired P k) (paired-below p (reach 2) (omega arith) k l))
+
+  pairs-size : length (text_of (after_records P (pair_count P))) ≤ pair_count P * most_pair_line
+  unfolding after_records
+  pairs-size = lines-size _ (pair_count P) most_pair_line pair-width
+
   -- ---- all
 
   pub text-size : length (text_of_plan P boxes) ≤ most_text
@@ -107,6 +118,8 @@ module _ (P : Plan) (boxes : List ℕ) (p : Passed P boxes) where
         few,
         tasks-size,
         p.tasks,
+        pairs-size,
+        p.few_pairs,
       )
 
   pub text-short : length (text_of_plan P boxes) ≤ most_bytes

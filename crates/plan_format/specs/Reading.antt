@@ -1,6 +1,5 @@
 -- Reading a plan as an entry point: the text's plan, its refusals in their order, and what lent memory holds after (01, "Plan text and
--- listing", "Refused because of the state"; rooms: 02, W-202; the box of a line without bounds: W-205; pairs:
--- W-206).
+-- listing", "Refused because of the state"; rooms: 02, W-202; the box of a line without bounds: W-205; pairs: W-206).
 use Rattle.std.specs.Prelude.{Bool, true, List, [], ◌∷◌, ◌++◌, map, ℕ, ◌+◌, ◌-◌, ◌*◌, leb, eqb, length, get_or, drop, if◌then◌else◌}
 use Rattle.std.specs.Prelude.{Option}
 use Rattle.units.specs.Cells.{written}

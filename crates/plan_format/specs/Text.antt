@@ -1,5 +1,5 @@
--- Plan text, line by line (01, "Plan text and listing"; rooms: 02, W-202; pairs: W-206). Read: the first line that breaks the rules, or the plan's records.
--- Written: each record's line.
+-- Plan text, line by line (01, "Plan text and listing"; rooms: 02, W-202; pairs: W-206). Read: the first line that breaks the rules, or the plan's
+-- records. Written: each record's line.
 use Rattle.std.specs.Prelude.{Bool, true, List, [], ◌∷◌, ◌++◌, ℕ, ◌+◌, leb, eqb, length, take, if◌then◌else◌}
 use Rattle.std.specs.Prelude.{Option, None}
 use Rattle.units.specs.Choice.{◌and◌, some_if, on_option}

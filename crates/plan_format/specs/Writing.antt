@@ -1,5 +1,5 @@
--- Writing a plan as text (02, W-201; rooms: W-202; pairs: W-206): the plan's records, its text, the refusals in their order, what lent memory holds after, and that the text
--- read again is the plan.
+-- Writing a plan as text (02, W-201; rooms: W-202; pairs: W-206): the plan's records, its text, the refusals in their order, what lent memory holds
+-- after, and that the text read again is the plan.
 use Rattle.std.specs.Prelude.{true, List, ◌∷◌, ◌++◌, ◌≡◌, ℕ, ◌≤◌, leb, length, get_or}
 use Rattle.std.specs.Prelude.{Option}
 use Rattle.units.specs.Cells.{written}
