@@ -27,7 +27,8 @@ use Rattle.plan_format.proofs.Readings.{read_whole, not-refused}
 module _ (rs cs ts ws hs ps bs : List ℕ) where
   module _ {P : Plan} {boxes : List ℕ} (p : Passed P boxes) where
     -- memory that is enough is not refused
-    no-fault : plan_fault P boxes ≡ None → is_enough rs cs ts ws hs ps bs ≡ true → read_fault (is_enough rs cs ts ws hs ps bs) (read_of P boxes) ≡ None
+    no-fault : plan_fault P boxes ≡ None → is_enough rs cs ts ws hs ps bs ≡ true
+        → read_fault (is_enough rs cs ts ws hs ps bs) (read_of P boxes) ≡ None
     unfolding read_fault
     no-fault e enough = go_on _ 31 0 _ enough ∙ else-none _ _ (lines-pass p) ∙ ap₂ plan_fault (plan-held p) (boxes-held p) ∙ e
 

@@ -18,7 +18,8 @@ use Rattle.plan.specs.Faults.{plan_fault}
 use Rattle.plan.proofs.Refusals.{unless-none, refused≢answered}
 use Rattle.plan.proofs.Passed.{counts-passed}
 use Rattle.plan_format.specs.Text.{Read, read_text}
-use Rattle.plan_format.specs.Reading.{plan_in, most_symbols, most_heights, line_fault, read_fault, is_enough, PlanRead, unread, stored, read_tested, read_plan}
+use Rattle.plan_format.specs.Reading.{plan_in, most_symbols, most_heights, line_fault, read_fault, is_enough, PlanRead}
+use Rattle.plan_format.specs.Reading.{unread, stored, read_tested, read_plan}
 
 pub record Holds (a : PlanRead) : Type 0 where
   pub hours : a.hours ≤ most_hours
@@ -61,7 +62,8 @@ fault-free enough r e =
     }
 
 module _ (capacities calendars task_calendars work_times heights pairs boxes : List ℕ) where
-  from-tested : (r : Read) (a : PlanRead) → (read_tested capacities calendars task_calendars work_times heights pairs boxes r).answer ≡ answered a → Holds a
+  from-tested : (r : Read) (a : PlanRead)
+      → (read_tested capacities calendars task_calendars work_times heights pairs boxes r).answer ≡ answered a → Holds a
   unfolding read_tested on_option unread stored
   from-tested r a e = go (read_fault (is_enough capacities calendars task_calendars work_times heights pairs boxes) r) refl e
     where

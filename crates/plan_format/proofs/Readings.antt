@@ -13,7 +13,8 @@ use Rattle.plan.specs.declared.Fault.{Fault}
 use Rattle.plan.specs.Refusals.{fault, refused, answered, on_answer}
 use Rattle.plan.proofs.Refusals.{refuse}
 use Rattle.plan_format.specs.Text.{Read, read_text}
-use Rattle.plan_format.specs.Reading.{most_symbols, most_heights, most_paired, most_bounds, is_enough, read_fault, end_with, unread, stored, read_tested, read_plan}
+use Rattle.plan_format.specs.Reading.{most_symbols, most_heights, most_paired, most_bounds, is_enough, read_fault, end_with}
+use Rattle.plan_format.specs.Reading.{unread, stored, read_tested, read_plan}
 
 -- the memory lent
 module _ (rs cs ts ws ks ps bs : List ℕ) where

@@ -1,7 +1,7 @@
 -- A plan's text, read again, holds the plan's records. Assumes nothing.
 use Rattle.std.specs.Prelude.{if◌then◌else◌}
 use mathlib.Core.Path.{◌≡◌, refl, ap, ◌∙◌}
-use mathlib.Core.Bool.{Bool, true, false}
+use mathlib.Core.Bool.{true, false}
 use Rattle.std.specs.Prelude.{Some}
 use mathlib.Core.List.{List, [], ◌++◌}
 use Prim.Native.Nat.{ℕ, zero, suc, ◌+◌, ◌≤◌, ◌<◌}
@@ -29,7 +29,8 @@ use Rattle.plan_format.specs.Text.{most_bytes, plan_section, cal_section, task_s
 use Rattle.plan_format.specs.Text.{with_record, read_text}
 use Rattle.plan_format.specs.Reading.{joined}
 use Rattle.plan_format.specs.Writing.{cal_records, task_numbers, task_records, after_records, records_of, text_of_plan}
-use Rattle.plan_format.proofs.Written.{tasks_section, pairs_section, paired, pairs_to, read_of, numbers-count, numbers-below, paired-below, capacities-below}
+use Rattle.plan_format.proofs.Written.{tasks_section, pairs_section, paired, pairs_to, read_of}
+use Rattle.plan_format.proofs.Written.{numbers-count, numbers-below, paired-below, capacities-below}
 use Rattle.plan_format.proofs.Joined.{joined-more}
 use Rattle.plan_format.proofs.Lines.{Readable}
 use Rattle.plan_format.proofs.Texts.{Each, each_both, each_to, with_records, records-both, records-to, lines-read}
@@ -194,8 +195,10 @@ module _ (P : Plan) (boxes : List ℕ) where
   begun : plan_section ≤ (read_of P boxes).reached
   unfolding read_of
   begun =
-      let low : (t : Bool) (a b : ℕ) → 1 ≤ a → 1 ≤ b → 1 ≤ (if t then a else b) = λ t a b h k. if-all (λ (n : ℕ). plan_section ≤ n) t a b (λ q. h) (λ q. k) in
-      low (eqb (pair_count P) 0) _ _ (low (eqb (task_count P) 0) _ _ (omega arith) (omega arith)) (omega arith)
+      let begins : ℕ → Type 0 = λ n. plan_section ≤ n in
+      if-all begins (eqb (pair_count P) 0) _ after_section
+      (λ q. if-all begins (eqb (task_count P) 0) cal_section task_section (λ q. omega arith) (λ q. omega arith))
+      (λ q. omega arith)
 
   pub text-read : Passed P boxes → length (text_of_plan P boxes) ≤ most_bytes → read_text (text_of_plan P boxes) ≡ answered (read_of P boxes)
   unfolding read_text text_of_plan

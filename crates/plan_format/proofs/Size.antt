@@ -3,7 +3,6 @@ use mathlib.Core.Path.{◌≡◌, refl, ap}
 use mathlib.Core.List.{List, ◌∷◌, ◌++◌}
 use Prim.Native.Nat.{ℕ, zero, suc, ◌+◌, ◌*◌, ◌≤◌, ◌<◌}
 use native.Mathlib.Nat.{suc-mul}
-use native.Mathlib.Numerals.{add-one}
 use native.Mathlib.Omega.{arith}
 use lib.ListN.{length, get_or, length-append}
 use Rattle.units.specs.Limits.{most_hours, most_calendars, most_rooms, most_tasks, most_pairs, box_numbers, pair_numbers}
@@ -20,7 +19,7 @@ use Rattle.plan.proofs.Passed.{calendar-hours}
 use Rattle.plan_format.specs.Records.{Record, task_record, after_record, record_line}
 use Rattle.plan_format.specs.Text.{most_bytes, text_of}
 use Rattle.plan_format.specs.Writing.{cal_records, heights_at, task_numbers, task_records, after_records, text_of_plan}
-use Rattle.plan_format.proofs.Growing.{cal-length, text-none, text-longer, alone, plan-length}
+use Rattle.plan_format.proofs.Growing.{cal-length, text-none, text_last, alone, plan-length}
 use Rattle.plan_format.proofs.Written.{paired, numbers-count, numbers-below, paired-below, capacities-below}
 
 -- The most bytes of a line, with its LF: a word, a tab before each field, and no more digits than the limits have. H has 4 and each capacity 5; a
@@ -56,7 +55,7 @@ lines-size : (f : ℕ → Record) (n most : ℕ) → ((i : ℕ) → i < n → le
     → length (text_of (list_to f n)) ≤ n * most
 lines-size f zero most e = omega (arith, ap length (text-none f))
 lines-size f (suc n) most e =
-    omega (arith, rw add-one at (text-longer f n), lines-size f n most (λ i l. e i (omega arith)), e n (omega arith), suc-mul n most)
+    omega (arith, text_last f n, lines-size f n most (λ i l. e i (omega arith)), e n (omega arith), suc-mul n most)
 
 module _ (P : Plan) (boxes : List ℕ) (p : Passed P boxes) where
   plan-width : length (line_of word_plan (P.shifts.hours ∷ P.capacities)) ≤ most_plan_line

@@ -9,14 +9,15 @@ use Rattle.text.specs.Words.{word_plan}
 use Rattle.text.specs.Lines.{line_of}
 use Rattle.text.specs.Putting.{Put}
 use Rattle.text.proofs.Puts.{put_both}
-use Rattle.plan.specs.Plan.{Plan, task_count, calendar_count, calendar_at}
+use Rattle.plan.specs.Plan.{Plan, task_count, pair_count, calendar_count, calendar_at}
 use Rattle.plan.specs.Passed.{Passed}
 use Rattle.plan.proofs.Passed.{input-passed}
 use Rattle.plan.proofs.Refusals.{refused-on}
 use Rattle.plan_format.specs.Writing.{cal_records, text_of_plan}
-use Rattle.plan_format.proofs.Growing.{tasks-none, numbers-length, tasks-longer, cal-length, plan-text, plan-length, calendars-length}
+use Rattle.plan_format.proofs.Written.{numbers-count}
+use Rattle.plan_format.proofs.Growing.{text-none, text-longer, cal-length, task-line, pair-line, plan-text, plan-length, calendars-length}
 use Rattle.plan_format.proofs.Writings.{writes-refused, writes_short}
-use Rattle.plan_writing.specs.Inner.Sections.{calendars_text, tasks_text}
+use Rattle.plan_writing.specs.Inner.Sections.{calendars_text, tasks_text, pairs_text}
 
 module _ (P : Plan) (boxes : List ℕ) {numbers : List ℕ} (e : numbers ≡ P.shifts.hours ∷ P.capacities) where
   abbrev first : List ℕ
@@ -28,24 +29,29 @@ module _ (P : Plan) (boxes : List ℕ) {numbers : List ℕ} (e : numbers ≡ P.s
   abbrev tasks : List ℕ
   tasks = tasks_text P boxes (task_count P)
 
-  text_sections : text_of_plan P boxes ≡ first ++ calendars ++ tasks
+  abbrev pairs : List ℕ
+  pairs = pairs_text P (pair_count P)
+
+  text_sections : text_of_plan P boxes ≡ first ++ calendars ++ tasks ++ pairs
   unfolding cal_records calendar_at
   text_sections = rw e (plan-text P boxes)
 
-  pub sections_length : length (text_of_plan P boxes) ≡ length first + length calendars + length tasks
+  pub sections_length : length (text_of_plan P boxes) ≡ length first + length calendars + length tasks + length pairs
   unfolding cal_records calendar_at
   sections_length = rw e (plan-length P boxes)
 
-  pub put_sections : {m n k : ℕ} {cells l1 l2 l3 : List ℕ} → Put first 0 cells m l1 → Put calendars m l1 n l2 → Put tasks n l2 k l3
-      → Put (text_of_plan P boxes) 0 cells k l3
-  put_sections p q r = rw text_sections (put_both (omega arith) (put_both (omega arith) p q) r)
+  pub put_sections : {i j m n : ℕ} {cells l1 l2 l3 l4 : List ℕ} → Put first 0 cells i l1 → Put calendars i l1 j l2 → Put tasks j l2 m l3
+      → Put pairs m l3 n l4 → Put (text_of_plan P boxes) 0 cells n l4
+  put_sections p q r s = rw text_sections (put_both (omega arith) (put_both (omega arith) (put_both (omega arith) p q) r) s)
 
   pub sections_counted : Passed P boxes
-      → length (text_of_plan P boxes) ≡ length first + (length P.shifts.calendars + 5 * calendar_count P.shifts) + length tasks
+      → length (text_of_plan P boxes) ≡ length first + (length P.shifts.calendars + 5 * calendar_count P.shifts) + length tasks + length pairs
   sections_counted p = rw e (omega (arith, plan-length P boxes, calendars-length P boxes p))
 
--- for the loop that counts the tasks' lines, and for a calendar's line
-pub ruleset tasks_counted = (tasks-none, numbers-length, tasks-longer)
+-- for the loops that count the lines of the tasks and of the pairs, and for a calendar's line
+pub ruleset tasks_counted = (text-none, text-longer, task-line, numbers-count)
+
+pub ruleset pairs_counted = (text-none, text-longer, pair-line)
 
 pub ruleset calendar_counted = (cal-length)
 

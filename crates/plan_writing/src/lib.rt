@@ -1,23 +1,23 @@
 // Plan text: writing a plan.
 #![tactic(auto)]
 
-ghost use Rattle.std.specs.Prelude.{◌∷◌, ◌≡◌, ℕ, ◌+◌, ◌*◌, ◌≤◌, ◌<◌, length, take};
+ghost use Rattle.std.specs.Prelude.{[], ◌∷◌, ◌≡◌, ℕ, ◌+◌, ◌*◌, ◌≤◌, ◌<◌, length, take};
 ghost use Rattle.units.specs.Limits.{most_calendars, most_rooms};
 ghost use Rattle.text.specs.Lines.{ended};
 ghost use Rattle.text.specs.Putting.{Put};
-ghost use Rattle.plan.specs.Plan.{room_count, task_count, calendar_count};
+ghost use Rattle.plan.specs.Plan.{room_count, task_count, pair_count, calendar_count, pair_of};
 ghost use Rattle.plan.specs.Refusals.{answered, answer_of};
 ghost use Rattle.plan.specs.Lent.{shifts_in, plan_in};
 ghost use Rattle.plan_format.specs.Records.{cal_record, record_line};
 ghost use Rattle.plan_format.specs.Writing.{text_of_plan, write_end, write_plan, ReadsBack};
-ghost use Rattle.plan_writing.specs.Inner.Sections.{calendars_text, numbers_at, tasks_text};
+ghost use Rattle.plan_writing.specs.Inner.Sections.{calendars_text, numbers_at, tasks_text, pairs_text};
 
 use input::Tested;
 use plan::{Plan, Refusal, Shifts, bounds_at, box_cells};
 use text::LF;
 use text::lengths::line_length;
 use text::put::{put_all, put_byte, put_line};
-use units::{Bounds, MOST_ROOMS};
+use units::{Bounds, MOST_ROOMS, Pair};
 
 // How many numbers a line has at most: of the plan H and a capacity for each room, of a task its calendar, its work time, a height in each room and
 // six bounds.
@@ -60,7 +60,7 @@ fn task_numbers<'a>(
 }
 
 // How many bytes the tasks' lines have, 350 a line at most.
-#[tactic(auto, using(crate::proofs::Sections::tasks_counted))]
+#[tactic(auto, using(crate::proofs::Sections::tasks_counted), unfolding(plan_format::specs::Writing::task_records))]
 fn tasks_length(tested: &Tested) -> usize
     ensures { let P = plan_in tested.now.plan.now in
         (result ≡ length (tasks_text P tested.now.boxes.now (task_count P))) × (result ≤ 350 * task_count P) }
@@ -70,6 +70,29 @@ fn tasks_length(tested: &Tested) -> usize
     // By number: what a task has lies in several lent slices.
     for i in 0..tested.plan.tasks() {
         bytes += line_length(b"task", task_numbers(tested, i, &mut numbers));
+    }
+    bytes
+}
+
+// The numbers of the line of pair k: the earlier task, then the later.
+fn pair_numbers(tested: &Tested, k: usize) -> [usize; Pair::NUMBERS]
+    requires { k < pair_count (plan_in tested.now.plan.now) }
+    ensures { let x = pair_of (plan_in tested.now.plan.now) k in result ≡ x.earlier ∷ x.later ∷ [] }
+{
+    let pair = tested.plan.pair_of(k);
+    [pair.earlier as usize, pair.later as usize]
+}
+
+// How many bytes the pairs' lines have, 350 a line at most.
+#[tactic(auto, using(crate::proofs::Sections::pairs_counted), unfolding(plan_format::specs::Writing::after_records))]
+fn pairs_length(tested: &Tested) -> usize
+    ensures { let P = plan_in tested.now.plan.now in
+        (result ≡ length (pairs_text P (pair_count P))) × (result ≤ 350 * pair_count P) }
+{
+    let mut bytes = 0;
+    // By number: a pair is two numbers of a lent slice.
+    for k in 0..tested.plan.pair_count() {
+        bytes += line_length(b"after", &pair_numbers(tested, k));
     }
     bytes
 }
@@ -86,7 +109,7 @@ fn text_length(tested: &Tested) -> usize
     let mut numbers = [0; PLAN_NUMBERS];
     let first = line_length(b"plan", plan_numbers(plan, &mut numbers));
     let symbols = plan.shifts.calendars.len() + CALENDAR_FRAME * plan.shifts.calendar_count();
-    first + symbols + tasks_length(tested)
+    first + symbols + tasks_length(tested) + pairs_length(tested)
 }
 
 // The line of a calendar.
@@ -133,7 +156,20 @@ fn put_tasks(out: &mut [u8], at: usize, tested: &Tested) -> usize
     end
 }
 
-// The plan's text: the plan line, the calendars' lines, the tasks' lines.
+// The lines of the pairs.
+fn put_pairs(out: &mut [u8], at: usize, tested: &Tested) -> usize
+    requires { let P = plan_in tested.now.plan.now in at + length (pairs_text P (pair_count P)) ≤ length out.old }
+    ensures { let P = plan_in tested.now.plan.now in Put (pairs_text P (pair_count P)) at out.old result out.new }
+{
+    let mut end = at;
+    // By number, as `pairs_length` counts them.
+    for k in 0..tested.plan.pair_count() {
+        end = put_line(out, end, b"after", &pair_numbers(tested, k));
+    }
+    end
+}
+
+// The plan's text: the plan line, the calendars' lines, the tasks' lines, the pairs' lines.
 #[tactic(auto, using(crate::proofs::Sections::sections_length))]
 fn put_text(tested: &Tested, out: &mut [u8]) -> usize
     requires { length (text_of_plan (plan_in tested.now.plan.now) tested.now.boxes.now) ≤ length out.old }
@@ -143,7 +179,8 @@ fn put_text(tested: &Tested, out: &mut [u8]) -> usize
     let mut numbers = [0; PLAN_NUMBERS];
     let first = put_line(out, 0, b"plan", plan_numbers(plan, &mut numbers));
     let middle = put_calendars(out, first, &plan.shifts);
-    put_tasks(out, middle, tested)
+    let last = put_tasks(out, middle, tested);
+    put_pairs(out, last, tested)
 }
 
 // Writes a plan as text, every task line with all its bounds, and answers how long the text is. The memory lent stays as it is until the plan has

@@ -1,26 +1,24 @@
-use Prim.Native.Nat.{◌<◌}
 use native.Mathlib.Omega.{arith}
 use Rattle.text.proofs.Puts.{put-none}
-use Rattle.plan.specs.Plan.{calendar_count}
 use Rattle.plan.specs.Lent.{shifts_in}
 use Rattle.plan.proofs.Passed.{calendar-in}
-use Rattle.plan_format.proofs.Growing.{cals-none, cals-room, cals-put}
+use Rattle.plan_format.specs.Writing.{cal_records}
+use Rattle.plan_format.proofs.Growing.{text-none, text-put, text-room, cal-line}
 use Rattle.plan_writing.proofs.put_calendars.Goals as goal
 
 pub loop-k-init : goal.loop-k-init
-loop-k-init c = rw (cals-none _) (put-none _ _)
+unfolding cal_records
+loop-k-init c = rw (text-none _) (put-none _ _)
 
 pub calendar_at-requires : goal.calendar_at-requires
 calendar_at-requires c = calendar-in (shifts_in c.args.shifts.now) _ (omega (arith, c.loop-k-test.true, c.calendar_count-k-end.ensures))
 
 pub put_calendar-end-requires : goal.put_calendar-end-requires
+unfolding cal_records
 put_calendar-end-requires c =
-    let S = shifts_in c.args.shifts.now in
-    let within : c.loop-k.k < calendar_count S = omega (arith, c.loop-k-test.true, c.calendar_count-k-end.ensures) in
-    omega (arith, c.requires.2, c.loop-k.auto.out, c.loop-k.invariant.place, cals-room S c.loop-k.k c.calendar_at.ensures _ within)
+    text-room _ _ (cal-line c.calendar_at.ensures) (omega (arith, c.loop-k-test.true, c.calendar_count-k-end.ensures)) c.requires.2 c.loop-k.invariant
 
 pub loop-k-preserved : goal.loop-k-preserved
+unfolding cal_records
 loop-k-preserved c =
-    cals-put (shifts_in c.args.shifts.now) c.loop-k.k c.calendar_at.ensures (omega (arith, c.requires.2))
-    c.loop-k.invariant
-    c.put_calendar-end.ensures
+    text-put _ _ (cal-line c.calendar_at.ensures) (omega (arith, c.requires.2)) c.loop-k.invariant c.put_calendar-end.ensures
