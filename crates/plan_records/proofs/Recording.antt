@@ -14,7 +14,7 @@ use Rattle.std.specs.List.{list_any}
 use denote.Ref.{Bor}
 use Rattle.units.specs.Choice.{some_if, on_option}
 use Rattle.units.proofs.Choices.{and_both, not_left, none-if, some-if, if_some, None≢Some, if-false, if-all}
-use Rattle.text.specs.Words.{word_plan, word_cal, word_task}
+use Rattle.text.specs.Words.{word_plan, word_cal, word_task, word_after}
 use Rattle.text.specs.Fields.{tab, parts, first_at, same}
 use Rattle.text.specs.Numbers.{numbers_of}
 use Rattle.text.specs.Reading.{Begin, NumbersMade}
@@ -23,7 +23,7 @@ use Rattle.text.proofs.Words.{same-not}
 use Rattle.plan_records.specs.declared.LineRecord.{LineRecord}
 use Rattle.plan_records.specs.declared.LineRecord.TheVariants as line
 use Rattle.plan_records.specs.Inner.Lines.{Finds}
-use Rattle.plan_format.specs.Records.{Record, cal_record, numbers_if, plan_of, cal_of, task_of, by_word, record_of}
+use Rattle.plan_format.specs.Records.{Record, cal_record, after_record, numbers_if, plan_of, cal_of, task_of, after_of, by_word, record_of}
 
 -- ---- cal
 
@@ -116,6 +116,20 @@ module _ (fields : List (List ℕ)) (bytes cells : List ℕ) where
   task-found None e = rw e
   task-found (Some n) (ns, e, begin) = (ns, rw e, count-least 2 fields e begin, begin)
 
+  pub after-none : NumbersMade (numbers_of fields) None cells → Finds (after_of fields) None bytes cells
+  unfolding NumbersMade Finds after_of on_option
+  after-none e = rw e
+
+  -- exactly two numbers
+  pub after-found : (n : ℕ) → NumbersMade (numbers_of fields) (Some n) cells → Finds (after_of fields) (some_if (eqb n 2) line.After) bytes cells
+  unfolding NumbersMade Finds after_of on_option
+  after-found n (ns, e, begin) = rw e (go (eqb n 2) refl (ap (λ (k : ℕ). eqb k 2) (sym begin.counted)))
+    where
+      go : (t : Bool) → eqb n 2 ≡ t → eqb (length ns) 2 ≡ eqb n 2
+          → Finds (some_if (eqb (length ns) 2) (after_record (get_or ns 0 0) (get_or ns 1 0))) (some_if t line.After) bytes cells
+      go true t k = (ns, some-if _ _ (k ∙ t), rw (eqb-true n 2 t) at begin)
+      go false t k = none-if _ _ (k ∙ t)
+
 -- more bytes, of which those were a part
 pub finds-more : (o : Option Record) (x : Option LineRecord) (bytes more cells : List ℕ) → length bytes ≤ length more → Finds o x bytes cells
     → Finds o x more cells
@@ -124,6 +138,7 @@ finds-more o None bytes more cells l f = f
 finds-more o (Some (line.Plan n)) bytes more cells l f = f
 finds-more o (Some (line.Cal symbols)) bytes more cells l f = (f.0, omega (arith, f.1))
 finds-more o (Some (line.Task n)) bytes more cells l f = f
+finds-more o (Some line.After) bytes more cells l f = f
 
 -- ---- by the first field
 
@@ -140,9 +155,18 @@ module _ (word : List ℕ) (fields : List (List ℕ)) where
   unfolding by_word same
   word-task e = rw e
 
-  pub word-other : (word ≡ word_plan → ⊥) → (word ≡ word_cal → ⊥) → (word ≡ word_task → ⊥) → by_word (word ∷ fields) ≡ None
+  pub word-after : word ≡ word_after → by_word (word ∷ fields) ≡ after_of fields
+  unfolding by_word same
+  word-after e = rw e
+
+  pub word-other : (word ≡ word_plan → ⊥) → (word ≡ word_cal → ⊥) → (word ≡ word_task → ⊥) → (word ≡ word_after → ⊥)
+      → by_word (word ∷ fields) ≡ None
   unfolding by_word
-  word-other p c t = if-false _ _ _ (same-not word word_plan p) ∙ if-false _ _ _ (same-not word word_cal c) ∙ if-false _ _ _ (same-not word word_task t)
+  word-other p c t a =
+      if-false _ _ _ (same-not word word_plan p)
+      ∙ if-false _ _ _ (same-not word word_cal c)
+      ∙ if-false _ _ _ (same-not word word_task t)
+      ∙ if-false _ _ _ (same-not word word_after a)
 
 -- the bytes by which the code tells words apart
 pub record Reads (word other : List ℕ) : Type 0 where
@@ -151,19 +175,21 @@ pub record Reads (word other : List ℕ) : Type 0 where
   pub first : get_or word 1 0 ≡ get_or other 1 0
   pub second : get_or word 2 0 ≡ get_or other 2 0
   pub third : get_or word 3 0 ≡ get_or other 3 0
+  pub fourth : get_or word 4 0 ≡ get_or other 4 0
 
 pub same-reads : {word other : List ℕ} → word ≡ other → Reads word other
 same-reads e =
     let at = λ (k : ℕ). ap (λ (l : List ℕ). get_or l k 0) e in
-    record { long = ap length e; zeroth = at 0; first = at 1; second = at 2; third = at 3 }
+    record { long = ap length e; zeroth = at 0; first = at 1; second = at 2; third = at 3; fourth = at 4 }
 
 -- a line of one field is no record
 bare : (word : List ℕ) → by_word (word ∷ []) ≡ None
-unfolding by_word plan_of cal_of task_of numbers_if numbers_of on_option
+unfolding by_word plan_of cal_of task_of after_of numbers_if numbers_of on_option
 bare word =
     if-all (λ (o : Option Record). o ≡ None) (same word word_plan) _ _ (λ e. refl)
     (λ e. if-all (λ (o : Option Record). o ≡ None) (same word word_cal) _ _ (λ e. refl)
-    (λ e. if-all (λ (o : Option Record). o ≡ None) (same word word_task) _ _ (λ e. refl) (λ e. refl)))
+    (λ e. if-all (λ (o : Option Record). o ≡ None) (same word word_task) _ _ (λ e. refl)
+    (λ e. if-all (λ (o : Option Record). o ≡ None) (same word word_after) _ _ (λ e. refl) (λ e. refl))))
 
 module _ (bytes : List ℕ) where
   pub record-one : first_at tab bytes ≡ length bytes → record_of bytes ≡ None

@@ -9,13 +9,15 @@ ghost use Rattle.plan_records.specs.Inner.Lines.{Finds};
 
 use text::TAB;
 use text::fields::{find, numbers_of};
+use units::Pair;
 
-// A line's record: how many numbers a `plan` or a `task` line has, the symbols of a `cal` line.
+// A line's record: how many numbers a `plan` or a `task` line has, the symbols of a `cal` line. An `after` line has two numbers.
 #[derive(Clone, Copy)]
 pub enum LineRecord<'a> {
     Plan(usize),
     Cal(&'a [u8]),
     Task(usize),
+    After,
 }
 
 // How many numbers the fields are, if there are `least` of them or more.
@@ -41,6 +43,7 @@ fn by_word<'a>(word: &[u8], fields: &'a [u8], numbers: &mut [u16]) -> Option<Lin
         b"plan" => Some(LineRecord::Plan(numbers_if(fields, 1, numbers)?)),
         b"cal" => Some(LineRecord::Cal(symbols_of(fields)?)),
         b"task" => Some(LineRecord::Task(numbers_if(fields, 2, numbers)?)),
+        b"after" => (numbers_of(fields, numbers)? == Pair::NUMBERS).then_some(LineRecord::After),
         _ => None,
     }
 }
