@@ -8,31 +8,34 @@ use native.Mathlib.Omega.{arith}
 use lib.Dec.{eqb}
 use lib.ListN.{length, get_or, drop, length-append, length-drop, length-map}
 use Rattle.units.specs.Choice.{◌and◌, on_option}
-use Rattle.units.specs.Limits.{most_rooms, most_tasks}
+use Rattle.units.specs.Limits.{most_rooms, most_tasks, most_pairs, pair_numbers}
 use Rattle.units.proofs.Choices.{some-if, none-if, and_both, not_left, not_right}
 use Rattle.units.proofs.Lists.{list-eq}
 use Rattle.plan.specs.Plan.{plan}
 use Rattle.plan_lines.specs.declared.Scan.{Scan}
 use Rattle.plan_lines.specs.declared.Section.{Section}
 use Rattle.plan_lines.specs.declared.Section.TheVariants as section_is
-use Rattle.plan_format.specs.Records.{Record, plan_record, cal_record, task_record, record_of}
-use Rattle.plan_format.specs.Text.{Read, plan_section, cal_section, task_section, comes, is_task_line, with_record, with_line}
-use Rattle.plan_format.specs.Reading.{joined, box_of, heights_in, plan_in, boxes_in, all_of, most_symbols, most_bounds}
+use Rattle.plan_format.specs.Records.{Record, plan_record, cal_record, task_record, after_record, record_of}
+use Rattle.plan_format.specs.Text.{Read, plan_section, cal_section, task_section, after_section, comes, is_task_line, with_record, with_line}
+use Rattle.plan_format.specs.Reading.{joined, box_of, heights_in, plan_in, boxes_in, all_of, most_symbols, most_paired, most_bounds}
 use Rattle.plan_format.proofs.Boxes.{boxes-length}
 use Rattle.plan_format.proofs.Joined.{joined-more, all_more}
 use Rattle.text.specs.Reading.{Begin}
-use Rattle.plan_lines.specs.Inner.Scanning.{calendars_at, work_times_at, boxes_at, capacities_at, room_at, section, section_number}
-use Rattle.plan_lines.specs.Inner.Scanning.{Kept, Keeps, KeepsTasks, stored_heights, stored_plan, stored_boxes, Holds, Follows}
+use Rattle.plan_lines.specs.Inner.Scanning.{calendars_at, work_times_at, boxes_at, capacities_at, pairs_at, room_at, section, section_number}
+use Rattle.plan_lines.specs.Inner.Scanning.{Kept, Keeps, KeepsNumbers, stored_heights, stored_plan, stored_boxes, Holds, Follows}
 use Rattle.plan_lines.proofs.Sections.{kept-none, kept-section}
 use Rattle.plan_lines.proofs.Numbering.{begin-cell}
-use Rattle.plan_lines.proofs.Storing.{tasks-none}
+use Rattle.plan_lines.proofs.Storing.{numbers-none}
 
 -- ---- a record more
 
--- no calendars and no tasks
+-- no calendars, no tasks and no pairs
+abbrev pub bare : Section → ℕ → ℕ → Scan
+bare reached h rooms = record { reached = reached; hours = h; rooms = rooms; calendars = 0; even = true; symbols = 0; tasks = 0; pairs = 0 }
+
 pub holds-empty : (reached : Section) (h k n : ℕ) (cs symbols cells : List ℕ) → k ≡ length cs → Kept capacities_at most_rooms cs cells
-    → Holds (record { reached = section_number reached; hours = h; capacities = cs; calendars = []; tasks = [] })
-    (record { reached = reached; hours = h; rooms = k; calendars = 0; even = true; symbols = 0; tasks = 0 }) n symbols cells
+    → Holds (record { reached = section_number reached; hours = h; capacities = cs; calendars = []; tasks = []; pairs = [] })
+    (bare reached h k) n symbols cells
 unfolding joined all_of
 holds-empty reached h k n cs symbols cells e kept =
     record {
@@ -43,9 +46,10 @@ holds-empty reached h k n cs symbols cells e kept =
       even = refl;
       symbol_count = refl;
       tasks = refl;
+      pairs = refl;
       few = omega arith;
       kept_symbols = kept-none 0 most_symbols symbols;
-      kept_tasks = tasks-none h kept;
+      kept_numbers = numbers-none h kept;
     }
 
 module _ {r : Read} {s : Scan} {n : ℕ} {symbols cells : List ℕ} (held : Holds r s n symbols cells) where
@@ -60,9 +64,10 @@ module _ {r : Read} {s : Scan} {n : ℕ} {symbols cells : List ℕ} (held : Hold
         even = held.even;
         symbol_count = held.symbol_count;
         tasks = held.tasks;
+        pairs = held.pairs;
         few = omega (arith, held.few);
         kept_symbols = held.kept_symbols;
-        kept_tasks = held.kept_tasks;
+        kept_numbers = held.kept_numbers;
       }
 
   -- a test of the section reached, as the code makes it
@@ -76,8 +81,7 @@ module _ {r : Read} {s : Scan} {n : ℕ} {symbols cells : List ℕ} (held : Hold
 
     pub plan-next : (cells' : List ℕ) → may ≡ true → 1 ≤ count → 1 ≤ length numbers → Kept capacities_at most_rooms (drop 1 ns) cells'
         → Follows (with_record r (plan_record (get_or ns 0 0) (drop 1 ns)))
-        (Some (record { reached = section_is.Plan; hours = get_or numbers 0 0; rooms = count - 1; calendars = 0; even = true; symbols = 0; tasks = 0 }))
-        n symbols cells'
+        (Some (bare section_is.Plan (get_or numbers 0 0) (count - 1))) n symbols cells'
     unfolding with_record Follows
     plan-next cells' q least room kept =
         rw (begin-cell begin 0 (omega arith) (omega arith)) (
@@ -102,6 +106,7 @@ module _ {r : Read} {s : Scan} {n : ℕ} {symbols cells : List ℕ} (held : Hold
           even = even;
           symbols = s.symbols + length l;
           tasks = s.tasks;
+          pairs = s.pairs;
         })) (n + (length l + 1)) symbols' cells
     unfolding with_record Follows
     cal-next even symbols' q e kept = (
@@ -116,9 +121,10 @@ module _ {r : Read} {s : Scan} {n : ℕ} {symbols cells : List ℕ} (held : Hold
         symbol_count =
             omega (arith, held.symbol_count, ap length (joined-more r.calendars l), length-append (joined r.calendars) l);
         tasks = held.tasks;
+        pairs = held.pairs;
         few = omega (arith, held.few);
         kept_symbols = rw (joined-more r.calendars l) (kept (joined r.calendars) held.symbol_count held.kept_symbols);
-        kept_tasks = held.kept_tasks;
+        kept_numbers = held.kept_numbers;
       },
     )
 
@@ -136,7 +142,8 @@ module _ {r : Read} {s : Scan} {n : ℕ} {symbols cells : List ℕ} (held : Hold
       task-not cells' m q = none-if _ _ (not_right _ _ (numbered q))
 
       pub task-next : (cells' : List ℕ) → may ≡ true → as_many ≡ true
-          → (KeepsTasks s.hours r.capacities r.tasks cells → KeepsTasks s.hours r.capacities (r.tasks ++ (ns ∷ [])) cells')
+          → (KeepsNumbers s.hours r.capacities r.tasks r.pairs cells
+          → KeepsNumbers s.hours r.capacities (r.tasks ++ (ns ∷ [])) r.pairs cells')
           → Follows (with_record r (task_record ns))
           (Some (record {
             reached = section_is.Tasks;
@@ -146,6 +153,7 @@ module _ {r : Read} {s : Scan} {n : ℕ} {symbols cells : List ℕ} (held : Hold
             even = s.even;
             symbols = s.symbols;
             tasks = s.tasks + 1;
+            pairs = s.pairs;
           })) (n + 1) symbols cells'
       unfolding with_record Follows
       task-next cells' q t kept = (
@@ -159,13 +167,51 @@ module _ {r : Read} {s : Scan} {n : ℕ} {symbols cells : List ℕ} (held : Hold
           even = held.even;
           symbol_count = held.symbol_count;
           tasks = omega (arith, held.tasks, length-append r.tasks (ns ∷ []));
+          pairs = held.pairs;
           few = omega (arith, held.few);
           kept_symbols = held.kept_symbols;
-          kept_tasks =
-              subst (λ (h : ℕ). KeepsTasks h r.capacities (r.tasks ++ (ns ∷ [])) cells') held.hours
-              (kept (subst (λ (h : ℕ). KeepsTasks h r.capacities r.tasks cells) (sym held.hours) held.kept_tasks));
+          kept_numbers =
+              subst (λ (h : ℕ). KeepsNumbers h r.capacities (r.tasks ++ (ns ∷ [])) r.pairs cells') held.hours
+              (kept (subst (λ (h : ℕ). KeepsNumbers h r.capacities r.tasks r.pairs cells) (sym held.hours) held.kept_numbers));
         },
       )
+
+  module _ {may : Bool} (x y : ℕ) (p : may ≡ comes after_section (section_number s.reached)) where
+    pub pair-broken : (cells' : List ℕ) (m : ℕ) → may ≡ false → Follows (with_record r (after_record x y)) None m symbols cells'
+    unfolding with_record Follows
+    pair-broken cells' m q = none-if _ _ (reaches after_section p q)
+
+    pub pair-next : (cells' : List ℕ) → may ≡ true
+        → (KeepsNumbers r.hours r.capacities r.tasks r.pairs cells → KeepsNumbers r.hours r.capacities r.tasks (r.pairs ++ (x ∷ y ∷ [])) cells')
+        → Follows (with_record r (after_record x y))
+        (Some (record {
+          reached = section_is.Pairs;
+          hours = s.hours;
+          rooms = s.rooms;
+          calendars = s.calendars;
+          even = s.even;
+          symbols = s.symbols;
+          tasks = s.tasks;
+          pairs = s.pairs + 1;
+        })) (n + 1) symbols cells'
+    unfolding with_record Follows
+    pair-next cells' q kept = (
+      _,
+      some-if _ _ (reaches after_section p q),
+      record {
+        reached = refl;
+        hours = held.hours;
+        rooms = held.rooms;
+        calendars = held.calendars;
+        even = held.even;
+        symbol_count = held.symbol_count;
+        tasks = held.tasks;
+        pairs = omega (arith, held.pairs, length-append r.pairs (x ∷ y ∷ []));
+        few = omega (arith, held.few);
+        kept_symbols = held.kept_symbols;
+        kept_numbers = kept held.kept_numbers;
+      },
+    )
 
 -- ---- a line more
 
@@ -199,10 +245,10 @@ module _ {r : Read} {s : Scan} {n : ℕ} {symbols cells : List ℕ} (held : Hold
   unfolding plan_in
   symbols-held l = kept-section 0 most_symbols s.symbols (joined r.calendars) symbols held.symbol_count l held.kept_symbols
 
-  module _ (l : s.symbols ≤ most_symbols) (t : s.tasks ≤ most_tasks) (m : s.rooms ≤ most_rooms) where
+  module _ (l : s.symbols ≤ most_symbols) (t : s.tasks ≤ most_tasks) (p : s.pairs ≤ most_pairs) (m : s.rooms ≤ most_rooms) where
     kept : Keeps r.capacities (map (λ t. get_or t 0 0) r.tasks) (map (λ t. get_or t 1 0) r.tasks) (λ room. map (λ t. get_or t (room + 2) 0) r.tasks)
-        (joined (map (box_of r.hours (length r.capacities)) r.tasks)) cells
-    kept = held.kept_tasks (omega (arith, held.rooms))
+        (joined (map (box_of r.hours (length r.capacities)) r.tasks)) r.pairs cells
+    kept = held.kept_numbers (omega (arith, held.rooms))
 
     heights-held : stored_heights s.rooms s.tasks cells ≡ heights_in (length r.capacities) r.tasks
     unfolding stored_heights heights_in
@@ -212,7 +258,7 @@ module _ {r : Read} {s : Scan} {n : ℕ} {symbols cells : List ℕ} (held : Hold
         (list-eq _ _ (length r.capacities) (λ room h.
         kept-section (room_at room) most_tasks s.tasks _ cells (count-tasks (room + 2)) t (kept.heights room h))))
 
-    pub plan-held : stored_plan s.hours s.rooms s.tasks (section 0 s.symbols symbols) cells ≡ plan_in r
+    pub plan-held : stored_plan s.hours s.rooms s.tasks s.pairs (section 0 s.symbols symbols) cells ≡ plan_in r
     unfolding plan_in
     plan-held =
         λ k. plan (held.hours k)
@@ -221,6 +267,7 @@ module _ {r : Read} {s : Scan} {n : ℕ} {symbols cells : List ℕ} (held : Hold
         (kept-section calendars_at most_tasks s.tasks _ cells (count-tasks 0) t kept.calendars k)
         (kept-section work_times_at most_tasks s.tasks _ cells (count-tasks 1) t kept.work_times k)
         (heights-held k)
+        (kept-section pairs_at most_paired (pair_numbers * s.pairs) r.pairs cells held.pairs (omega arith) kept.pairs k)
 
     pub boxes-held : stored_boxes s.tasks cells ≡ boxes_in r
     unfolding boxes_in

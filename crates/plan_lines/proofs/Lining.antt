@@ -1,7 +1,7 @@
 -- Laws of a text's lines, as a loop over them reads them. Assumes nothing.
 use Rattle.std.specs.Prelude.{if◌then◌else◌}
 use mathlib.Core.Path.{◌≡◌, refl, ◌∙◌}
-use mathlib.Core.Bool.{Bool, true}
+use mathlib.Core.Bool.{Bool}
 use Rattle.std.specs.Prelude.{None, Some}
 use mathlib.Core.List.{List, [], ◌∷◌}
 use Prim.Native.Nat.{ℕ, min, ◌+◌, ◌-◌, ◌≤◌, ◌<◌}
@@ -21,7 +21,7 @@ use Rattle.plan_lines.specs.declared.Section.TheVariants as section_is
 use Rattle.plan_format.specs.Text.{Read, most_bytes, plan_section, nothing, with_line, read_lines, read_text}
 use Rattle.plan_lines.specs.Inner.Scanning.{section_number, capacities_at, Holds, Follows}
 use Rattle.plan_lines.proofs.Sections.{kept-none}
-use Rattle.plan_lines.proofs.Following.{holds-empty, holds_later}
+use Rattle.plan_lines.proofs.Following.{bare, holds-empty, holds_later}
 
 -- how far a text has been read: what was read before the rest of it, and that the rest decides
 pub record Reached (text : List ℕ) (whole : Bool) (rest : List ℕ) (line : ℕ) (s : Scan) (symbols cells : List ℕ) : Type 0 where
@@ -32,8 +32,7 @@ pub record Reached (text : List ℕ) (whole : Bool) (rest : List ℕ) (line : �
   pub decides : read_lines whole 1 nothing (parts lf text) ≡ read_lines whole line so_far (parts lf rest)
 
 pub reached-none : (text : List ℕ) (whole : Bool) (symbols cells : List ℕ)
-    → Reached text whole text 1 (record { reached = section_is.Start; hours = 0; rooms = 0; calendars = 0; even = true; symbols = 0; tasks = 0 })
-    symbols cells
+    → Reached text whole text 1 (bare section_is.Start 0 0) symbols cells
 reached-none text whole symbols cells =
     record {
       inside = omega arith;

@@ -10,24 +10,31 @@ use Rattle.plan_format.specs.Text.{plan_section, comes}
 use Rattle.plan_lines.specs.contracts.Section.{the_type}
 use Rattle.plan_lines.specs.contracts.SectionPartialOrd.TheImpl.{partial_cmp-value}
 use Rattle.plan_lines.specs.declared.Section.{Section}
-use Rattle.plan_lines.specs.declared.Section.TheVariants.{Start, Plan, Calendars, Tasks}
+use Rattle.plan_lines.specs.declared.Section.TheVariants.{Start, Plan, Calendars, Tasks, Pairs}
 use Rattle.plan_lines.specs.Inner.Scanning.{section_number}
 
 -- a fact of each section
-every : (C : Section → Type 0) → C Start → C Plan → C Calendars → C Tasks → (a : Section) → C a
-every C start plan calendars tasks Start = start
-every C start plan calendars tasks Plan = plan
-every C start plan calendars tasks Calendars = calendars
-every C start plan calendars tasks Tasks = tasks
+every : (C : Section → Type 0) → C Start → C Plan → C Calendars → C Tasks → C Pairs → (a : Section) → C a
+every C start plan calendars tasks pairs Start = start
+every C start plan calendars tasks pairs Plan = plan
+every C start plan calendars tasks pairs Calendars = calendars
+every C start plan calendars tasks pairs Tasks = tasks
+every C start plan calendars tasks pairs Pairs = pairs
 
 is-plan : (a : Section) → sameb the_type a Plan ≡ eqb (section_number a) plan_section
-is-plan = every _ refl refl refl refl
+is-plan = every _ refl refl refl refl refl
 
 is-start : (a : Section) → sameb the_type a Start ≡ eqb (section_number a) 0
-is-start = every _ refl refl refl refl
+is-start = every _ refl refl refl refl refl
 
 pub le-section : (a b : Section) → partial_le partial_cmp-value.it a b ≡ leb (section_number a) (section_number b)
-le-section = every _ (every _ refl refl refl refl) (every _ refl refl refl refl) (every _ refl refl refl refl) (every _ refl refl refl refl)
+le-section =
+    every _
+    (every _ refl refl refl refl refl)
+    (every _ refl refl refl refl refl)
+    (every _ refl refl refl refl refl)
+    (every _ refl refl refl refl refl)
+    (every _ refl refl refl refl refl)
 
 -- what may come, test by test
 module _ (section reached : Section) where

@@ -11,10 +11,10 @@ use lib.Seq.{length-take-le, take-add, take-take, take-append-le, drop-append-le
 use borrow.Author.Tests.{eqb-true, eqb-false}
 use Rattle.units.specs.Cells.{written_at}
 use Rattle.units.proofs.Cells.{written-length, written-front, written-rest, written_one}
-use Rattle.units.specs.Limits.{most_rooms, most_tasks}
-use Rattle.plan_format.specs.Reading.{most_bounds}
-use Rattle.plan_lines.specs.Inner.Scanning.{calendars_at, work_times_at, heights_at, boxes_at, capacities_at, store_size, room_at, section}
-use Rattle.plan_lines.specs.Inner.Scanning.{Kept, Keeps, with_heights}
+use Rattle.units.specs.Limits.{most_rooms, most_tasks, most_pairs, pair_numbers}
+use Rattle.plan_format.specs.Reading.{most_paired, most_bounds}
+use Rattle.plan_lines.specs.Inner.Scanning.{calendars_at, work_times_at, heights_at, boxes_at, capacities_at, pairs_at, store_size, room_at}
+use Rattle.plan_lines.specs.Inner.Scanning.{section, Kept, Keeps, with_heights}
 
 pub section-swap : (from n : ℕ) (cells : List ℕ) → from ≤ length cells → section from n cells ≡ drop from (take (from + n) cells)
 section-swap from n cells h =
@@ -163,11 +163,11 @@ module _ (task : ℕ) (numbers cells : List ℕ) (size : length cells ≡ store_
 
 -- ---- the store's sections, each with one part more: none loses what it keeps
 
-module _ {rs cs ws : List ℕ} {hs : ℕ → List ℕ} {bs cells : List ℕ} (few : length rs ≤ most_rooms) (kept : Keeps rs cs ws hs bs cells)
+module _ {rs cs ws : List ℕ} {hs : ℕ → List ℕ} {bs ps cells : List ℕ} (few : length rs ≤ most_rooms) (kept : Keeps rs cs ws hs bs ps cells)
     (size : length cells ≡ store_size)
   where
     pub keeps-calendar : (x i : ℕ) → i ≡ length cs → i < most_tasks
-        → Keeps rs (cs ++ (x ∷ [])) ws hs bs (written_at (calendars_at + i) (x ∷ []) cells)
+        → Keeps rs (cs ++ (x ∷ [])) ws hs bs ps (written_at (calendars_at + i) (x ∷ []) cells)
     keeps-calendar x i e l =
         record {
           capacities = kept-apart capacities_at most_rooms (calendars_at + i) _ _ cells (omega arith) kept.capacities (omega arith);
@@ -175,10 +175,11 @@ module _ {rs cs ws : List ℕ} {hs : ℕ → List ℕ} {bs cells : List ℕ} (fe
           work_times = kept-apart work_times_at most_tasks (calendars_at + i) _ _ cells (omega arith) kept.work_times (omega arith);
           heights = λ room h. kept-apart (room_at room) most_tasks (calendars_at + i) _ _ cells (omega arith) (kept.heights room h) (omega arith);
           boxes = kept-apart boxes_at most_bounds (calendars_at + i) _ _ cells (omega arith) kept.boxes (omega arith);
+          pairs = kept-apart pairs_at most_paired (calendars_at + i) _ _ cells (omega arith) kept.pairs (omega arith);
         }
 
     pub keeps-work-time : (x i : ℕ) → i ≡ length ws → i < most_tasks
-        → Keeps rs cs (ws ++ (x ∷ [])) hs bs (written_at (work_times_at + i) (x ∷ []) cells)
+        → Keeps rs cs (ws ++ (x ∷ [])) hs bs ps (written_at (work_times_at + i) (x ∷ []) cells)
     keeps-work-time x i e l =
         record {
           capacities = kept-apart capacities_at most_rooms (work_times_at + i) _ _ cells (omega arith) kept.capacities (omega arith);
@@ -186,10 +187,11 @@ module _ {rs cs ws : List ℕ} {hs : ℕ → List ℕ} {bs cells : List ℕ} (fe
           work_times = kept_more work_times_at most_tasks (work_times_at + i) _ _ cells (omega arith) kept.work_times (omega arith);
           heights = λ room h. kept-apart (room_at room) most_tasks (work_times_at + i) _ _ cells (omega arith) (kept.heights room h) (omega arith);
           boxes = kept-apart boxes_at most_bounds (work_times_at + i) _ _ cells (omega arith) kept.boxes (omega arith);
+          pairs = kept-apart pairs_at most_paired (work_times_at + i) _ _ cells (omega arith) kept.pairs (omega arith);
         }
 
     pub keeps-heights : (numbers : List ℕ) (i : ℕ) → ((room : ℕ) → room < length rs → i ≡ length (hs room)) → i < most_tasks
-        → Keeps rs cs ws (λ room. hs room ++ (get_or numbers (room + 2) 0 ∷ [])) bs (with_heights i numbers (length rs) cells)
+        → Keeps rs cs ws (λ room. hs room ++ (get_or numbers (room + 2) 0 ∷ [])) bs ps (with_heights i numbers (length rs) cells)
     keeps-heights numbers i e l =
         record {
           capacities = heights-apart i numbers cells size l _ _ _ kept.capacities (length rs) few (omega arith);
@@ -197,10 +199,11 @@ module _ {rs cs ws : List ℕ} {hs : ℕ → List ℕ} {bs cells : List ℕ} (fe
           work_times = heights-past i numbers cells size l _ _ _ kept.work_times (omega arith) (length rs) few;
           heights = λ room h. heights-more i numbers cells size l room _ (kept.heights room h) (e room h) (length rs) few h;
           boxes = heights-apart i numbers cells size l _ _ _ kept.boxes (length rs) few (omega arith);
+          pairs = heights-apart i numbers cells size l _ _ _ kept.pairs (length rs) few (omega arith);
         }
 
     pub keeps-box : (box : List ℕ) (i : ℕ) → length box ≡ 6 → 6 * i ≡ length bs → i < most_tasks
-        → Keeps rs cs ws hs (bs ++ box) (written_at (boxes_at + 6 * i) box cells)
+        → Keeps rs cs ws hs (bs ++ box) ps (written_at (boxes_at + 6 * i) box cells)
     keeps-box box i six e l =
         record {
           capacities = kept-apart capacities_at most_rooms (boxes_at + 6 * i) _ _ cells (omega arith) kept.capacities (omega arith);
@@ -208,4 +211,18 @@ module _ {rs cs ws : List ℕ} {hs : ℕ → List ℕ} {bs cells : List ℕ} (fe
           work_times = kept-past work_times_at most_tasks (boxes_at + 6 * i) _ _ cells (omega arith) kept.work_times (omega arith);
           heights = λ room h. kept-past (room_at room) most_tasks (boxes_at + 6 * i) _ _ cells (omega arith) (kept.heights room h) (omega arith);
           boxes = kept_more boxes_at most_bounds (boxes_at + 6 * i) _ _ cells (omega arith) kept.boxes (omega arith);
+          pairs = kept-apart pairs_at most_paired (boxes_at + 6 * i) _ _ cells (omega arith) kept.pairs (omega arith);
+        }
+
+    pub keeps-pair : (x y k : ℕ) → pair_numbers * k ≡ length ps → k < most_pairs
+        → Keeps rs cs ws hs bs (ps ++ (x ∷ y ∷ [])) (written_at (pairs_at + pair_numbers * k) (x ∷ y ∷ []) cells)
+    keeps-pair x y k e l =
+        let at = pairs_at + pair_numbers * k in
+        record {
+          capacities = kept-past capacities_at most_rooms at _ _ cells (omega arith) kept.capacities (omega arith);
+          calendars = kept-past calendars_at most_tasks at _ _ cells (omega arith) kept.calendars (omega arith);
+          work_times = kept-past work_times_at most_tasks at _ _ cells (omega arith) kept.work_times (omega arith);
+          heights = λ room h. kept-past (room_at room) most_tasks at _ _ cells (omega arith) (kept.heights room h) (omega arith);
+          boxes = kept-past boxes_at most_bounds at _ _ cells (omega arith) kept.boxes (omega arith);
+          pairs = kept_more pairs_at most_paired at _ _ cells (omega arith) kept.pairs (omega arith);
         }

@@ -3,12 +3,12 @@
 
 ghost use Rattle.std.specs.Prelude.{true, List, ◌∷◌, [], ◌++◌, ◌≡◌, ℕ, ◌+◌, ◌-◌, ◌*◌, ◌≤◌, ◌<◌, length, get_or, drop};
 ghost use Rattle.units.specs.Cells.{written_at};
-ghost use Rattle.units.specs.Limits.{most_rooms, most_tasks, box_numbers};
-ghost use Rattle.plan_format.specs.Records.{plan_record, cal_record, task_record};
+ghost use Rattle.units.specs.Limits.{most_rooms, most_tasks, box_numbers, pair_numbers};
+ghost use Rattle.plan_format.specs.Records.{plan_record, cal_record, task_record, after_record};
 ghost use Rattle.plan_format.specs.Text.{Read, most_bytes, comes, is_task_line, with_record, with_line, read_text};
 ghost use Rattle.plan_format.specs.Reading.{box_of, most_symbols};
 ghost use Rattle.text.specs.Reading.{Begin};
-ghost use Rattle.plan_lines.specs.Inner.Scanning.{capacities_at, boxes_at, Kept, KeepsTasks, with_heights};
+ghost use Rattle.plan_lines.specs.Inner.Scanning.{capacities_at, boxes_at, Kept, KeepsNumbers, with_heights};
 ghost use Rattle.plan_lines.specs.Inner.Scanning.{section_number, counted, Holds, Follows, Scans};
 
 use plan::Refusal;
@@ -16,7 +16,7 @@ use plan_records::LineRecord;
 use text::LF;
 use text::fields::find;
 use text::put::put_all;
-use units::{Bounds, Duration, MOST_CALENDARS, MOST_ROOMS};
+use units::{Bounds, Duration, MOST_CALENDARS, MOST_ROOMS, Pair};
 
 // The sections of a text, in their order; before the plan line it is at its start.
 #[derive(Clone, Copy, PartialEq, Eq, PartialOrd, Ord)]
@@ -25,11 +25,12 @@ pub enum Section {
     Plan,
     Calendars,
     Tasks,
+    Pairs,
 }
 
 // What has been read of a text: the section reached, H, how many rooms, how many calendars, whether each calendar line has H symbols, how many
-// symbols and how many tasks. That flag is a fact of all lines so far, and says of no field whether it holds. That the counts stay below the text's
-// bytes is no fact of a scan alone: the place in the text bounds what one line more may add.
+// symbols, how many tasks and how many pairs. That flag is a fact of all lines so far, and says of no field whether it holds. That the counts stay
+// below the text's bytes is no fact of a scan alone: the place in the text bounds what one line more may add.
 #[derive(Clone, Copy)]
 pub struct Scan {
     pub reached: Section,
@@ -39,6 +40,7 @@ pub struct Scan {
     pub even: bool,
     pub symbols: usize,
     pub tasks: usize,
+    pub pairs: usize,
 }
 
 // The most bytes of a text.
@@ -47,8 +49,8 @@ pub const MOST_BYTES: usize = 32768;
 // The most symbols of a plan, calendars joined.
 pub const MOST_SYMBOLS: usize = MOST_CALENDARS * Duration::MOST as usize;
 
-// Where each section of the store's numbers begins, after the tasks' calendars: work times, heights, boxes, capacities. Each has room for the
-// most tasks, the heights in each of the most rooms: a text's counts are known only at its end.
+// Where each section of the store's numbers begins, after the tasks' calendars: work times, heights, boxes, capacities, pairs. Each has room for
+// the most tasks, the heights in each of the most rooms: a text's counts are known only at its end.
 pub const WORK_TIMES: usize = Bounds::MOST;
 
 pub const HEIGHTS: usize = 2 * Bounds::MOST;
@@ -57,8 +59,10 @@ pub const BOXES: usize = HEIGHTS + MOST_ROOMS * Bounds::MOST;
 
 pub const CAPACITIES: usize = BOXES + Bounds::NUMBERS * Bounds::MOST;
 
+pub const PAIRS: usize = CAPACITIES + MOST_ROOMS;
+
 // The cells of all sections.
-pub const CELLS: usize = CAPACITIES + MOST_ROOMS;
+pub const CELLS: usize = PAIRS + Pair::NUMBERS * Pair::MOST;
 
 // The store that a text is read into: the symbols of its calendars, joined, and the sections of numbers.
 #[derive(Drop)]
@@ -92,6 +96,7 @@ const NOTHING: Scan = Scan {
     even: true,
     symbols: 0,
     tasks: 0,
+    pairs: 0,
 };
 
 // Stores a calendar's symbols after those of the calendars before it, if there is room.
@@ -143,8 +148,8 @@ fn store_box(cells: &mut [u16; CELLS], task: usize, hours: u16, rooms: usize, nu
 #[tactic(auto, using(crate::proofs::Numbering::line_size))]
 fn store_task(cells: &mut [u16; CELLS], scan: Scan, count: usize, numbers: &[u16; MOST_NUMBERS])
     requires { is_task_line scan.rooms count ≡ true }
-    ensures { (rs ns : List ℕ) (tasks : List (List ℕ)) → scan.rooms ≡ length rs → scan.tasks ≡ length tasks → Begin ns count numbers.now
-        → KeepsTasks scan.hours rs tasks cells.old → KeepsTasks scan.hours rs (tasks ++ (ns ∷ [])) cells.new }
+    ensures { (rs ns ps : List ℕ) (tasks : List (List ℕ)) → scan.rooms ≡ length rs → scan.tasks ≡ length tasks → Begin ns count numbers.now
+        → KeepsNumbers scan.hours rs tasks ps cells.old → KeepsNumbers scan.hours rs (tasks ++ (ns ∷ [])) ps cells.new }
 {
     let task = scan.tasks;
     if scan.rooms <= MOST_ROOMS && task < Bounds::MOST {
@@ -153,6 +158,21 @@ fn store_task(cells: &mut [u16; CELLS], scan: Scan, count: usize, numbers: &[u16
         cells[WORK_TIMES + task] = own[1];
         store_heights(cells, task, scan.rooms, own);
         store_box(cells, task, scan.hours, scan.rooms, own);
+    }
+}
+
+// Stores a pair after those before it, if there is room.
+fn store_pair(cells: &mut [u16; CELLS], pairs: usize, numbers: &[u16; MOST_NUMBERS])
+    ensures { (hours : ℕ) (rs ns ps : List ℕ) (tasks : List (List ℕ)) → pair_numbers * pairs ≡ length ps → Begin ns 2 numbers.now
+        → KeepsNumbers hours rs tasks ps cells.old
+        → KeepsNumbers hours rs tasks (ps ++ (get_or ns 0 0 ∷ get_or ns 1 0 ∷ [])) cells.new }
+{
+    if pairs < Pair::MOST {
+        put_all(
+            cells,
+            PAIRS + Pair::NUMBERS * pairs,
+            &[numbers[0], numbers[1]],
+        );
     }
 }
 
@@ -240,6 +260,23 @@ fn with_task(
     })
 }
 
+// After an `after` line.
+fn with_pair(scan: Scan, numbers: &[u16; MOST_NUMBERS], cells: &mut [u16; CELLS]) -> Option<Scan>
+    requires { counted scan ≤ most_bytes }
+    ensures { (r : Read) (n : ℕ) (symbols ns : List ℕ) → Begin ns 2 numbers.now → Holds r scan n symbols cells.old
+        → Follows (with_record r (after_record (get_or ns 0 0) (get_or ns 1 0))) result (n + 1) symbols cells.new }
+{
+    if !may_come(Section::Pairs, scan.reached) {
+        return None;
+    }
+    store_pair(cells, scan.pairs, numbers);
+    Some(Scan {
+        reached: Section::Pairs,
+        pairs: scan.pairs + 1,
+        ..scan
+    })
+}
+
 // After another line.
 fn with_line(scan: Scan, line: &[u8], store: &mut Store) -> Option<Scan>
     requires { (counted scan ≤ most_bytes) × (length line.now ≤ most_bytes) }
@@ -251,6 +288,7 @@ fn with_line(scan: Scan, line: &[u8], store: &mut Store) -> Option<Scan>
         LineRecord::Plan(count) => with_plan(scan, count, &numbers, &mut store.cells),
         LineRecord::Cal(calendar) => with_calendar(scan, calendar, &mut store.symbols),
         LineRecord::Task(count) => with_task(scan, count, &numbers, &mut store.cells),
+        LineRecord::After => with_pair(scan, &numbers, &mut store.cells),
     }
 }
 

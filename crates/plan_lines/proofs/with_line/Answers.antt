@@ -43,3 +43,10 @@ returns-in-Task c =
     λ r n held.
     let (ns, e, least, begin) = rw c.in-Task.is at c.in_ok-count.ensures in
     follows _ (n + 1) (n + (length c.args.line.now + 1)) _ _ (line-is r _ _ e) (omega arith) (c.with_task.ensures r n _ ns begin held)
+
+pub returns-in-After : goal.returns-in-After
+unfolding Finds
+returns-in-After c =
+    λ r n held.
+    let (ns, e, begin) = rw c.in-After.is at c.in_ok-count.ensures in
+    follows _ (n + 1) (n + (length c.args.line.now + 1)) _ _ (line-is r _ _ e) (omega arith) (c.with_pair.ensures r n _ ns begin held)

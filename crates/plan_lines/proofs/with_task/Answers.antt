@@ -15,4 +15,4 @@ pub returns : goal.returns
 returns c =
     λ r n symbols ns begin held.
     task-next held ns c.may_come.ensures begin.counted c.is_task_line.ensures _ c.if-not-may_come.false
-    c.if-not-is_task_line.false (c.store_task.ensures r.capacities ns r.tasks held.rooms held.tasks begin)
+    c.if-not-is_task_line.false (c.store_task.ensures r.capacities ns r.pairs r.tasks held.rooms held.tasks begin)

@@ -1,7 +1,7 @@
 -- What the code keeps of a plan text on its way through the lines: the symbols in bytes of their own, and all numbers in sections of the same cells.
 use Rattle.std.specs.Prelude.{◌≡◌, List, map, ℕ, zero, suc, ◌+◌, ◌*◌, ◌≤◌, ◌<◌, length, get_or, set, take, drop}
 use Rattle.std.specs.Prelude.{Option, None, Some, Result, Ok, Err}
-use Rattle.units.specs.Limits.{most_rooms, most_tasks, box_numbers}
+use Rattle.units.specs.Limits.{most_rooms, most_tasks, box_numbers, pair_numbers}
 use Rattle.units.specs.Lists.{list_to}
 use Rattle.plan.specs.Plan.{Plan, plan}
 use Rattle.plan.specs.declared.Refusal.{Refusal}
@@ -9,12 +9,12 @@ use Rattle.plan.specs.Refusals.{Answer, refused, answered, fault_of}
 use Rattle.plan_lines.specs.declared.Scan.{Scan}
 use Rattle.plan_lines.specs.declared.Section.{Section}
 use Rattle.plan_lines.specs.declared.Section.TheVariants as section_is
-use Rattle.plan_format.specs.Text.{Read, most_bytes, plan_section, cal_section, task_section}
-use Rattle.plan_format.specs.Reading.{joined, box_of, all_of, most_symbols, most_heights, most_bounds}
+use Rattle.plan_format.specs.Text.{Read, most_bytes, plan_section, cal_section, task_section, after_section}
+use Rattle.plan_format.specs.Reading.{joined, box_of, all_of, most_symbols, most_heights, most_paired, most_bounds}
 
 -- ---- the cells and their sections
 
--- where each section begins: the tasks' calendars, work times, heights and boxes, and the capacities; and how many cells there are
+-- where each section begins: the tasks' calendars, work times, heights and boxes, the capacities, and the pairs; and how many cells there are
 abbrev pub calendars_at : ℕ
 calendars_at = 0
 
@@ -30,8 +30,11 @@ boxes_at = heights_at + most_heights
 abbrev pub capacities_at : ℕ
 capacities_at = boxes_at + most_bounds
 
+abbrev pub pairs_at : ℕ
+pairs_at = capacities_at + most_rooms
+
 abbrev pub store_size : ℕ
-store_size = capacities_at + most_rooms
+store_size = pairs_at + most_paired
 
 -- where the heights in a room begin: each room has cells for the most tasks, since their number is known only in the end
 abbrev pub room_at : ℕ → ℕ
@@ -45,20 +48,21 @@ section from n cells = take n (drop from cells)
 unfoldable pub Kept : ℕ → ℕ → List ℕ → List ℕ → Type 0
 Kept from room xs cells = length xs ≤ room → section from (length xs) cells ≡ xs
 
--- what each section keeps: capacities, calendars, work times, the heights in each room, boxes
-pub record Keeps (rs cs ws : List ℕ) (hs : ℕ → List ℕ) (bs cells : List ℕ) : Type 0 where
+-- what each section keeps: capacities, calendars, work times, the heights in each room, boxes, pairs
+pub record Keeps (rs cs ws : List ℕ) (hs : ℕ → List ℕ) (bs ps cells : List ℕ) : Type 0 where
   pub capacities : Kept capacities_at most_rooms rs cells
   pub calendars : Kept calendars_at most_tasks cs cells
   pub work_times : Kept work_times_at most_tasks ws cells
   pub heights : (room : ℕ) → room < length rs → Kept (room_at room) most_tasks (hs room) cells
   pub boxes : Kept boxes_at most_bounds bs cells
+  pub pairs : Kept pairs_at most_paired ps cells
 
--- the capacities and the tasks' numbers, if there is room for so many rooms
-abbrev pub KeepsTasks : ℕ → List ℕ → List (List ℕ) → List ℕ → Type 0
-KeepsTasks hours rs tasks cells =
+-- the capacities, the tasks' numbers and the pairs, if there is room for so many rooms
+abbrev pub KeepsNumbers : ℕ → List ℕ → List (List ℕ) → List ℕ → List ℕ → Type 0
+KeepsNumbers hours rs tasks ps cells =
     length rs ≤ most_rooms
     → Keeps rs (map (λ t. get_or t 0 0) tasks) (map (λ t. get_or t 1 0) tasks) (λ room. map (λ t. get_or t (room + 2) 0) tasks)
-    (joined (map (box_of hours (length rs)) tasks)) cells
+    (joined (map (box_of hours (length rs)) tasks)) ps cells
 
 -- the cells once a task's heights in so many rooms are in them, from its numbers
 unfoldable pub with_heights : ℕ → List ℕ → ℕ → List ℕ → List ℕ
@@ -69,11 +73,11 @@ with_heights task numbers (suc room) cells = set (with_heights task numbers room
 unfoldable pub stored_heights : ℕ → ℕ → List ℕ → List ℕ
 stored_heights rooms tasks cells = joined (list_to (λ room. section (room_at room) tasks cells) rooms)
 
--- the plan of so many rooms and tasks that is stored, and its boxes
-abbrev pub stored_plan : ℕ → ℕ → ℕ → List ℕ → List ℕ → Plan
-stored_plan hours rooms tasks symbols cells =
+-- the plan of so many rooms, tasks and pairs that is stored, and its boxes
+abbrev pub stored_plan : ℕ → ℕ → ℕ → ℕ → List ℕ → List ℕ → Plan
+stored_plan hours rooms tasks pairs symbols cells =
     plan hours (section capacities_at rooms cells) symbols (section calendars_at tasks cells) (section work_times_at tasks cells)
-    (stored_heights rooms tasks cells)
+    (stored_heights rooms tasks cells) (section pairs_at (pair_numbers * pairs) cells)
 
 abbrev pub stored_boxes : ℕ → List ℕ → List ℕ
 stored_boxes tasks cells = section boxes_at (box_numbers * tasks) cells
@@ -86,10 +90,11 @@ section_number section_is.Start = 0
 section_number section_is.Plan = plan_section
 section_number section_is.Calendars = cal_section
 section_number section_is.Tasks = task_section
+section_number section_is.Pairs = after_section
 
 -- everything that is counted; no more than the bytes of the text
 abbrev pub counted : Scan → ℕ
-counted s = s.symbols + s.calendars + s.tasks
+counted s = s.symbols + s.calendars + s.tasks + s.pairs
 
 -- what has been read, as it is counted and stored once n bytes are
 pub record Holds (r : Read) (s : Scan) (n : ℕ) (symbols cells : List ℕ) : Type 0 where
@@ -100,9 +105,10 @@ pub record Holds (r : Read) (s : Scan) (n : ℕ) (symbols cells : List ℕ) : Ty
   pub even : s.even ≡ all_of r.hours r.calendars
   pub symbol_count : s.symbols ≡ length (joined r.calendars)
   pub tasks : s.tasks ≡ length r.tasks
+  pub pairs : pair_numbers * s.pairs ≡ length r.pairs
   pub few : counted s ≤ n
   pub kept_symbols : Kept 0 most_symbols (joined r.calendars) symbols
-  pub kept_tasks : KeepsTasks r.hours r.capacities r.tasks cells
+  pub kept_numbers : KeepsNumbers r.hours r.capacities r.tasks r.pairs cells
 
 -- what has been read with another line, if the line keeps to the rules
 unfoldable pub Follows : Option Read → Option Scan → ℕ → List ℕ → List ℕ → Type 0
