@@ -11,7 +11,7 @@ use Rattle.units.specs.Choice.{◌and◌, on_option}
 use Rattle.units.specs.Limits.{most_rooms, most_tasks, most_pairs, pair_numbers}
 use Rattle.units.proofs.Choices.{some-if, none-if, and_both, not_left, not_right}
 use Rattle.units.proofs.Lists.{list-eq}
-use Rattle.plan.specs.Plan.{plan}
+use Rattle.plan.specs.Plan.{plan, pair_count}
 use Rattle.plan_lines.specs.declared.Scan.{Scan}
 use Rattle.plan_lines.specs.declared.Section.{Section}
 use Rattle.plan_lines.specs.declared.Section.TheVariants as section_is
@@ -240,6 +240,10 @@ module _ {r : Read} {s : Scan} {n : ℕ} {symbols cells : List ℕ} (held : Hold
   pub task-count : s.tasks ≡ length (plan_in r).shifts.task_calendars
   unfolding plan_in
   task-count = count-tasks 0
+
+  pub pair-count : s.pairs ≡ pair_count (plan_in r)
+  unfolding plan_in
+  pair-count = omega (arith, held.pairs)
 
   pub symbols-held : s.symbols ≤ most_symbols → section 0 s.symbols symbols ≡ (plan_in r).shifts.calendars
   unfolding plan_in

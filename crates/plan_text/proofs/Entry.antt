@@ -20,10 +20,9 @@ use Rattle.plan_format.specs.Text.{Read, most_bytes}
 use Rattle.plan_format.specs.Reading.{most_symbols, most_heights, is_enough, read_fault, end_with, stored, read_tested}
 use Rattle.plan_format.proofs.Readings.{enough, not-refused}
 use Rattle.plan_lines.specs.Inner.Scanning.{section, stored_plan, stored_boxes, Holds, Scans}
-use Rattle.plan_lines.proofs.Following.{plan-held, boxes-held}
+use Rattle.plan_lines.proofs.Following.{pair-count, plan-held, boxes-held}
 use Rattle.plan_text.specs.declared.PlanRead as Told
 use Rattle.plan_text.specs.Entry.{reading_answer}
-use Rattle.plan_text.proofs.Judging.{read-passed}
 use Rattle.plan_text.proofs.Judging.{read-passed}
 
 -- a refusal that is handed on
@@ -40,17 +39,18 @@ module _ (a : Answer Read) (symbols cells : List ℕ) where
   unfolding Scans
   scans-whole s f = f
 
-module _ (rs cs ts ws ks bs : List ℕ) where
+module _ (rs cs ts ws ks ps bs : List ℕ) where
   -- memory that is enough has room for a plan that passes
-  pub has-room : {P : Plan} {own : List ℕ} → Passed P own → is_enough rs cs ts ws ks bs ≡ true
+  pub has-room : {P : Plan} {own : List ℕ} → Passed P own → is_enough rs cs ts ws ks ps bs ≡ true
       → (length P.capacities ≤ length rs)
       × (length P.shifts.calendars ≤ length cs)
       × (length P.shifts.task_calendars ≤ length ts)
       × (length P.shifts.work_times ≤ length ws)
       × (length P.heights ≤ length ks)
+      × (length P.pairs ≤ length ps)
       × (length own ≤ length bs)
   has-room {P} p e =
-      let room = enough _ _ _ _ _ _ e in
+      let room = enough _ _ _ _ _ _ _ e in
       let symbols : calendar_count P.shifts * P.shifts.hours ≤ most_symbols =
       mul-le-mul {n₁ = calendar_count P.shifts} {m₁ = P.shifts.hours} {n₂ = most_calendars} {m₂ = most_hours} p.calendars p.hours
       in
@@ -62,33 +62,39 @@ module _ (rs cs ts ws ks bs : List ℕ) where
         omega (arith, p.tasks, room.task_calendars),
         omega (arith, p.tasks, p.work_times, room.work_times),
         omega (arith, p.heights, heights, room.heights),
+        omega (arith, p.few_pairs, p.pairs, room.pairs),
         omega (arith, p.tasks, p.boxes, room.boxes),
       )
 
   -- the plan of a text that no test refuses, as it is copied into the memory lent
   module _ {r : Read} {s : Scan} {n : ℕ} {symbols cells : List ℕ} (held : Holds r s n symbols cells) where
-    pub kept : {P : Plan} {boxes rs' cs' ts' ws' ks' bs' : List ℕ} → P ≡ stored_plan s.hours s.rooms s.tasks (section 0 s.symbols symbols) cells
+    pub kept : {P : Plan} {boxes rs' cs' ts' ws' ks' ps' bs' : List ℕ}
+        → P ≡ stored_plan s.hours s.rooms s.tasks s.pairs (section 0 s.symbols symbols) cells
         → boxes ≡ stored_boxes s.tasks cells
-        → is_enough rs cs ts ws ks bs ≡ true → None ≡ read_fault true r
+        → is_enough rs cs ts ws ks ps bs ≡ true → None ≡ read_fault true r
         → (rs' ≡ written P.capacities rs)
         × (cs' ≡ written P.shifts.calendars cs)
         × (ts' ≡ written P.shifts.task_calendars ts)
         × (ws' ≡ written P.shifts.work_times ws)
         × (ks' ≡ written P.heights ks)
+        × (ps' ≡ written P.pairs ps)
         × (bs' ≡ written boxes bs)
-        → end_with (answered (record { hours = s.hours; rooms = s.rooms; calendars = s.calendars; tasks = s.tasks })) rs' cs' ts' ws' ks' bs'
-        ≡ read_tested rs cs ts ws ks bs r
+        → end_with (answered (record { hours = s.hours; rooms = s.rooms; calendars = s.calendars; tasks = s.tasks; pairs = s.pairs }))
+        rs' cs' ts' ws' ks' ps' bs'
+        ≡ read_tested rs cs ts ws ks ps bs r
     unfolding stored
     kept p b e q left =
         let few = read-passed held q in
-        let own = p ∙ plan-held held few.symbols_few few.tasks_few few.rooms_few in
-        let own_boxes = b ∙ boxes-held held few.symbols_few few.tasks_few few.rooms_few in
+        let own = p ∙ plan-held held few.symbols_few few.tasks_few few.pairs_few few.rooms_few in
+        let own_boxes = b ∙ boxes-held held few.symbols_few few.tasks_few few.pairs_few few.rooms_few in
         (λ k. end_with
-        (answered (record { hours = held.hours k; rooms = held.rooms k; calendars = held.calendars k; tasks = held.tasks k }))
+        (answered
+        (record { hours = held.hours k; rooms = held.rooms k; calendars = held.calendars k; tasks = held.tasks k; pairs = pair-count held k }))
         ((left.0 ∙ ap (λ (p : Plan). written p.capacities rs) own) k)
         ((left.1 ∙ ap (λ (p : Plan). written p.shifts.calendars cs) own) k)
         ((left.2 ∙ ap (λ (p : Plan). written p.shifts.task_calendars ts) own) k)
         ((left.3 ∙ ap (λ (p : Plan). written p.shifts.work_times ws) own) k)
         ((left.4 ∙ ap (λ (p : Plan). written p.heights ks) own) k)
-        ((left.5 ∙ ap (λ (l : List ℕ). written l bs) own_boxes) k))
-        ∙ not-refused rs cs ts ws ks bs r (rw e (sym q))
+        ((left.5 ∙ ap (λ (p : Plan). written p.pairs ps) own) k)
+        ((left.6 ∙ ap (λ (l : List ℕ). written l bs) own_boxes) k))
+        ∙ not-refused rs cs ts ws ks ps bs r (rw e (sym q))

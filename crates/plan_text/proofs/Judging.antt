@@ -10,28 +10,29 @@ use native.Mathlib.Nat.{suc-mul, mul-le-mul}
 use native.Mathlib.Omega.{arith}
 use lib.ListN.{length, length-append}
 use borrow.Author.Tests.{eqb-true, eq-eqb, le-leb, lt-leb}
-use Rattle.units.specs.Choice.{◌or_else◌, first_of}
-use Rattle.units.specs.Limits.{most_hours, most_calendars, most_rooms, most_tasks}
-use Rattle.units.specs.Limits.{is_plan_length, is_calendar_count, is_room_count, is_task_count}
+use Rattle.units.specs.Choice.{◌and◌, ◌or_else◌, first_of}
+use Rattle.units.specs.Limits.{most_hours, most_calendars, most_rooms, most_tasks, most_pairs, pair_numbers}
+use Rattle.units.specs.Limits.{is_plan_length, is_calendar_count, is_room_count, is_task_count, is_pair_count}
 use Rattle.units.specs.Lists.{list_to}
 use Rattle.units.proofs.Choices.{and_both, and_left, and_right, not_left, not_right, neither, else-none, else-some}
 use Rattle.units.proofs.Lists.{list_length}
 use Rattle.units.proofs.Ranges.{is_within, to-most}
-use Rattle.plan.specs.Plan.{Plan, plan, task_count}
+use Rattle.plan.specs.Plan.{Plan, plan, task_count, pair_count}
 use Rattle.plan.specs.declared.Fault.{Fault}
 use Rattle.plan.specs.declared.Refusal.{Refusal}
 use Rattle.plan.specs.Refusals.{fault, fault_of, tested_fault}
-use Rattle.plan.specs.Faults.{one_for_each_task, is_right_size, calendars_fault, capacity_fault, counts_fault, tasks_fault, plan_fault}
+use Rattle.plan.specs.Faults.{one_for_each_task, is_whole_pairs, is_right_size, calendars_fault, capacity_fault, counts_fault, tasks_fault}
+use Rattle.plan.specs.Faults.{pairs_fault, plan_fault}
 use Rattle.plan.proofs.Refusals.{unless-true, unless-none, unless-false, go_on, refuse}
 use Rattle.plan.proofs.Passed.{counts-passed}
 use Rattle.plan_lines.specs.declared.Scan.{Scan}
 use Rattle.plan_format.specs.Text.{Read}
 use Rattle.plan_format.specs.Reading.{joined, plan_in, boxes_in, all_of, most_symbols, line_fault, read_fault}
 use Rattle.plan_format.proofs.Joined.{all_list}
-use Rattle.plan_lines.specs.Inner.Scanning.{calendars_at, work_times_at, boxes_at, capacities_at, store_size, room_at, section}
+use Rattle.plan_lines.specs.Inner.Scanning.{calendars_at, work_times_at, boxes_at, capacities_at, pairs_at, store_size, room_at, section}
 use Rattle.plan_lines.specs.Inner.Scanning.{stored_heights, stored_plan, stored_boxes, Holds}
 use Rattle.plan_lines.proofs.Sections.{section-length}
-use Rattle.plan_lines.proofs.Following.{task-count, symbols-held, plan-held, boxes-held}
+use Rattle.plan_lines.proofs.Following.{task-count, pair-count, symbols-held, plan-held, boxes-held}
 
 -- calendar lines of H symbols each have as many times H symbols as there are lines
 joined_length : (h : ℕ) (ls : List (List ℕ)) → all_of h ls ≡ true → length (joined ls) ≡ length ls * h
@@ -64,33 +65,45 @@ first-refusal (Ok u) d = sym (else-none _ _ refl)
 first-refusal (Err e) d = sym (else-some _ _ _ refl)
 
 -- a plan of one room and no task: its memory is of the right size, and it is refused by its calendars alone
-pub no-task-each : one_for_each_task (0 ∷ []) [] [] [] [] ≡ true
-unfolding one_for_each_task
-no-task-each = and_both _ _ refl (and_both _ _ refl refl)
+pub no-task-each : (one_for_each_task (0 ∷ []) [] [] [] [] and is_whole_pairs []) ≡ true
+unfolding one_for_each_task is_whole_pairs
+no-task-each = and_both _ _ (and_both _ _ refl (and_both _ _ refl refl)) refl
 
-counts-none : counts_fault 0 (0 ∷ []) ≡ None
+counts-none : counts_fault 0 0 (0 ∷ []) ≡ None
 unfolding counts_fault capacity_fault first_of
-counts-none = go_on _ 5 0 _ refl ∙ go_on _ 17 0 _ (is_within 1 most_rooms 1 (omega arith) (omega arith)) ∙ else-none _ _ refl ∙ unless-true _ 10 0 refl
+counts-none =
+    go_on _ 5 0 _ refl
+    ∙ go_on _ 19 0 _ refl
+    ∙ go_on _ 17 0 _ (is_within 1 most_rooms 1 (omega arith) (omega arith))
+    ∙ else-none _ _ refl
+    ∙ unless-true _ 10 0 refl
 
-by-calendars : (h : ℕ) (cs : List ℕ) (y : Option Fault) → (plan_fault (plan h (0 ∷ []) cs [] [] []) [] or_else y) ≡ (calendars_fault h cs or_else y)
-unfolding plan_fault tasks_fault first_of
-by-calendars h cs y = ends-later _ _ _ (else-none _ _ counts-none)
+abbrev of_symbols : ℕ → List ℕ → Option Fault
+of_symbols h cs = plan_fault (plan h (0 ∷ []) cs [] [] [] []) []
+
+by-calendars : (h : ℕ) (cs : List ℕ) (y : Option Fault) → (of_symbols h cs or_else y) ≡ (calendars_fault h cs or_else y)
+unfolding plan_fault tasks_fault pairs_fault first_of
+by-calendars h cs y = ends-later _ _ _ (else-none _ _ counts-none ∙ else-none _ _ refl)
 
 -- a plan whose counts are refused is refused as that one, or else by its counts
 module _ (P : Plan) (boxes : List ℕ) where
-  by-counts : (f : Fault) → counts_fault (task_count P) P.capacities ≡ Some f
-      → plan_fault P boxes ≡ (plan_fault (plan P.shifts.hours (0 ∷ []) P.shifts.calendars [] [] []) [] or_else Some f)
+  by-counts : (f : Fault) → counts_fault (task_count P) (pair_count P) P.capacities ≡ Some f
+      → plan_fault P boxes ≡ (of_symbols P.shifts.hours P.shifts.calendars or_else Some f)
   by-counts f e = unfold plan_fault in (ends-alike _ _ _ (else-some _ _ _ e)) ∙ sym (by-calendars P.shifts.hours P.shifts.calendars (Some f))
 
   too_many : most_tasks < task_count P
-      → plan_fault P boxes ≡ (plan_fault (plan P.shifts.hours (0 ∷ []) P.shifts.calendars [] [] []) [] or_else Some (fault 5 0))
+      → plan_fault P boxes ≡ (of_symbols P.shifts.hours P.shifts.calendars or_else Some (fault 5 0))
   too_many h = by-counts _ (unfold counts_fault in (refuse _ 5 0 _ (lt-leb (task_count P) most_tasks h)))
 
-  no-rooms : is_task_count (task_count P) ≡ true → is_room_count (length P.capacities) ≡ false
-      → plan_fault P boxes ≡ (plan_fault (plan P.shifts.hours (0 ∷ []) P.shifts.calendars [] [] []) [] or_else Some (fault 17 0))
-  no-rooms t e = by-counts _ (unfold counts_fault in (go_on _ 5 0 _ t ∙ refuse _ 17 0 _ e))
+  too-many-pairs : is_task_count (task_count P) ≡ true → most_pairs < pair_count P
+      → plan_fault P boxes ≡ (of_symbols P.shifts.hours P.shifts.calendars or_else Some (fault 19 0))
+  too-many-pairs t h = by-counts _ (unfold counts_fault in (go_on _ 5 0 _ t ∙ refuse _ 19 0 _ (lt-leb (pair_count P) most_pairs h)))
 
--- ---- parts for as many rooms and tasks as are stored
+  no-rooms : is_task_count (task_count P) ≡ true → is_pair_count (pair_count P) ≡ true → is_room_count (length P.capacities) ≡ false
+      → plan_fault P boxes ≡ (of_symbols P.shifts.hours P.shifts.calendars or_else Some (fault 17 0))
+  no-rooms t p e = by-counts _ (unfold counts_fault in (go_on _ 5 0 _ t ∙ go_on _ 19 0 _ p ∙ refuse _ 17 0 _ e))
+
+-- ---- parts for as many rooms, tasks and pairs as are stored
 
 module _ (rooms n : ℕ) (cells : List ℕ) (few : rooms ≤ most_rooms) (l : n ≤ most_tasks) (size : length cells ≡ store_size) where
   heights-size : length (stored_heights rooms n cells) ≡ rooms * n
@@ -100,15 +113,18 @@ module _ (rooms n : ℕ) (cells : List ℕ) (few : rooms ≤ most_rooms) (l : n 
       joined_length n (list_to parts rooms) (all_list n parts rooms (λ room h. section-length (room_at room) n cells (omega arith)))
       ∙ ap (λ (k : ℕ). k * n) (list_length parts rooms)
 
-  pub parts-each : (hours : ℕ) (symbols : List ℕ)
-      → is_right_size (stored_plan hours rooms n symbols cells) (stored_boxes n cells) ≡ true
-  unfolding one_for_each_task
-  parts-each hours symbols =
+  pub parts-each : (hours pairs : ℕ) (symbols : List ℕ) → pairs ≤ most_pairs
+      → is_right_size (stored_plan hours rooms n pairs symbols cells) (stored_boxes n cells) ≡ true
+  unfolding one_for_each_task is_whole_pairs
+  parts-each hours pairs symbols p =
       let t = section-length calendars_at n cells (omega arith) in
       let b = section-length boxes_at (6 * n) cells (omega arith) in
-      and_both _ _ (eq-eqb _ _ (section-length work_times_at n cells (omega arith) ∙ sym t))
+      let two = section-length pairs_at (pair_numbers * pairs) cells (omega arith) in
+      and_both _ _
+      (and_both _ _ (eq-eqb _ _ (section-length work_times_at n cells (omega arith) ∙ sym t))
       (and_both _ _ (eq-eqb _ _ (heights-size ∙ ap₂ ◌*◌ (sym (section-length capacities_at rooms cells (omega arith))) (sym t)))
-      (eq-eqb _ _ (b ∙ ap (λ (k : ℕ). 6 * k) (sym t))))
+      (eq-eqb _ _ (b ∙ ap (λ (k : ℕ). 6 * k) (sym t)))))
+      (eq-eqb _ _ (omega (arith, two)))
 
 module _ {r : Read} {s : Scan} {n : ℕ} {symbols cells : List ℕ} (held : Holds r s n symbols cells) where
   -- ---- 2 and 3, in their order
@@ -156,37 +172,45 @@ module _ {r : Read} {s : Scan} {n : ℕ} {symbols cells : List ℕ} (held : Hold
         in
         omega (arith, held.symbol_count, joined_length r.hours r.calendars (and_right _ _ lines))
 
-    pub read-plan : s.tasks ≤ most_tasks → s.rooms ≤ most_rooms
-        → plan_fault (stored_plan s.hours s.rooms s.tasks (section 0 s.symbols symbols) cells) (stored_boxes s.tasks cells)
+    pub read-plan : s.tasks ≤ most_tasks → s.pairs ≤ most_pairs → s.rooms ≤ most_rooms
+        → plan_fault (stored_plan s.hours s.rooms s.tasks s.pairs (section 0 s.symbols symbols) cells) (stored_boxes s.tasks cells)
         ≡ read_fault true r
-    read-plan t m = ap₂ plan_fault (plan-held held symbols-fit t m) (boxes-held held symbols-fit t m) ∙ sym by-plan
+    read-plan t p m = ap₂ plan_fault (plan-held held symbols-fit t p m) (boxes-held held symbols-fit t p m) ∙ sym by-plan
 
     -- the tests of the symbols alone, and a refusal after them
     alone : (f : Fault)
         → plan_fault (plan_in r) (boxes_in r)
-        ≡ (plan_fault (plan (plan_in r).shifts.hours (0 ∷ []) (plan_in r).shifts.calendars [] [] []) [] or_else Some f)
-        → (plan_fault (plan s.hours (0 ∷ []) (section 0 s.symbols symbols) [] [] []) [] or_else Some f) ≡ read_fault true r
+        ≡ (of_symbols (plan_in r).shifts.hours (plan_in r).shifts.calendars or_else Some f)
+        → (of_symbols s.hours (section 0 s.symbols symbols) or_else Some f) ≡ read_fault true r
     unfolding plan_in
     alone f e =
-        ap (λ P. plan_fault P [] or_else Some f) (λ k. plan (held.hours k) (0 ∷ []) (symbols-held held symbols-fit k) [] [] [])
-        ∙ sym e
-        ∙ sym by-plan
+        ap₂ (λ (h : ℕ) (cs : List ℕ). of_symbols h cs or_else Some f) held.hours (symbols-held held symbols-fit) ∙ sym e ∙ sym by-plan
 
     pub read-too-many : most_tasks < s.tasks
-        → (plan_fault (plan s.hours (0 ∷ []) (section 0 s.symbols symbols) [] [] []) [] or_else Some (fault 5 0)) ≡ read_fault true r
+        → (of_symbols s.hours (section 0 s.symbols symbols) or_else Some (fault 5 0)) ≡ read_fault true r
     read-too-many t = alone _ (too_many (plan_in r) (boxes_in r) (omega (arith, task-count held)))
 
-    pub read-no-rooms : s.tasks ≤ most_tasks → is_room_count s.rooms ≡ false
-        → (plan_fault (plan s.hours (0 ∷ []) (section 0 s.symbols symbols) [] [] []) [] or_else Some (fault 17 0)) ≡ read_fault true r
-    unfolding plan_in
-    read-no-rooms t e =
-        let few = le-leb (length (plan_in r).shifts.task_calendars) most_tasks (omega (arith, task-count held)) in
-        alone _ (no-rooms (plan_in r) (boxes_in r) few (rw (← held.rooms) e))
+    -- once there are no more tasks than are stored
+    module _ (t : s.tasks ≤ most_tasks) where
+      few_tasks : is_task_count (task_count (plan_in r)) ≡ true
+      few_tasks = le-leb _ most_tasks (omega (arith, task-count held))
+
+      pub read-too-many-pairs : most_pairs < s.pairs
+          → (of_symbols s.hours (section 0 s.symbols symbols) or_else Some (fault 19 0)) ≡ read_fault true r
+      read-too-many-pairs p = alone _ (too-many-pairs (plan_in r) (boxes_in r) few_tasks (omega (arith, pair-count held)))
+
+      pub read-no-rooms : s.pairs ≤ most_pairs → is_room_count s.rooms ≡ false
+          → (of_symbols s.hours (section 0 s.symbols symbols) or_else Some (fault 17 0)) ≡ read_fault true r
+      unfolding plan_in
+      read-no-rooms p e =
+          let few_pairs = le-leb (pair_count (plan_in r)) most_pairs (omega (arith, pair-count held)) in
+          alone _ (no-rooms (plan_in r) (boxes_in r) few_tasks few_pairs (rw (← held.rooms) e))
 
   -- what a plan that passes has
   pub record ReadPassed : Type 0 where
     pub symbols_few : s.symbols ≤ most_symbols
     pub tasks_few : s.tasks ≤ most_tasks
+    pub pairs_few : s.pairs ≤ most_pairs
     pub rooms_few : s.rooms ≤ most_rooms
 
   pub read-passed : None ≡ read_fault true r → ReadPassed
@@ -198,5 +222,6 @@ module _ {r : Read} {s : Scan} {n : ℕ} {symbols cells : List ℕ} (held : Hold
       record {
         symbols_few = symbols-fit (sym after-3.0);
         tasks_few = omega (arith, task-count held, counts.tasks);
+        pairs_few = omega (arith, pair-count held, counts.few_pairs);
         rooms_few = omega (arith, held.rooms, counts.rooms);
       }

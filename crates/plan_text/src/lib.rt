@@ -4,7 +4,7 @@
 ghost use Rattle.std.specs.Prelude.{true, List, [], ◌∷◌, ◌≡◌, ℕ, ◌≤◌, length, IfOk, Some};
 ghost use Rattle.units.specs.Cells.{written};
 ghost use Rattle.units.specs.Choice.{◌or_else◌};
-ghost use Rattle.units.specs.Limits.{most_rooms, most_tasks};
+ghost use Rattle.units.specs.Limits.{most_rooms, most_tasks, most_pairs};
 ghost use Rattle.plan.specs.Plan.{plan};
 ghost use Rattle.plan.specs.Refusals.{fault_of, tested_fault};
 ghost use Rattle.plan.specs.Faults.{plan_fault};
@@ -17,21 +17,22 @@ ghost use Rattle.plan_lines.specs.Inner.Scanning.{Holds, Stored};
 ghost use Rattle.plan_text.specs.Entry.{reading_answer};
 
 use plan::{Plan, Refusal};
-use plan_lines::{BOXES, CAPACITIES, CELLS, HEIGHTS, Scan, Store, WORK_TIMES};
+use plan_lines::{BOXES, CAPACITIES, CELLS, HEIGHTS, PAIRS, Scan, Store, WORK_TIMES};
 use text::put::put_all;
-use units::{Bounds, CalendarNumber, Duration, MOST_ROOMS, RoomNumber};
+use units::{Bounds, CalendarNumber, Duration, MOST_ROOMS, Pair, RoomNumber};
 
 mod memory;
 
 pub use memory::PlanMemory;
 
-// What was read of a plan: H, and how many rooms, calendars and tasks.
+// What was read of a plan: H, and how many rooms, calendars, tasks and pairs.
 #[derive(Clone, Copy, PartialEq, Eq)]
 pub struct PlanRead {
     pub hours: u16,
     pub rooms: usize,
     pub calendars: usize,
     pub tasks: usize,
+    pub pairs: usize,
 }
 
 // The most bytes of a text, and the most symbols of a plan, calendars joined.
@@ -42,6 +43,9 @@ pub const TEXT_ROOM: usize = MOST_BYTES + 1;
 
 // The most heights of a plan, one a task in each room.
 pub const MOST_HEIGHTS: usize = MOST_ROOMS * Bounds::MOST;
+
+// The most numbers of the pairs of a plan, two a pair.
+pub const MOST_PAIRED: usize = Pair::NUMBERS * Pair::MOST;
 
 // The most bounds of a plan, six a task.
 pub const MOST_BOUNDS: usize = Bounds::NUMBERS * Bounds::MOST;
@@ -56,15 +60,17 @@ fn is_enough(
     task_calendars: &[u16],
     work_times: &[u16],
     heights: &[u16],
+    pairs: &[u16],
     boxes: &[u16],
 ) -> bool
-    ensures { result ≡ is_enough capacities.now calendars.now task_calendars.now work_times.now heights.now boxes.now }
+    ensures { result ≡ is_enough capacities.now calendars.now task_calendars.now work_times.now heights.now pairs.now boxes.now }
 {
     MOST_ROOMS <= capacities.len()
         && MOST_SYMBOLS <= calendars.len()
         && Bounds::MOST <= task_calendars.len()
         && Bounds::MOST <= work_times.len()
         && MOST_HEIGHTS <= heights.len()
+        && MOST_PAIRED <= pairs.len()
         && MOST_BOUNDS <= boxes.len()
 }
 
@@ -106,15 +112,15 @@ fn stored_boxes(tasks: usize, cells: &[u16; CELLS]) -> &[u16]
     &cells[BOXES..BOXES + Bounds::NUMBERS * tasks]
 }
 
-// The plan that is stored, of as many rooms and tasks as there is room for, with its calendars' symbols.
+// The plan that is stored, of as many rooms, tasks and pairs as there is room for, with its calendars' symbols.
 fn stored_plan<'a>(
     scan: Scan,
     calendars: &'a [u8],
     cells: &'a [u16; CELLS],
     gathered: &'a mut [u16; MOST_HEIGHTS],
 ) -> Plan<'a>
-    requires { (scan.rooms ≤ most_rooms) × (scan.tasks ≤ most_tasks) }
-    ensures { plan_in result ≡ stored_plan scan.hours scan.rooms scan.tasks calendars.now cells.now }
+    requires { (scan.rooms ≤ most_rooms) × (scan.tasks ≤ most_tasks) × (scan.pairs ≤ most_pairs) }
+    ensures { plan_in result ≡ stored_plan scan.hours scan.rooms scan.tasks scan.pairs calendars.now cells.now }
 {
     let heights = gather_heights(scan.rooms, scan.tasks, cells, gathered);
     Plan::new(
@@ -124,18 +130,19 @@ fn stored_plan<'a>(
         &cells[..scan.tasks],
         &cells[WORK_TIMES..WORK_TIMES + scan.tasks],
         heights,
+        &cells[PAIRS..PAIRS + Pair::NUMBERS * scan.pairs],
     )
 }
 
 // The refusal of H or the calendars, as in a plan of one room and no task, or else this one.
 fn refusal_of_symbols(hours: u16, symbols: &[u8], other: Refusal) -> Refusal
-    ensures { Some (fault_of result) ≡ (plan_fault (plan hours (0 ∷ []) symbols.now [] [] []) [] or_else Some (fault_of other)) }
+    ensures { Some (fault_of result) ≡ (plan_fault (plan hours (0 ∷ []) symbols.now [] [] [] []) [] or_else Some (fault_of other)) }
 {
-    let plan = Plan::new(hours, &[0], symbols, &[], &[], &[]);
+    let plan = Plan::new(hours, &[0], symbols, &[], &[], &[], &[]);
     input::test_plan(&plan, &[]).err().unwrap_or(other)
 }
 
-// The plan of a whole text, if it passes the tests. Of more tasks or rooms than are stored, they ask for the symbols alone.
+// The plan of a whole text, if it passes the tests. Of more tasks, pairs or rooms than are stored, they ask for the symbols alone.
 fn tested_plan<'a>(
     scan: Scan,
     store: &'a Store,
@@ -144,13 +151,16 @@ fn tested_plan<'a>(
     requires { Stored scan store.now.symbols store.now.cells }
     ensures tests { (r : Read) → Holds r scan most_bytes store.now.symbols store.now.cells → tested_fault result ≡ read_fault true r }
     ensures plan { let symbols = section 0 scan.symbols store.now.symbols in
-        IfOk result (λ p. plan_in p ≡ stored_plan scan.hours scan.rooms scan.tasks symbols store.now.cells) }
+        IfOk result (λ p. plan_in p ≡ stored_plan scan.hours scan.rooms scan.tasks scan.pairs symbols store.now.cells) }
     ensures passes { IfOk result (λ p. Passed (plan_in p) (stored_boxes scan.tasks store.now.cells)) }
 {
     test_lines(scan)?;
     let calendars = &store.symbols[..scan.symbols];
     if !Bounds::is_count(scan.tasks) {
         return Err(refusal_of_symbols(scan.hours, calendars, Refusal::Tasks));
+    }
+    if !Pair::is_count(scan.pairs) {
+        return Err(refusal_of_symbols(scan.hours, calendars, Refusal::Pairs));
     }
     if !RoomNumber::is_count(scan.rooms) {
         return Err(refusal_of_symbols(scan.hours, calendars, Refusal::Rooms));
@@ -170,6 +180,7 @@ fn store_plan(
     task_calendars: &mut [u16],
     work_times: &mut [u16],
     heights: &mut [u16],
+    pairs: &mut [u16],
     boxes: &mut [u16],
 )
     requires { (length plan.now.capacities.now ≤ length capacities.old)
@@ -177,12 +188,14 @@ fn store_plan(
         × (length plan.now.shifts.task_calendars.now ≤ length task_calendars.old)
         × (length plan.now.shifts.work_times.now ≤ length work_times.old)
         × (length plan.now.heights.now ≤ length heights.old)
+        × (length plan.now.pairs.now ≤ length pairs.old)
         × (length plan_boxes.now ≤ length boxes.old) }
     ensures { (capacities.new ≡ written plan.now.capacities.now capacities.old)
         × (calendars.new ≡ written plan.now.shifts.calendars.now calendars.old)
         × (task_calendars.new ≡ written plan.now.shifts.task_calendars.now task_calendars.old)
         × (work_times.new ≡ written plan.now.shifts.work_times.now work_times.old)
         × (heights.new ≡ written plan.now.heights.now heights.old)
+        × (pairs.new ≡ written plan.now.pairs.now pairs.old)
         × (boxes.new ≡ written plan_boxes.now boxes.old) }
 {
     put_all(capacities, 0, plan.capacities);
@@ -190,6 +203,7 @@ fn store_plan(
     put_all(task_calendars, 0, plan.shifts.task_calendars);
     put_all(work_times, 0, plan.shifts.work_times);
     put_all(heights, 0, plan.heights);
+    put_all(pairs, 0, plan.pairs);
     put_all(boxes, 0, plan_boxes);
 }
 
@@ -201,10 +215,11 @@ pub fn read_plan(
     task_calendars: &mut [u16],
     work_times: &mut [u16],
     heights: &mut [u16],
+    pairs: &mut [u16],
     boxes: &mut [u16],
 ) -> Result<PlanRead, Refusal>
-    ensures { end_with (reading_answer result) capacities.new calendars.new task_calendars.new work_times.new heights.new boxes.new
-        ≡ read_plan capacities.old calendars.old task_calendars.old work_times.old heights.old boxes.old text.now }
+    ensures { end_with (reading_answer result) capacities.new calendars.new task_calendars.new work_times.new heights.new pairs.new boxes.new
+        ≡ read_plan capacities.old calendars.old task_calendars.old work_times.old heights.old pairs.old boxes.old text.now }
 {
     let mut store = Store::EMPTY;
     let scan = plan_lines::read_text(text, &mut store)?;
@@ -214,6 +229,7 @@ pub fn read_plan(
         task_calendars,
         work_times,
         heights,
+        pairs,
         boxes,
     ) {
         return Err(Refusal::MemorySize);
@@ -228,6 +244,7 @@ pub fn read_plan(
         task_calendars,
         work_times,
         heights,
+        pairs,
         boxes,
     );
     Ok(PlanRead {
@@ -235,5 +252,6 @@ pub fn read_plan(
         rooms: scan.rooms,
         calendars: scan.calendars,
         tasks: scan.tasks,
+        pairs: scan.pairs,
     })
 }

@@ -2,15 +2,16 @@
 #![tactic(auto)]
 
 ghost use Rattle.std.specs.Prelude.{◌≡◌, ◌*◌, IfOk, take};
+ghost use Rattle.units.specs.Limits.{pair_numbers};
 ghost use Rattle.plan.specs.Plan.{plan, task_count};
 ghost use Rattle.plan.specs.Lent.{plan_in};
 ghost use Rattle.plan_format.specs.Reading.{end_with, read_plan};
 ghost use Rattle.plan_text.specs.Entry.{reading_answer};
 ghost use Rattle.plan_text.specs.Limits.{WithinLimits};
 
-use crate::{MOST_BOUNDS, MOST_HEIGHTS, MOST_SYMBOLS, PlanRead, read_plan};
+use crate::{MOST_BOUNDS, MOST_HEIGHTS, MOST_PAIRED, MOST_SYMBOLS, PlanRead, read_plan};
 use plan::{Plan, Refusal, first_symbol};
-use units::{Bounds, Duration, MOST_ROOMS};
+use units::{Bounds, Duration, MOST_ROOMS, Pair};
 
 // Memory for the most that a plan can hold, since there is no heap, but for its boxes, which are lent beside a plan.
 #[derive(Drop)]
@@ -20,6 +21,7 @@ pub struct PlanMemory {
     pub task_calendars: [u16; Bounds::MOST],
     pub work_times: [u16; Bounds::MOST],
     pub heights: [u16; MOST_HEIGHTS],
+    pub pairs: [u16; MOST_PAIRED],
 }
 
 impl PlanMemory {
@@ -30,13 +32,15 @@ impl PlanMemory {
         task_calendars: [0; Bounds::MOST],
         work_times: [0; Bounds::MOST],
         heights: [0; MOST_HEIGHTS],
+        pairs: [0; MOST_PAIRED],
     };
 
     // Reads a plan text of any length into this memory and that of the boxes. What was read is within the limits of a plan.
     pub fn read(&mut self, text: &[u8], boxes: &mut [u16; MOST_BOUNDS]) -> Result<PlanRead, Refusal>
         ensures reads { end_with (reading_answer result)
-            self.new.capacities self.new.symbols self.new.task_calendars self.new.work_times self.new.heights boxes.new
-            ≡ read_plan self.old.capacities self.old.symbols self.old.task_calendars self.old.work_times self.old.heights boxes.old text.now }
+            self.new.capacities self.new.symbols self.new.task_calendars self.new.work_times self.new.heights self.new.pairs boxes.new
+            ≡ read_plan
+            self.old.capacities self.old.symbols self.old.task_calendars self.old.work_times self.old.heights self.old.pairs boxes.old text.now }
         ensures limits { IfOk result WithinLimits }
     {
         read_plan(
@@ -46,11 +50,12 @@ impl PlanMemory {
             &mut self.task_calendars,
             &mut self.work_times,
             &mut self.heights,
+            &mut self.pairs,
             boxes,
         )
     }
 
-    // The plan that was read: the first numbers of each part, for as many tasks as were read.
+    // The plan that was read: the first numbers of each part, for as many rooms, tasks and pairs as were read.
     #[tactic(auto, unfolding(plan::specs::Plan::first_symbol))]
     pub fn plan(&self, read: PlanRead) -> Plan<'_>
         requires { WithinLimits read }
@@ -60,7 +65,8 @@ impl PlanMemory {
             (take (read.calendars * read.hours) self.now.symbols)
             (take read.tasks self.now.task_calendars)
             (take read.tasks self.now.work_times)
-            (take (read.rooms * read.tasks) self.now.heights) }
+            (take (read.rooms * read.tasks) self.now.heights)
+            (take (pair_numbers * read.pairs) self.now.pairs) }
         ensures tasks { task_count (plan_in result) ≡ read.tasks }
     {
         let symbols = first_symbol(read.calendars as u16, Duration(read.hours));
@@ -71,6 +77,7 @@ impl PlanMemory {
             &self.task_calendars[..read.tasks],
             &self.work_times[..read.tasks],
             &self.heights[..read.rooms * read.tasks],
+            &self.pairs[..Pair::NUMBERS * read.pairs],
         )
     }
 }

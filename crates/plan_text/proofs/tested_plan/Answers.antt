@@ -3,7 +3,7 @@ use mathlib.Core.Bool.{true}
 use Prim.Native.Nat.{◌≤◌}
 use Rattle.std.proofs.Common.{rules}
 use borrow.Author.Tests.{leb-true, leb-false}
-use Rattle.units.specs.Limits.{most_rooms, most_tasks}
+use Rattle.units.specs.Limits.{most_rooms, most_tasks, most_pairs}
 use Rattle.units.proofs.Ranges.{to-most}
 use Rattle.plan.specs.Faults.{is_right_size, plan_fault}
 use Rattle.plan.specs.Lent.{plan_in}
@@ -12,7 +12,7 @@ use Rattle.plan.proofs.Passed.{passed}
 use Rattle.plan_format.specs.Text.{Read, most_bytes}
 use Rattle.plan_format.specs.Reading.{read_fault}
 use Rattle.plan_lines.specs.Inner.Scanning.{section, Holds}
-use Rattle.plan_text.proofs.Judging.{parts-each, lines-refuse, symbols-fit, read-plan, read-too-many, read-no-rooms}
+use Rattle.plan_text.proofs.Judging.{parts-each, lines-refuse, symbols-fit, read-plan, read-too-many, read-too-many-pairs, read-no-rooms}
 use Rattle.plan_text.proofs.tested_plan.Goals.{After-stored_boxes}
 use Rattle.plan_text.proofs.tested_plan.Goals as goal
 
@@ -33,33 +33,48 @@ pub returns-then-not-is_count-2-clause-tests : goal.returns-then-not-is_count-2-
 returns-then-not-is_count-2-clause-tests c =
     λ r held.
     let pass = c.in_ok-test_lines.ensures r _ _ held in
-    let few = leb-true _ _ (sym c.is_count.ensures ∙ c.if-not-is_count.false) in
+    let tasks = leb-true _ _ (sym c.is_count.ensures ∙ c.if-not-is_count.false) in
     c.refusal_of_symbols-then-not-is_count-2.ensures
-    ∙ read-no-rooms held pass few (sym c.is_count-2.ensures ∙ c.if-not-is_count-2.true)
+    ∙ read-too-many-pairs held pass tasks (leb-false _ _ (sym c.is_count-2.ensures ∙ c.if-not-is_count-2.true))
+
+pub returns-then-not-is_count-3-clause-tests : goal.returns-then-not-is_count-3-clause-tests
+returns-then-not-is_count-3-clause-tests c =
+    λ r held.
+    let pass = c.in_ok-test_lines.ensures r _ _ held in
+    let tasks = leb-true _ _ (sym c.is_count.ensures ∙ c.if-not-is_count.false) in
+    let pairs = leb-true _ _ (sym c.is_count-2.ensures ∙ c.if-not-is_count-2.false) in
+    c.refusal_of_symbols-then-not-is_count-3.ensures
+    ∙ read-no-rooms held pass tasks pairs (sym c.is_count-3.ensures ∙ c.if-not-is_count-3.true)
 
 pub stored_plan-plan-requires : goal.stored_plan-plan-requires
 stored_plan-plan-requires c =
-    let rooms = to-most 1 most_rooms _ (sym c.is_count-2.ensures ∙ c.if-not-is_count-2.false) in
-    let few = leb-true _ _ (sym c.is_count.ensures ∙ c.if-not-is_count.false) in
-    (rooms, few)
+    let rooms = to-most 1 most_rooms _ (sym c.is_count-3.ensures ∙ c.if-not-is_count-3.false) in
+    let tasks = leb-true _ _ (sym c.is_count.ensures ∙ c.if-not-is_count.false) in
+    let pairs = leb-true _ _ (sym c.is_count-2.ensures ∙ c.if-not-is_count-2.false) in
+    (rooms, tasks, pairs)
 
--- the plan that is stored, of few rooms and few tasks
+-- the plan that is stored, of few rooms, few tasks and few pairs
 module _ (c : After-stored_boxes) where
   rooms : c.args.scan.rooms ≤ most_rooms
-  rooms = to-most 1 most_rooms _ (sym c.is_count-2.ensures ∙ c.if-not-is_count-2.false)
+  rooms = to-most 1 most_rooms _ (sym c.is_count-3.ensures ∙ c.if-not-is_count-3.false)
 
   tasks : c.args.scan.tasks ≤ most_tasks
   tasks = leb-true _ _ (sym c.is_count.ensures ∙ c.if-not-is_count.false)
 
+  pairs : c.args.scan.pairs ≤ most_pairs
+  pairs = leb-true _ _ (sym c.is_count-2.ensures ∙ c.if-not-is_count-2.false)
+
   right-size : is_right_size (plan_in c.stored_plan-plan.result) c.stored_boxes.result.now ≡ true
   right-size =
       ap₂ is_right_size c.stored_plan-plan.ensures c.stored_boxes.ensures
-      ∙ parts-each _ _ c.args.store.now.cells rooms tasks (search rules) c.args.scan.hours (section 0 c.args.scan.symbols c.args.store.now.symbols)
+      ∙ parts-each _ _ c.args.store.now.cells rooms tasks (search rules) c.args.scan.hours c.args.scan.pairs
+      (section 0 c.args.scan.symbols c.args.store.now.symbols) pairs
 
   fault : (r : Read) → Holds r c.args.scan most_bytes c.args.store.now.symbols c.args.store.now.cells
       → plan_fault (plan_in c.stored_plan-plan.result) c.stored_boxes.result.now ≡ read_fault true r
   fault r held =
-      ap₂ plan_fault c.stored_plan-plan.ensures c.stored_boxes.ensures ∙ read-plan held (c.in_ok-test_lines.ensures r _ _ held) tasks rooms
+      ap₂ plan_fault c.stored_plan-plan.ensures c.stored_boxes.ensures
+      ∙ read-plan held (c.in_ok-test_lines.ensures r _ _ held) tasks pairs rooms
 
 pub test_plan-requires : goal.test_plan-requires
 test_plan-requires c = right-size c

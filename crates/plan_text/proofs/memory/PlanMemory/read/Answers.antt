@@ -10,12 +10,12 @@ use Rattle.plan_text.specs.Limits.{WithinLimits}
 use Rattle.plan_text.specs.declared.PlanRead.{PlanRead}
 use Rattle.plan_text.proofs.memory.PlanMemory.read.Goals as goal
 
-within : (rs cs ts ws hs bs text : List ℕ) (told : Result PlanRead Refusal) {rs' cs' ts' ws' hs' bs' : List ℕ}
-    → end_with (reading_answer told) rs' cs' ts' ws' hs' bs' ≡ read_plan rs cs ts ws hs bs text → IfOk told WithinLimits
-within rs cs ts ws hs bs text (Err refusal) e = tt
-within rs cs ts ws hs bs text (Ok read) e =
-    let held = read-holds _ _ _ _ _ _ text _ (ap (λ (x : ReadEnd). x.answer) e) in
-    (held.hours, held.rooms, held.calendars, held.tasks)
+within : (rs cs ts ws hs ps bs text : List ℕ) (told : Result PlanRead Refusal) {rs' cs' ts' ws' hs' ps' bs' : List ℕ}
+    → end_with (reading_answer told) rs' cs' ts' ws' hs' ps' bs' ≡ read_plan rs cs ts ws hs ps bs text → IfOk told WithinLimits
+within rs cs ts ws hs ps bs text (Err refusal) e = tt
+within rs cs ts ws hs ps bs text (Ok read) e =
+    let held = read-holds _ _ _ _ _ _ _ text _ (ap (λ (x : ReadEnd). x.answer) e) in
+    (held.hours, held.rooms, held.calendars, held.tasks, held.pairs)
 
 pub returns-clause-limits : goal.returns-clause-limits
-returns-clause-limits c = within _ _ _ _ _ _ _ _ c.read_plan.ensures
+returns-clause-limits c = within _ _ _ _ _ _ _ _ _ c.read_plan.ensures
