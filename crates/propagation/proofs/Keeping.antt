@@ -61,7 +61,7 @@ module _ (P : Plan) (boxes : List ℕ) (fits : List (Option Window)) (k : Keepin
 
   module _ (x : Step) (i : ℕ) (b : Bounds) (moves_so : judge P boxes x ≡ moved (with_bounds boxes i b)) (there : i < task_count P) where
     passes-moved : Passed P (with_bounds boxes i b)
-    passes-moved = change-passes P boxes (with_bounds boxes i b) (judge-change P boxes x (with_bounds boxes i b) moves_so) k.passed
+    passes-moved = change-passes P boxes (with_bounds boxes i b) (judge-change P boxes k.passed.boxes x (with_bounds boxes i b) moves_so) k.passed
 
     -- what `move_bounds` asks
     pub may-move : (i < most_tasks) × Fitting P.shifts (with_bounds boxes i b) i

@@ -149,7 +149,7 @@ module _ {P : Plan} {n : ℕ} {said₀ : Bool} {opening kinds tasks hours : List
       (answers-refused _ e, sym (ap (λ (x : LogEnd). x.boxes) e))
 
   module _ (l : k < length kinds) (s : said ≡ false) {r : Judged}
-      (is : r ≡ judge_by P.shifts.hours (task_count P) P.capacities P.heights boxes fits (step_at kinds tasks hours k)) where
+      (is : r ≡ judge_by P boxes fits (step_at kinds tasks hours k)) where
     going : end_from P n kinds tasks hours k false boxes ≡ replay_from P n said₀ opening (steps_in kinds tasks hours)
     going = ap (λ (b : Bool). end_from P n kinds tasks hours k b boxes) (sym s) ∙ at.ends
 
@@ -178,7 +178,7 @@ module _ {P : Plan} {n : ℕ} {said₀ : Bool} {opening kinds tasks hours : List
       moves_so = judges-moved P boxes fits at.keeps _ r is i b m
 
       there : i < task_count P
-      there = moved-there _ _ _ _ _ _ _ r i b is m
+      there = moved-there P boxes fits at.keeps.passed.pair i b _ r is m
 
       pub replay-may-move : (i < most_tasks) × Fitting P.shifts (with_bounds boxes i b) i
       replay-may-move = may-move P boxes fits at.keeps _ i b moves_so there

@@ -28,6 +28,6 @@ module _ (P : Plan) where
       (λ q. e)
       (λ q. replay-passes (k + 1) true boxes xs e)
       (λ left q.
-      let c = judge-change P boxes x left q in
+      let c = judge-change P boxes (input-passed P boxes e).boxes x left q in
       replay-passes (k + 1) false left xs
       (input-again P boxes left (change-passes P boxes left c (input-passed P boxes e)) (change-length P boxes left c) e))

@@ -15,7 +15,7 @@ pub returns-then-impossible : goal.returns-then-impossible
 returns-then-impossible c = replay-13 c.loop-k.invariant c.loop-k-test.true c.if-impossible.true
 
 pub invariant_of-state : goal.invariant_of-state
-invariant_of-state c = let p = c.loop-k.invariant.keeps.passed in record { ready = ready _ _ p; short = p.hours }
+invariant_of-state c = let p = c.loop-k.invariant.keeps.passed in record { ready = ready _ _ p; short = p.hours; pairs_ready = record { few = p.few_pairs; pair = p.pair } }
 
 pub returns-in-Unknown : goal.returns-in-Unknown
 unfolding step_at
