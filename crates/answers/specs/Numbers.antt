@@ -57,10 +57,10 @@ filter_numbers (no_room_for f n) = f.number ∷ f.place ∷ n ∷ 0 ∷ []
 filter_numbers (settled_after n) = 0 ∷ 0 ∷ n ∷ 0 ∷ []
 filter_numbers (impossible_after n) = 0 ∷ 0 ∷ n ∷ 1 ∷ []
 
--- H, how many rooms, how many calendars, how many tasks
+-- H, how many rooms, how many calendars, how many tasks, how many pairs
 unfoldable pub read_numbers : Answer PlanRead → List ℕ
-read_numbers (refused f) = f.number ∷ f.place ∷ 0 ∷ 0 ∷ 0 ∷ 0 ∷ []
-read_numbers (answered a) = 0 ∷ 0 ∷ a.hours ∷ a.rooms ∷ a.calendars ∷ a.tasks ∷ []
+read_numbers (refused f) = f.number ∷ f.place ∷ 0 ∷ 0 ∷ 0 ∷ 0 ∷ 0 ∷ []
+read_numbers (answered a) = 0 ∷ 0 ∷ a.hours ∷ a.rooms ∷ a.calendars ∷ a.tasks ∷ a.pairs ∷ []
 
 -- the length of the text
 unfoldable pub write_numbers : Answer ℕ → List ℕ

@@ -112,7 +112,7 @@ pub fn filter_numbers(answer: Result<Filtered, Refusal>) -> [u64; 4]
     }
 }
 
-pub fn read_numbers(answer: Result<PlanRead, Refusal>) -> [u64; 6]
+pub fn read_numbers(answer: Result<PlanRead, Refusal>) -> [u64; 7]
     ensures { result ≡ read_numbers (reading_answer answer) }
 {
     match answer {
@@ -124,6 +124,7 @@ pub fn read_numbers(answer: Result<PlanRead, Refusal>) -> [u64; 6]
             read.rooms as u64,
             read.calendars as u64,
             read.tasks as u64,
+            read.pairs as u64,
         ],
     }
 }

@@ -20,9 +20,9 @@ module _ {numbers boxes : List ℕ} where
       → (numbers ≡ filter_numbers e.answer) × (filter_end e.answer boxes kinds tasks hours ≡ e)
   left-run n is = rw (← is) (n, refl)
 
-  pub left-plan : {e : ReadEnd} {a : Answer PlanRead} {capacities calendars task_calendars work_times heights : List ℕ} → numbers ≡ read_numbers a
-      → end_with a capacities calendars task_calendars work_times heights boxes ≡ e
-      → (numbers ≡ read_numbers e.answer) × (end_with e.answer capacities calendars task_calendars work_times heights boxes ≡ e)
+  pub left-plan : {e : ReadEnd} {a : Answer PlanRead} {capacities calendars task_calendars work_times heights pairs : List ℕ} → numbers ≡ read_numbers a
+      → end_with a capacities calendars task_calendars work_times heights pairs boxes ≡ e
+      → (numbers ≡ read_numbers e.answer) × (end_with e.answer capacities calendars task_calendars work_times heights pairs boxes ≡ e)
   left-plan n is = rw (← is) (n, refl)
 
 pub left-text : {e : WriteEnd} {a : Answer ℕ} {numbers out : List ℕ} → numbers ≡ write_numbers a → write_end a out ≡ e

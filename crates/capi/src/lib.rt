@@ -41,11 +41,12 @@ pub extern "C" fn shimlantern_check_schedule(
     task_calendars: &[u16],
     work_times: &[u16],
     heights: &[u16],
+    pairs: &[u16],
     boxes: &[u16],
     schedule: &[u16],
     answer: &mut [u64; 3],
 )
-    ensures { let P = plan hours capacities.now calendars.now task_calendars.now work_times.now heights.now in
+    ensures { let P = plan hours capacities.now calendars.now task_calendars.now work_times.now heights.now pairs.now in
         answer.new ≡ schedule_numbers (check_schedule P boxes.now schedule.now) }
 {
     let plan = Plan::new(
@@ -55,6 +56,7 @@ pub extern "C" fn shimlantern_check_schedule(
         task_calendars,
         work_times,
         heights,
+        pairs,
     );
     let checked = schedule::check_schedule(&plan, boxes, schedule);
     *answer = answers::schedule_numbers(checked);
@@ -69,13 +71,14 @@ pub extern "C" fn shimlantern_check_log(
     task_calendars: &[u16],
     work_times: &[u16],
     heights: &[u16],
+    pairs: &[u16],
     boxes: &mut [u16],
     log_kinds: &[u8],
     log_tasks: &[u16],
     log_hours: &[u16],
     answer: &mut [u64; 4],
 )
-    ensures { let P = plan hours capacities.now calendars.now task_calendars.now work_times.now heights.now in
+    ensures { let P = plan hours capacities.now calendars.now task_calendars.now work_times.now heights.now pairs.now in
         let e = check_log P boxes.old log_kinds.now log_tasks.now log_hours.now in
         (answer.new ≡ log_numbers (check_answer e)) × (boxes.new ≡ e.boxes) }
 {
@@ -86,6 +89,7 @@ pub extern "C" fn shimlantern_check_log(
         task_calendars,
         work_times,
         heights,
+        pairs,
     );
     let checked = propagation::replay::check_log(&plan, boxes, log_kinds, log_tasks, log_hours);
     *answer = answers::log_numbers(checked);
@@ -100,13 +104,14 @@ pub extern "C" fn shimlantern_filter(
     task_calendars: &[u16],
     work_times: &[u16],
     heights: &[u16],
+    pairs: &[u16],
     boxes: &mut [u16],
     log_kinds: &mut [u8],
     log_tasks: &mut [u16],
     log_hours: &mut [u16],
     answer: &mut [u64; 4],
 )
-    ensures { let P = plan hours capacities.now calendars.now task_calendars.now work_times.now heights.now in
+    ensures { let P = plan hours capacities.now calendars.now task_calendars.now work_times.now heights.now pairs.now in
         let e = filter_plan P boxes.old log_kinds.old log_tasks.old log_hours.old in
         (answer.new ≡ filter_numbers e.answer)
         × (filter_end e.answer boxes.new log_kinds.new log_tasks.new log_hours.new ≡ e) }
@@ -118,6 +123,7 @@ pub extern "C" fn shimlantern_filter(
         task_calendars,
         work_times,
         heights,
+        pairs,
     );
     let filtered = propagation::filter::filter(&plan, boxes, log_kinds, log_tasks, log_hours);
     *answer = answers::filter_numbers(filtered);
@@ -132,12 +138,13 @@ pub extern "C" fn shimlantern_read_plan(
     task_calendars: &mut [u16],
     work_times: &mut [u16],
     heights: &mut [u16],
+    pairs: &mut [u16],
     boxes: &mut [u16],
-    answer: &mut [u64; 6],
+    answer: &mut [u64; 7],
 )
-    ensures { let e = read_plan capacities.old calendars.old task_calendars.old work_times.old heights.old boxes.old text.now in
+    ensures { let e = read_plan capacities.old calendars.old task_calendars.old work_times.old heights.old pairs.old boxes.old text.now in
         (answer.new ≡ read_numbers e.answer)
-        × (end_with e.answer capacities.new calendars.new task_calendars.new work_times.new heights.new boxes.new ≡ e) }
+        × (end_with e.answer capacities.new calendars.new task_calendars.new work_times.new heights.new pairs.new boxes.new ≡ e) }
 {
     let reading = plan_text::read_plan(
         text,
@@ -146,6 +153,7 @@ pub extern "C" fn shimlantern_read_plan(
         task_calendars,
         work_times,
         heights,
+        pairs,
         boxes,
     );
     *answer = answers::read_numbers(reading);
@@ -160,11 +168,12 @@ pub extern "C" fn shimlantern_write_plan(
     task_calendars: &[u16],
     work_times: &[u16],
     heights: &[u16],
+    pairs: &[u16],
     boxes: &[u16],
     out: &mut [u8],
     answer: &mut [u64; 3],
 )
-    ensures { let P = plan hours capacities.now calendars.now task_calendars.now work_times.now heights.now in
+    ensures { let P = plan hours capacities.now calendars.now task_calendars.now work_times.now heights.now pairs.now in
         let e = write_plan P boxes.now out.old in
         (answer.new ≡ write_numbers e.answer) × (out.new ≡ e.out) }
 {
@@ -175,6 +184,7 @@ pub extern "C" fn shimlantern_write_plan(
         task_calendars,
         work_times,
         heights,
+        pairs,
     );
     let writing = plan_writing::write_plan(&plan, boxes, out);
     *answer = answers::write_numbers(writing);

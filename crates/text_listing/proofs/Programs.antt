@@ -24,16 +24,17 @@ unfolding plan_listing
 plan-listed P boxes answer left ks ts hs e = ap (λ (l : FilterEnd). listing l.answer l.boxes (task_count P)) e
 
 module _ (text : List ℕ) where
-  pub text-refused : (f : Fault) (rs cs ts ws hs bs : List ℕ) → end_with (refused f) rs cs ts ws hs bs ≡ read_end text
+  pub text-refused : (f : Fault) (rs cs ts ws hs ps bs : List ℕ) → end_with (refused f) rs cs ts ws hs ps bs ≡ read_end text
       → refused_line f ≡ listing_of_text text
   unfolding listing_of_text on_answer
-  text-refused f rs cs ts ws hs bs e = rw (← e)
+  text-refused f rs cs ts ws hs ps bs e = rw (← e)
 
   -- a plan that was read, listed from the first cells of what was lent
-  pub text-read : (a : PlanRead) (rs cs ts ws hs bs : List ℕ) → end_with (answered a) rs cs ts ws hs bs ≡ read_end text
+  pub text-read : (a : PlanRead) (rs cs ts ws hs ps bs : List ℕ) → end_with (answered a) rs cs ts ws hs ps bs ≡ read_end text
       → plan_listing
-      (plan a.hours (take a.rooms rs) (take (a.calendars * a.hours) cs) (take a.tasks ts) (take a.tasks ws) (take (a.rooms * a.tasks) hs))
+      (plan a.hours (take a.rooms rs) (take (a.calendars * a.hours) cs) (take a.tasks ts) (take a.tasks ws) (take (a.rooms * a.tasks) hs)
+      (take (2 * a.pairs) ps))
       (take (6 * a.tasks) bs)
       ≡ listing_of_text text
   unfolding listing_of_text read_listing on_answer
-  text-read a rs cs ts ws hs bs e = rw (← e)
+  text-read a rs cs ts ws hs ps bs e = rw (← e)

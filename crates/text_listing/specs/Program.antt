@@ -1,10 +1,10 @@
--- What the program prints for a text (01, "Plan text and listing"; rooms: 02, W-202): it reads the plan, filters with room for 2,048 steps and prints.
+-- What the program prints for a text (01, "Plan text and listing"; rooms: 02, W-202; pairs: W-206): it reads the plan, filters with room for 2,048 steps and prints.
 use Rattle.std.specs.Prelude.{List, ℕ, ◌*◌, take, replicate}
-use Rattle.units.specs.Limits.{most_rooms, most_tasks, box_numbers}
+use Rattle.units.specs.Limits.{most_rooms, most_tasks, box_numbers, pair_numbers}
 use Rattle.plan.specs.Plan.{Plan, plan, task_count}
 use Rattle.plan.specs.Refusals.{on_answer}
 use Rattle.steps.specs.Entry.{filter_plan}
-use Rattle.plan_format.specs.Reading.{most_symbols, most_heights, most_bounds, PlanRead, ReadEnd, read_plan}
+use Rattle.plan_format.specs.Reading.{most_symbols, most_heights, most_paired, most_bounds, PlanRead, ReadEnd, read_plan}
 use Rattle.listing.specs.Listing.{refused_line, listing}
 
 -- memory as the program lends it
@@ -24,7 +24,8 @@ plan_listing P boxes =
 -- the text read into memory for the most that a plan can hold
 unfoldable pub read_end : List ℕ → ReadEnd
 read_end text =
-    read_plan (zeros most_rooms) (zeros most_symbols) (zeros most_tasks) (zeros most_tasks) (zeros most_heights) (zeros most_bounds) text
+    read_plan (zeros most_rooms) (zeros most_symbols) (zeros most_tasks) (zeros most_tasks) (zeros most_heights) (zeros most_paired)
+    (zeros most_bounds) text
 
 -- the plan in the first cells of that memory
 unfoldable pub read_listing : ReadEnd → PlanRead → List ℕ
@@ -32,7 +33,8 @@ read_listing e a =
     plan_listing
     (plan a.hours (take a.rooms e.capacities) (take (a.calendars * a.hours) e.calendars) (take a.tasks e.task_calendars)
     (take a.tasks e.work_times)
-    (take (a.rooms * a.tasks) e.heights))
+    (take (a.rooms * a.tasks) e.heights)
+    (take (pair_numbers * a.pairs) e.pairs))
     (take (box_numbers * a.tasks) e.boxes)
 
 -- any refusal is one line

@@ -1,4 +1,4 @@
-// 01's worked weeks without a star, weeks of two rooms, logs of step records, and plans written back as text: each is run, and its answer printed on
+// 01's worked weeks without a star, weeks of two rooms and of pairs, logs of step records, and plans written back as text: each is run, and its answer printed on
 // a line.
 #![tactic(auto)]
 
@@ -35,8 +35,17 @@ static HEIGHTS: [u16; 2] = [1, 1];
 
 static HEIGHTS_IN_TWO_ROOMS: [u16; 4] = [1, 1, 1, 1];
 
+// Task 0 is to end before task 1 starts.
+static PAIRS: [u16; 2] = [0, 1];
+
 // A week of these tasks.
-fn week<'a>(hours: u16, capacities: &'a [u16], calendar: &'a [u8], heights: &'a [u16]) -> Plan<'a> {
+fn week<'a>(
+    hours: u16,
+    capacities: &'a [u16],
+    calendar: &'a [u8],
+    heights: &'a [u16],
+    pairs: &'a [u16],
+) -> Plan<'a> {
     Plan::new(
         hours,
         capacities,
@@ -44,38 +53,46 @@ fn week<'a>(hours: u16, capacities: &'a [u16], calendar: &'a [u8], heights: &'a 
         &TASK_CALENDARS,
         &WORK_TIMES,
         heights,
+        pairs,
     )
 }
 
 // The printed week's opening boxes.
 const OPENING: [u16; 12] = [0, 3, 2, 3, 0, 0, 0, 2, 2, 3, 0, 0];
 
-// A schedule of the printed week, held against its opening boxes.
-fn printed_week(schedule: &[u16]) -> Result<Hour, Refusal> {
-    let plan = week(6, &[1], b"rcrrrr", &HEIGHTS);
+// A schedule of the printed week, with pairs of its tasks, held against its opening boxes.
+fn printed_week(pairs: &[u16], schedule: &[u16]) -> Result<Hour, Refusal> {
+    let plan = week(6, &[1], b"rcrrrr", &HEIGHTS, pairs);
     schedule::check_schedule(&plan, &OPENING, schedule)
 }
 
 fn feasible_schedule(rt: &impl Print) -> io::Result<()> {
     let schedule: [u16; 6] = [3, 2, 0, 0, 3, 0];
-    report(rt, printed_week(&schedule))
+    report(rt, printed_week(&[], &schedule))
 }
 
-// Both tasks run in hour 2.
+// Task 1 ends as task 0 starts: that keeps the pair of the two one way round, and breaks it the other.
+fn schedules_with_pairs(rt: &impl Print) -> io::Result<()> {
+    let schedule: [u16; 6] = [3, 2, 0, 0, 3, 0];
+    report(rt, printed_week(&[1, 0], &schedule))?;
+    report(rt, printed_week(&[1, 0, 0, 1], &schedule))
+}
+
+// Both tasks run in hour 2; 16 comes before the pair that is broken too.
 fn schedule_over_capacity(rt: &impl Print) -> io::Result<()> {
     let schedule: [u16; 6] = [2, 2, 0, 0, 3, 0];
-    report(rt, printed_week(&schedule))
+    report(rt, printed_week(&PAIRS, &schedule))
 }
 
 // Task 0 would end on a closed hour.
 fn schedule_that_ends_closed(rt: &impl Print) -> io::Result<()> {
     let schedule: [u16; 6] = [0, 2, 0, 0, 3, 0];
-    report(rt, printed_week(&schedule))
+    report(rt, printed_week(&[], &schedule))
 }
 
 // Both tasks run in hour 1: the first room has racks for both, the second has not.
 fn schedule_over_the_second_capacity(rt: &impl Print) -> io::Result<()> {
-    let plan = week(3, &[2, 1], b"rrr", &HEIGHTS_IN_TWO_ROOMS);
+    let plan = week(3, &[2, 1], b"rrr", &HEIGHTS_IN_TWO_ROOMS, &[]);
     let boxes: [u16; 12] = [0, 1, 2, 2, 0, 0, 0, 1, 2, 2, 0, 0];
     let schedule: [u16; 6] = [0, 2, 0, 1, 2, 0];
     report(rt, schedule::check_schedule(&plan, &boxes, &schedule))
@@ -245,7 +262,7 @@ fn week_log(rt: &impl Print, plan: &Plan, opening: [u16; 12], log: &mut [Step]) 
 
 // The printed week, with room for every step and for two.
 fn printed_week_logs(rt: &impl Print) -> io::Result<()> {
-    let plan = week(6, &[1], b"rcrrrr", &HEIGHTS);
+    let plan = week(6, &[1], b"rcrrrr", &HEIGHTS, &[]);
     week_log(rt, &plan, OPENING, &mut [NO_STEP; CELLS])?;
     week_log(rt, &plan, OPENING, &mut [NO_STEP; 2])
 }
@@ -254,11 +271,20 @@ fn printed_week_logs(rt: &impl Print) -> io::Result<()> {
 fn two_rooms_logs(rt: &impl Print) -> io::Result<()> {
     let capacities: [u16; 2] = [2, 1];
     let later: [u16; 12] = [0, 0, 2, 2, 0, 0, 0, 3, 2, 4, 0, 0];
-    let four_hours = week(4, &capacities, b"rrrr", &HEIGHTS_IN_TWO_ROOMS);
+    let four_hours = week(4, &capacities, b"rrrr", &HEIGHTS_IN_TWO_ROOMS, &[]);
     week_log(rt, &four_hours, later, &mut [NO_STEP; CELLS])?;
     let together: [u16; 12] = [0, 1, 2, 2, 0, 0, 0, 1, 2, 2, 0, 0];
-    let three_hours = week(3, &capacities, b"rrr", &HEIGHTS_IN_TWO_ROOMS);
+    let three_hours = week(3, &capacities, b"rrr", &HEIGHTS_IN_TWO_ROOMS, &[]);
     week_log(rt, &three_hours, together, &mut [NO_STEP; CELLS])
+}
+
+// Weeks with a pair: on regular hours, and with a rest through hour 2, which moves a bound of each task once more.
+fn pairs_logs(rt: &impl Print) -> io::Result<()> {
+    let opening: [u16; 12] = [0, 5, 2, 6, 0, 0, 0, 5, 2, 6, 0, 0];
+    let regular = week(6, &[2], b"rrrrrr", &HEIGHTS, &PAIRS);
+    week_log(rt, &regular, opening, &mut [NO_STEP; CELLS])?;
+    let resting = week(6, &[2], b"rrcrrr", &HEIGHTS, &PAIRS);
+    week_log(rt, &resting, opening, &mut [NO_STEP; CELLS])
 }
 
 // 130 regular hours without capacity: the filter raises the earliest start of task 0 hour by hour, until its step 127, the last of the log's second
@@ -266,7 +292,7 @@ fn two_rooms_logs(rt: &impl Print) -> io::Result<()> {
 fn log_of_two_parts(rt: &impl Print) -> io::Result<()> {
     let calendar = [b'r'; 130];
     let opening: [u16; 12] = [0, 128, 2, 2, 0, 0, 0, 128, 2, 2, 0, 0];
-    let plan = week(130, &[0], &calendar, &HEIGHTS);
+    let plan = week(130, &[0], &calendar, &HEIGHTS, &[]);
     let mut log = [NO_STEP; 129];
     filter_week(rt, &plan, opening, &mut log)?;
     check_week(rt, &plan, opening, &log[..step_count(&log)])?;
@@ -351,12 +377,14 @@ fn main(rt: HostRuntime) -> io::Result<()> {
     schedule_over_capacity(&rt)?;
     schedule_that_ends_closed(&rt)?;
     schedule_over_the_second_capacity(&rt)?;
+    schedules_with_pairs(&rt)?;
     print_listings(&rt, &LIMITS)?;
     print_listings(&rt, &WEEKS)?;
     print_listings(&rt, &REFUSALS)?;
     print_listings(&rt, &LARGER_WEEKS)?;
     printed_week_logs(&rt)?;
     two_rooms_logs(&rt)?;
+    pairs_logs(&rt)?;
     log_of_two_parts(&rt)?;
     print_rewritings(&rt)
 }
