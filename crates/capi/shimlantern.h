@@ -6,10 +6,11 @@
    at the same time. list_text uses some 60 kB of stack, the others some 30 kB at most.
 
    A plan in memory: `hours`; the capacities, one for each of its `rooms`; the calendars' symbols joined, 'r' regular, 'c' closed, 'o' overtime,
-   `hours` of them a calendar; for each task its calendar (from 0) and its work time; the heights room by room, first every task's in room 0; for
-   each task a box of six numbers: start, elapsed time and overtime, the lower bound first. A schedule has three numbers a task: start, elapsed
-   time, overtime. A log has for each step its kind ('C', 'O', 'L' or 'U'), its task and its hour, each in a slice of its own, 0 in a field that
-   the kind does not use; a step of kind 'O' has its room (from 0) in place of a task.
+   `hours` of them a calendar; for each task its calendar (from 0) and its work time; the heights room by room, first every task's in room 0; the
+   pairs, two tasks (from 0) each, of which the earlier ends by the start of the later; for each task a box of six numbers: start, elapsed time
+   and overtime, the lower bound first. A schedule has three numbers a task: start, elapsed time, overtime. A log has for each step its kind ('C',
+   'O', 'L', 'U', 'F' or 'B'), its task and its hour, each in a slice of its own, 0 in a field that the kind does not use; a step of kind 'O' has
+   its room (from 0) in place of a task, one of kind 'F' or 'B' its pair (from 0) and no hour.
 
    An answer is an array of numbers. The first two are a refusal's number and its place, 0 and 0 where nothing is refused. The others are the
    values, each 0 where the answer has none. Below, each place of an answer has a name, and so has its length.
@@ -31,15 +32,17 @@ extern "C" {
 #define SHIMLANTERN_MOST_CALENDARS 16
 #define SHIMLANTERN_MOST_TASKS 64
 #define SHIMLANTERN_MOST_ROOMS 8
+#define SHIMLANTERN_MOST_PAIRS 256
 #define SHIMLANTERN_MOST_HEIGHT 1000
 #define SHIMLANTERN_MOST_CAPACITY 60000
 #define SHIMLANTERN_MOST_TEXT 32768
-#define SHIMLANTERN_MOST_WRITTEN 21578
+#define SHIMLANTERN_MOST_WRITTEN 24650
 
 /* The memory that reading a plan needs: SHIMLANTERN_MOST_ROOMS capacities, so many symbols, SHIMLANTERN_MOST_TASKS calendars of tasks and as many
-   work times, so many heights, so many bounds. And the bytes that hold every listing. */
+   work times, so many heights, so many numbers of pairs, so many bounds. And the bytes that hold every listing. */
 #define SHIMLANTERN_MOST_SYMBOLS (SHIMLANTERN_MOST_CALENDARS * SHIMLANTERN_MOST_HOURS)
 #define SHIMLANTERN_MOST_HEIGHTS (SHIMLANTERN_MOST_ROOMS * SHIMLANTERN_MOST_TASKS)
+#define SHIMLANTERN_MOST_PAIR_NUMBERS (SHIMLANTERN_PAIR_NUMBERS * SHIMLANTERN_MOST_PAIRS)
 #define SHIMLANTERN_MOST_BOUNDS (SHIMLANTERN_BOX_NUMBERS * SHIMLANTERN_MOST_TASKS)
 #define SHIMLANTERN_MOST_LISTING 4096
 
@@ -56,19 +59,22 @@ enum {
     SHIMLANTERN_REFUSED_TASK_HEIGHT = 8,       /* a height above 1,000; the task */
     SHIMLANTERN_REFUSED_TASK_BOUNDS = 9,       /* a bound out of range, or lower above upper; the task */
     SHIMLANTERN_REFUSED_CAPACITY = 10,         /* a capacity above 60,000 */
-    SHIMLANTERN_REFUSED_UNKNOWN_STEP = 11,     /* a step of unknown kind, of a missing task, room or hour, or with an unused field not 0; the step */
+    SHIMLANTERN_REFUSED_UNKNOWN_STEP = 11,     /* a step of unknown kind, of a missing task, room, pair or hour, or an unused field not 0; the step */
     SHIMLANTERN_REFUSED_NOT_ADMITTED = 12,     /* a step that is not admitted; the step */
     SHIMLANTERN_REFUSED_AFTER_IMPOSSIBLE = 13, /* a step after one that said impossible; the step */
     SHIMLANTERN_REFUSED_OUTSIDE_BOUNDS = 14,   /* a triple outside its box; the task */
     SHIMLANTERN_REFUSED_NOT_VALID = 15,        /* a triple that is not valid; the task */
     SHIMLANTERN_REFUSED_OVER_CAPACITY = 16,    /* the running tasks exceed a room's capacity; the first such hour */
     SHIMLANTERN_REFUSED_ROOMS = 17,            /* not 1 to 8 rooms */
+    SHIMLANTERN_REFUSED_PAIR_TASKS = 18,       /* a pair of a missing task, or of one task twice; the pair */
+    SHIMLANTERN_REFUSED_PAIRS = 19,            /* more than 256 pairs */
+    SHIMLANTERN_REFUSED_PAIR_BROKEN = 20,      /* a later task starts before the earlier one's end; the pair */
     SHIMLANTERN_REFUSED_MEMORY_SIZE = 31,      /* lent memory is of the wrong size */
     SHIMLANTERN_REFUSED_NO_ROOM = 32,          /* the log has no room for the next step */
     SHIMLANTERN_REFUSED_OUTPUT_SIZE = 33       /* the memory to write to is shorter than the text */
 };
 
-/* The places of a box and of a triple. */
+/* The places of a box, of a triple and of a pair. */
 enum {
     SHIMLANTERN_BOX_EARLIEST = 0,
     SHIMLANTERN_BOX_LATEST = 1,
@@ -79,6 +85,7 @@ enum {
     SHIMLANTERN_BOX_NUMBERS = 6
 };
 enum { SHIMLANTERN_TRIPLE_START = 0, SHIMLANTERN_TRIPLE_ELAPSED = 1, SHIMLANTERN_TRIPLE_OVERTIME = 2, SHIMLANTERN_TRIPLE_NUMBERS = 3 };
+enum { SHIMLANTERN_PAIR_EARLIER = 0, SHIMLANTERN_PAIR_LATER = 1, SHIMLANTERN_PAIR_NUMBERS = 2 };
 
 /* The first two places of every answer. */
 enum { SHIMLANTERN_NUMBER = 0, SHIMLANTERN_PLACE = 1 };
@@ -120,56 +127,57 @@ enum {
 void shimlantern_calendar_rule(const uint8_t *calendar, size_t calendar_length, uint16_t work_time, const uint16_t box[6], uint64_t answer[29]);
 
 /* Whether a schedule is feasible.
-   answer: number (0, 2 to 10, 14 to 17 or 31), place, makespan. */
+   answer: number (0, 2 to 10, 14 to 20 or 31), place, makespan. */
 enum { SHIMLANTERN_SCHEDULE_MAKESPAN = 2, SHIMLANTERN_SCHEDULE_NUMBERS = 3 };
 void shimlantern_check_schedule(uint16_t hours, const uint16_t *capacities, size_t rooms, const uint8_t *calendars, size_t calendars_length,
-                                const uint16_t *task_calendars, size_t task_calendars_length, const uint16_t *work_times,
-                                size_t work_times_length, const uint16_t *heights, size_t heights_length, const uint16_t *boxes,
+                                const uint16_t *task_calendars, size_t task_calendars_length, const uint16_t *work_times, size_t work_times_length,
+                                const uint16_t *heights, size_t heights_length, const uint16_t *pairs, size_t pairs_length, const uint16_t *boxes,
                                 size_t boxes_length, const uint16_t *schedule, size_t schedule_length, uint64_t answer[3]);
 
 /* Replays a log from anyone. Accepted, or refused by 11, 12 or 13, the boxes become those at the log's end.
-   answer: number (0, 2 to 13, 17 or 31), place, number of steps, 1 if the last said impossible. */
+   answer: number (0, 2 to 13, 17 to 19 or 31), place, number of steps, 1 if the last said impossible. */
 enum { SHIMLANTERN_LOG_STEPS = 2, SHIMLANTERN_LOG_IMPOSSIBLE = 3, SHIMLANTERN_LOG_NUMBERS = 4 };
 void shimlantern_check_log(uint16_t hours, const uint16_t *capacities, size_t rooms, const uint8_t *calendars, size_t calendars_length,
-                           const uint16_t *task_calendars, size_t task_calendars_length, const uint16_t *work_times,
-                           size_t work_times_length, const uint16_t *heights, size_t heights_length, uint16_t *boxes, size_t boxes_length,
-                           const uint8_t *log_kinds, size_t log_kinds_length, const uint16_t *log_tasks, size_t log_tasks_length,
+                           const uint16_t *task_calendars, size_t task_calendars_length, const uint16_t *work_times, size_t work_times_length,
+                           const uint16_t *heights, size_t heights_length, const uint16_t *pairs, size_t pairs_length, uint16_t *boxes,
+                           size_t boxes_length, const uint8_t *log_kinds, size_t log_kinds_length, const uint16_t *log_tasks, size_t log_tasks_length,
                            const uint16_t *log_hours, size_t log_hours_length, uint64_t answer[4]);
 
 /* Tightens the boxes step by step, and writes each step to the log, whose length is the room. Cells past the count are untouched. After 32, a
    call on the boxes that were left goes on.
-   answer: number (0, 2 to 10, 17, 31 or 32), place, count of steps, 1 if the run ended impossible (else, with number 0, settled). */
+   answer: number (0, 2 to 10, 17 to 19, 31 or 32), place, count of steps, 1 if the run ended impossible (else, with number 0, settled). */
 enum { SHIMLANTERN_FILTER_COUNT = 2, SHIMLANTERN_FILTER_IMPOSSIBLE = 3, SHIMLANTERN_FILTER_NUMBERS = 4 };
 void shimlantern_filter(uint16_t hours, const uint16_t *capacities, size_t rooms, const uint8_t *calendars, size_t calendars_length,
                         const uint16_t *task_calendars, size_t task_calendars_length, const uint16_t *work_times, size_t work_times_length,
-                        const uint16_t *heights, size_t heights_length, uint16_t *boxes, size_t boxes_length, uint8_t *log_kinds,
-                        size_t log_kinds_length, uint16_t *log_tasks, size_t log_tasks_length, uint16_t *log_hours, size_t log_hours_length,
-                        uint64_t answer[4]);
+                        const uint16_t *heights, size_t heights_length, const uint16_t *pairs, size_t pairs_length, uint16_t *boxes,
+                        size_t boxes_length, uint8_t *log_kinds, size_t log_kinds_length, uint16_t *log_tasks, size_t log_tasks_length,
+                        uint16_t *log_hours, size_t log_hours_length, uint64_t answer[4]);
 
 /* Reads a plan text into memory for the most that a plan can hold: SHIMLANTERN_MOST_ROOMS capacities, SHIMLANTERN_MOST_SYMBOLS symbols,
-   SHIMLANTERN_MOST_TASKS calendars of tasks and as many work times, SHIMLANTERN_MOST_HEIGHTS heights and SHIMLANTERN_MOST_BOUNDS bounds. Less than
-   that is 31. Cells past the plan's own are untouched. A task line without bounds has start 0 to hours - 1, elapsed time from the work time to hours,
-   and no overtime.
-   answer: number (0, 1 to 10, 17 or 31), place, hours, how many rooms, how many calendars, how many tasks. */
+   SHIMLANTERN_MOST_TASKS calendars of tasks and as many work times, SHIMLANTERN_MOST_HEIGHTS heights, SHIMLANTERN_MOST_PAIR_NUMBERS numbers of pairs
+   and SHIMLANTERN_MOST_BOUNDS bounds. Less than that is 31. Cells past the plan's own are untouched. A task line without bounds has start 0 to
+   hours - 1, elapsed time from the work time to hours, and no overtime.
+   answer: number (0, 1 to 10, 17 to 19 or 31), place, hours, how many rooms, how many calendars, how many tasks, how many pairs. */
 enum {
     SHIMLANTERN_READ_HOURS = 2,
     SHIMLANTERN_READ_ROOMS = 3,
     SHIMLANTERN_READ_CALENDARS = 4,
     SHIMLANTERN_READ_TASKS = 5,
-    SHIMLANTERN_READ_NUMBERS = 6
+    SHIMLANTERN_READ_PAIRS = 6,
+    SHIMLANTERN_READ_NUMBERS = 7
 };
 void shimlantern_read_plan(const uint8_t *text, size_t text_length, uint16_t *capacities, size_t capacities_length, uint8_t *calendars,
                            size_t calendars_length, uint16_t *task_calendars, size_t task_calendars_length, uint16_t *work_times,
-                           size_t work_times_length, uint16_t *heights, size_t heights_length, uint16_t *boxes, size_t boxes_length,
-                           uint64_t answer[6]);
+                           size_t work_times_length, uint16_t *heights, size_t heights_length, uint16_t *pairs, size_t pairs_length, uint16_t *boxes,
+                           size_t boxes_length, uint64_t answer[7]);
 
 /* Writes a plan as plan text, every task line with all its bounds; read again, it gives the same plan. `out` may have any length; less than the
    text needs is 33. SHIMLANTERN_MOST_WRITTEN bytes hold every text. Bytes past the length are untouched.
-   answer: number (0, 2 to 10, 17, 31 or 33), place, length of the text. */
+   answer: number (0, 2 to 10, 17 to 19, 31 or 33), place, length of the text. */
 enum { SHIMLANTERN_WRITE_LENGTH = 2, SHIMLANTERN_WRITE_NUMBERS = 3 };
 void shimlantern_write_plan(uint16_t hours, const uint16_t *capacities, size_t rooms, const uint8_t *calendars, size_t calendars_length,
-                            const uint16_t *task_calendars, size_t task_calendars_length, const uint16_t *work_times,
-                            size_t work_times_length, const uint16_t *heights, size_t heights_length, const uint16_t *boxes,
+                            const uint16_t *task_calendars, size_t task_calendars_length, const uint16_t *work_times, size_t work_times_length,
+                            const uint16_t *heights, size_t heights_length, const uint16_t *pairs, size_t pairs_length, const uint16_t *boxes,
                             size_t boxes_length, uint8_t *out, size_t out_length, uint64_t answer[3]);
 
 /* Writes what the program prints for a plan text, and returns its length. Bytes past it are untouched. */
