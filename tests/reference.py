@@ -1,8 +1,9 @@
-"""Document 01, with 02's W-201 and W-202, in plain Python, written from their text alone and from no code of the product. tests/compare holds the
-library to it.
+"""Document 01, with 02's requests up to W-206, in plain Python, written from their text alone and from no code of the product. tests/compare
+holds the library to it.
 
-A calendar is bytes of r, c, o. A box is six numbers: S, E, O, the lower bound first. Heights lie room by room, each room's of all tasks. A step is
-(kind, task, hour), its kind a byte's number, its task a room's number where the kind is O. A refusal is (number, place)."""
+A calendar is bytes of r, c, o. A box is six numbers: S, E, O, the lower bound first. Heights lie room by room, each room's of all tasks, and pairs
+one after the other, the earlier task first. A step is (kind, task, hour), its kind a byte's number, its task a room's number where the kind is O,
+and a pair's where it is F or B. A refusal is (number, place)."""
 
 from functools import cached_property, lru_cache
 from itertools import accumulate
@@ -12,11 +13,12 @@ MOST_HOURS = 1008
 MOST_CALENDARS = 16
 MOST_TASKS = 64
 MOST_ROOMS = 8
+MOST_PAIRS = 256
 MOST_HEIGHT = 1000
 MOST_CAPACITY = 60000
 MOST_NUMBER = 65535
 MOST_BYTES = 32768
-MOST_WRITTEN = 21578
+MOST_WRITTEN = 24650
 PROGRAM_ROOM = 2048
 
 # The valid triples of a box with more triples than this are found by counts, and of any other by listing; tests/compare holds the two to each
@@ -31,6 +33,7 @@ class Plan(NamedTuple):
     task_calendars: tuple
     work_times: tuple
     heights: tuple
+    pairs: tuple = ()
 
     def tasks(self):
         return len(self.task_calendars)
@@ -45,6 +48,10 @@ class Plan(NamedTuple):
     def heights_of(self, task):
         """The task's heights in the rooms."""
         return self.heights[task :: self.tasks()]
+
+    def each_pair(self):
+        """The pairs: an earlier and a later task each."""
+        return list(zip(self.pairs[0::2], self.pairs[1::2]))
 
     def calendar(self, task):
         first = self.task_calendars[task] * self.hours
@@ -138,11 +145,14 @@ def fit_of(calendar, p, box):
 
 
 class State:
-    """The boxes as they stand at a turn, with each task's fit and each hour's load in each room."""
+    """The boxes as they stand at a turn, with each task's fit and each hour's load in each room, and how many tasks, rooms or pairs a kind of step
+    has."""
 
     def __init__(self, plan, boxes):
         self.plan = plan
         self.boxes = boxes
+        self.pairs = plan.each_pair()
+        self.counts = {C: plan.tasks(), O: plan.rooms(), L: plan.tasks(), U: plan.tasks(), F: len(self.pairs), B: len(self.pairs)}
         self.fits = [fit_of(plan.calendar(i), plan.work_times[i], boxes[i]) for i in range(plan.tasks())]
         self.compulsory = [fit.compulsory() if fit else range(0) for fit in self.fits]
 
@@ -198,7 +208,7 @@ def task_fault(plan, boxes, task):
 
 
 def plan_fault(plan, boxes):
-    """The first of 2, 3, 4, 5, 17, 10 and, task by task, 6 to 9."""
+    """The first of 2, 3, 4, 5, 19, 17, 10, task by task 6 to 9 and pair by pair 18."""
     if not 1 <= plan.hours <= MOST_HOURS:
         return 2, 0
     if len(plan.calendars) % plan.hours or not 1 <= len(plan.calendars) // plan.hours <= MOST_CALENDARS:
@@ -208,6 +218,8 @@ def plan_fault(plan, boxes):
             return 4, index
     if plan.tasks() > MOST_TASKS:
         return 5, 0
+    if len(plan.each_pair()) > MOST_PAIRS:
+        return 19, 0
     if not 1 <= plan.rooms() <= MOST_ROOMS:
         return 17, 0
     if any(capacity > MOST_CAPACITY for capacity in plan.capacities):
@@ -216,6 +228,9 @@ def plan_fault(plan, boxes):
         refusal = task_fault(plan, boxes, task)
         if refusal:
             return refusal
+    for pair, (earlier, later) in enumerate(plan.each_pair()):
+        if earlier >= plan.tasks() or later >= plan.tasks() or earlier == later:
+            return 18, pair
     return None
 
 
@@ -234,6 +249,10 @@ def schedule_fault(plan, boxes, schedule):
         running = [i for i, (s, e, _) in enumerate(schedule) if s <= hour < s + e]
         if any(sum(heights[i] for i in running) > capacity for heights, capacity in rooms):
             return 16, hour
+    for pair, (earlier, later) in enumerate(plan.each_pair()):
+        s, e, _ = schedule[earlier]
+        if s + e > schedule[later][0]:
+            return 20, pair
     return None
 
 
@@ -251,31 +270,33 @@ def check_schedule(plan, boxes, schedule):
 
 UNKNOWN, NOT_ADMITTED, IMPOSSIBLE = "unknown", "not admitted", "impossible"
 
+C, O, L, U, F, B = b"COLUFB"
+
 
 def judge(state, step):
     """What a step comes to at its turn: UNKNOWN, NOT_ADMITTED, IMPOSSIBLE or the boxes that it leaves."""
     kind, task, hour = step
     plan, boxes = state.plan, state.boxes
-    if kind not in b"COLU":
-        return UNKNOWN
-    if task >= (plan.rooms() if kind == ord("O") else plan.tasks()):
+    if task >= state.counts.get(kind, 0):
         return UNKNOWN
     if hour >= plan.hours if kind in b"OLU" else hour != 0:
         return UNKNOWN
 
-    if kind == ord("O"):
+    if kind == O:
         return IMPOSSIBLE if state.loads[task][hour] > plan.capacities[task] else NOT_ADMITTED
+    if kind in b"FB":
+        return judge_pair(state, kind, *state.pairs[task])
 
     fit = state.fits[task]
     s0, s1, e0, e1, o0, o1 = boxes[task]
-    if kind == ord("C"):
+    if kind == C:
         if fit is None:
             return IMPOSSIBLE
         return NOT_ADMITTED if fit.box == boxes[task] else moved(boxes, task, fit.box)
 
     if fit is None:
         return NOT_ADMITTED
-    if kind == ord("L"):
+    if kind == L:
         if not (fit.ect > hour and s0 <= hour and state.exceeded(task, hour)):
             return NOT_ADMITTED
         return IMPOSSIBLE if hour >= s1 else moved(boxes, task, (hour + 1, s1, e0, e1, o0, o1))
@@ -283,6 +304,24 @@ def judge(state, step):
     if not (lst <= hour and s1 > hour - e0 and state.exceeded(task, hour)):
         return NOT_ADMITTED
     return IMPOSSIBLE if hour - e0 < s0 else moved(boxes, task, (s0, hour - e0, e0, e1, o0, o1))
+
+
+def judge_pair(state, kind, earlier, later):
+    """F raises the later task's lower S to the earlier's ect; B lowers the earlier's upper S to the later's lst minus the earlier's lower E."""
+    if state.fits[earlier] is None or state.fits[later] is None:
+        return NOT_ADMITTED
+    if kind == F:
+        s0, s1, *others = state.boxes[later]
+        bound = state.fits[earlier].ect
+        if bound <= s0:
+            return NOT_ADMITTED
+        return IMPOSSIBLE if bound > s1 else moved(state.boxes, later, (bound, s1, *others))
+    s0, s1, e0, *others = state.boxes[earlier]
+    lst = state.fits[later].box[1]
+    bound = lst - e0
+    if bound >= s1:
+        return NOT_ADMITTED
+    return IMPOSSIBLE if bound < s0 else moved(state.boxes, earlier, (s0, bound, e0, *others))
 
 
 def moved(boxes, task, box):
@@ -319,11 +358,13 @@ def check_log(plan, boxes, log):
 
 
 def steps_in_order(plan):
-    tasks, hours = range(plan.tasks()), range(plan.hours)
-    yield from ((ord("C"), task, 0) for task in tasks)
-    yield from ((ord("O"), room, hour) for room in range(plan.rooms()) for hour in hours)
-    yield from ((ord("L"), task, hour) for task in tasks for hour in hours)
-    yield from ((ord("U"), task, hour) for task in tasks for hour in hours)
+    tasks, pairs, hours = range(plan.tasks()), range(len(plan.each_pair())), range(plan.hours)
+    yield from ((C, task, 0) for task in tasks)
+    yield from ((O, room, hour) for room in range(plan.rooms()) for hour in hours)
+    yield from ((L, task, hour) for task in tasks for hour in hours)
+    yield from ((U, task, hour) for task in tasks for hour in hours)
+    yield from ((F, pair, 0) for pair in pairs)
+    yield from ((B, pair, 0) for pair in pairs)
 
 
 @lru_cache(maxsize=4096)
@@ -383,8 +424,8 @@ def numbers(fields):
 
 
 def parse(text):
-    """The number of the first line that breaks the rules and None, or None and (H, capacities, calendar lines, task lines)."""
-    head, calendars, tasks = None, [], []
+    """The number of the first line that breaks the rules and None, or None and (H, capacities, calendar lines, task lines, after lines)."""
+    head, calendars, tasks, afters = None, [], [], []
     lines = text.split(b"\n")
     too_long = text[:MOST_BYTES].count(b"\n") + 1 if len(text) > MOST_BYTES else None
     for at, line in enumerate(lines, 1):
@@ -396,13 +437,15 @@ def parse(text):
         word, *fields = line.split(b"\t")
         if word == b"plan" and at == 1 and fields and numbers(fields) is not None:
             head = numbers(fields)
-        elif word == b"cal" and head and not tasks and len(fields) == 1 and fields[0] != b"":
+        elif word == b"cal" and head and not tasks and not afters and len(fields) == 1 and fields[0] != b"":
             calendars.append(fields[0])
-        elif word == b"task" and head and len(fields) - len(head[1:]) in (2, 8) and numbers(fields) is not None:
+        elif word == b"task" and head and not afters and len(fields) - len(head[1:]) in (2, 8) and numbers(fields) is not None:
             tasks.append(numbers(fields))
+        elif word == b"after" and head and len(fields) == 2 and numbers(fields) is not None:
+            afters.append(numbers(fields))
         else:
             return at, None
-    return None, (head[0], head[1:], calendars, tasks)
+    return None, (head[0], head[1:], calendars, tasks, afters)
 
 
 def read_plan(text, enough=True):
@@ -412,7 +455,7 @@ def read_plan(text, enough=True):
         return (1, broken), None
     if not enough:
         return (31, 0), None
-    hours, capacities, calendars, tasks = read
+    hours, capacities, calendars, tasks, afters = read
     rooms = len(capacities)
     if not 1 <= hours <= MOST_HOURS:
         return (2, 0), None
@@ -420,7 +463,8 @@ def read_plan(text, enough=True):
         return (3, 0), None
     task_calendars, work_times = (tuple(task[k] for task in tasks) for k in range(2))
     heights = tuple(task[2 + room] for room in range(rooms) for task in tasks)
-    plan = Plan(hours, tuple(capacities), b"".join(calendars), task_calendars, work_times, heights)
+    pairs = tuple(task for after in afters for task in after)
+    plan = Plan(hours, tuple(capacities), b"".join(calendars), task_calendars, work_times, heights, pairs)
     boxes = [tuple(task[2 + rooms :]) or (0, hours - 1, task[1], hours, 0, 0) for task in tasks]
     refusal = plan_fault(plan, boxes)
     return (refusal, None) if refusal else (None, (plan, len(calendars), boxes))
@@ -438,6 +482,7 @@ def plan_text(plan, boxes):
         lines.append(b"cal\t" + plan.calendars[first : first + plan.hours] + b"\n")
     for task, box in enumerate(boxes):
         lines.append(record(b"task", plan.task_calendars[task], plan.work_times[task], *plan.heights_of(task), *box))
+    lines += [record(b"after", *pair) for pair in plan.each_pair()]
     return b"".join(lines)
 
 
