@@ -9,14 +9,14 @@
 #include <string.h>
 #include <time.h>
 
-enum { HOURS = 1008, TASKS = 64, ROOM = 2048, CALENDARS = 4, ROOMS = 8 };
+enum { HOURS = 1008, TASKS = 64, ROOM = 2048, CALENDARS = 4, ROOMS = 8, PAIRS = 256 };
 
 /* Of TASKS tasks, so that room r's heights begin at cell r * TASKS. */
 struct plan {
     uint16_t hours;
-    size_t rooms, calendars, tasks;
+    size_t rooms, calendars, tasks, pairs;
     uint8_t symbols[CALENDARS * HOURS];
-    uint16_t capacities[ROOMS], task_calendars[TASKS], work_times[TASKS], heights[ROOMS * TASKS];
+    uint16_t capacities[ROOMS], task_calendars[TASKS], work_times[TASKS], heights[ROOMS * TASKS], pair_tasks[2 * PAIRS];
 };
 
 struct memory {
@@ -78,6 +78,7 @@ static int must_run(const struct fit *f, unsigned t) {
     return f->any && f->box[1] <= t && t < f->ect;
 }
 
+/* The task's field has the room of O, the pair of F and B. */
 struct found {
     uint8_t kind;
     uint16_t task, hour;
@@ -106,6 +107,12 @@ static struct found next_step(const struct plan *p, const uint16_t *boxes, const
                     if (height + others > p->capacities[r]) return (struct found){upper ? 'U' : 'L', i, t};
                 }
             }
+    for (int back = 0; back < 2; back++)
+        for (size_t k = 0; k < p->pairs; k++) {
+            size_t a = p->pair_tasks[2 * k], b = p->pair_tasks[2 * k + 1];
+            if (back ? fits[b].box[1] < boxes[6 * a + 1] + boxes[6 * a + 2] : boxes[6 * b] < fits[a].ect)
+                return (struct found){back ? 'B' : 'F', k, 0};
+        }
     return (struct found){0, 0, 0};
 }
 
@@ -124,14 +131,19 @@ static void plain_filter(const struct plan *p, struct memory *m) {
         m->tasks[count] = x.task;
         m->hours[count] = x.hour;
         count++;
-        uint16_t *b = m->boxes + 6 * x.task;
-        impossible = x.kind == 'O' || (x.kind == 'C' && !fits[x.task].any) || (x.kind == 'L' && x.hour >= b[1]) ||
-                     (x.kind == 'U' && x.hour < b[0] + b[2]);
+        const uint16_t *pair = p->pair_tasks + 2 * x.task;
+        size_t i = x.kind == 'F' ? pair[1] : x.kind == 'B' ? pair[0] : x.task;
+        uint16_t *b = m->boxes + 6 * i;
+        /* What lower S is raised to by L and F, and what U and B have upper S end by. */
+        unsigned lower = x.kind == 'F' ? fits[pair[0]].ect : x.hour + 1u;
+        unsigned end = x.kind == 'B' ? fits[pair[1]].box[1] : x.hour;
+        int raises = x.kind == 'L' || x.kind == 'F', lowers = x.kind == 'U' || x.kind == 'B';
+        impossible = x.kind == 'O' || (x.kind == 'C' && !fits[i].any) || (raises && lower > b[1]) || (lowers && end < b[0] + b[2]);
         if (impossible) break;
-        if (x.kind == 'C') memcpy(b, fits[x.task].box, sizeof fits[x.task].box);
-        if (x.kind == 'L') b[0] = x.hour + 1;
-        if (x.kind == 'U') b[1] = x.hour - b[2];
-        fits[x.task] = fit_of(p, m->boxes, x.task);
+        if (x.kind == 'C') memcpy(b, fits[i].box, sizeof fits[i].box);
+        if (raises) b[0] = lower;
+        if (lowers) b[1] = end - b[2];
+        fits[i] = fit_of(p, m->boxes, i);
     }
     memcpy(m->answer, (uint64_t[]){number, 0, count, impossible}, sizeof m->answer);
 }
@@ -140,8 +152,8 @@ static void plain_filter(const struct plan *p, struct memory *m) {
 
 static void library_filter(const struct plan *p, struct memory *m) {
     shimlantern_filter(p->hours, p->capacities, p->rooms, p->symbols, p->calendars * p->hours, p->task_calendars, p->tasks, p->work_times,
-                       p->tasks, p->heights, p->rooms * p->tasks, m->boxes, 6 * p->tasks, m->kinds, ROOM, m->tasks, ROOM, m->hours, ROOM,
-                       m->answer);
+                       p->tasks, p->heights, p->rooms * p->tasks, p->pair_tasks, 2 * p->pairs, m->boxes, 6 * p->tasks, m->kinds, ROOM, m->tasks,
+                       ROOM, m->hours, ROOM, m->answer);
 }
 
 /* The plans. */
@@ -175,6 +187,23 @@ static void eight_rooms(struct plan *p, uint16_t *boxes) {
     for (size_t r = 1; r < ROOMS; r++) {
         p->capacities[r] = p->capacities[0];
         for (size_t i = 0; i < TASKS; i++) p->heights[r * TASKS + i] = i < 8 ? 1 : 1 + (i + r) % 3;
+    }
+}
+
+/* The same weeks with racks for all, and tasks of a few hours that may start at any. Each of the first 59 ends before the four after it, and some
+   before the fifth. The pairs of the first 40 go from the last of them to the first, which is the long way for F, those of the others from the
+   first to the last, which is that for B. */
+static void with_pairs(struct plan *p, uint16_t *boxes) {
+    mostly_regular(p, boxes);
+    p->capacities[0] = 3 * TASKS;
+    for (uint16_t i = 0; i < TASKS; i++) {
+        p->work_times[i] = 1 + 5 * i % 9;
+        memcpy(boxes + 6 * i, (uint16_t[]){0, HOURS - 1, 1, HOURS, 0, p->work_times[i]}, 6 * sizeof *boxes);
+    }
+    while (p->pairs < PAIRS) {
+        size_t k = p->pairs++, n = k % (TASKS - 5), earlier = n < 40 ? 39 - n : n;
+        p->pair_tasks[2 * k] = earlier;
+        p->pair_tasks[2 * k + 1] = earlier + 1 + k / (TASKS - 5);
     }
 }
 
@@ -255,6 +284,7 @@ static void time_rule(const char *name, const char *pattern, uint16_t work, int 
 int main(void) {
     time_filter("filter, mostly regular hours", mostly_regular, 10);
     time_filter("filter, mostly regular hours, eight rooms", eight_rooms, 10);
+    time_filter("filter, mostly regular hours, 256 pairs", with_pairs, 10);
     time_filter("filter, regular and overtime by turns", by_turns, 3);
     time_rule("calendar rule, all overtime, p = 504", "o", 504, 200);
     time_rule("calendar rule, regular and overtime by turns, p = 100", "ro", 100, 200);
