@@ -11,14 +11,15 @@ enum {
     ROOMS = SHIMLANTERN_MOST_ROOMS,
     TASKS = SHIMLANTERN_MOST_TASKS,
     HEIGHTS = SHIMLANTERN_MOST_HEIGHTS,
+    PAIR_NUMBERS = SHIMLANTERN_MOST_PAIR_NUMBERS,
     BOUNDS = SHIMLANTERN_MOST_BOUNDS
 };
 
 /* One byte more than the longest text, so that a longer one is refused and not cut. */
 static uint8_t text[SHIMLANTERN_MOST_TEXT + 1], calendars[SHIMLANTERN_MOST_SYMBOLS], kinds[ROOM];
 static uint8_t narrowed[SHIMLANTERN_MOST_WRITTEN];
-static uint16_t capacities[ROOMS], task_calendars[TASKS], work_times[TASKS], heights[HEIGHTS], boxes[BOUNDS], opening[BOUNDS];
-static uint16_t tasks[ROOM], hours[ROOM];
+static uint16_t capacities[ROOMS], task_calendars[TASKS], work_times[TASKS], heights[HEIGHTS], pairs[PAIR_NUMBERS];
+static uint16_t boxes[BOUNDS], opening[BOUNDS], tasks[ROOM], hours[ROOM];
 
 static int refused(const char *what, const uint64_t *answer) {
     printf("%s refused: number %u, place %u\n", what, (unsigned)answer[SHIMLANTERN_NUMBER], (unsigned)answer[SHIMLANTERN_PLACE]);
@@ -36,18 +37,18 @@ int main(int argc, char **argv) {
     uint64_t plan[SHIMLANTERN_READ_NUMBERS], run[SHIMLANTERN_FILTER_NUMBERS], checked[SHIMLANTERN_LOG_NUMBERS],
         written[SHIMLANTERN_WRITE_NUMBERS];
     shimlantern_read_plan(text, length, capacities, ROOMS, calendars, sizeof calendars, task_calendars, TASKS, work_times, TASKS, heights, HEIGHTS,
-                          boxes, BOUNDS, plan);
+                          pairs, PAIR_NUMBERS, boxes, BOUNDS, plan);
     if (plan[SHIMLANTERN_NUMBER]) return refused("plan", plan);
     uint16_t h = plan[SHIMLANTERN_READ_HOURS];
     size_t rooms = plan[SHIMLANTERN_READ_ROOMS], symbols = plan[SHIMLANTERN_READ_CALENDARS] * h, n = plan[SHIMLANTERN_READ_TASKS];
-    size_t bounds = SHIMLANTERN_BOX_NUMBERS * n;
+    size_t paired = SHIMLANTERN_PAIR_NUMBERS * plan[SHIMLANTERN_READ_PAIRS], bounds = SHIMLANTERN_BOX_NUMBERS * n;
 
     memcpy(opening, boxes, sizeof boxes);
-    shimlantern_filter(h, capacities, rooms, calendars, symbols, task_calendars, n, work_times, n, heights, rooms * n, boxes, bounds, kinds, ROOM,
-                       tasks, ROOM, hours, ROOM, run);
+    shimlantern_filter(h, capacities, rooms, calendars, symbols, task_calendars, n, work_times, n, heights, rooms * n, pairs, paired, boxes, bounds,
+                       kinds, ROOM, tasks, ROOM, hours, ROOM, run);
     size_t count = run[SHIMLANTERN_FILTER_COUNT];
-    shimlantern_check_log(h, capacities, rooms, calendars, symbols, task_calendars, n, work_times, n, heights, rooms * n, opening, bounds, kinds,
-                          count, tasks, count, hours, count, checked);
+    shimlantern_check_log(h, capacities, rooms, calendars, symbols, task_calendars, n, work_times, n, heights, rooms * n, pairs, paired, opening,
+                          bounds, kinds, count, tasks, count, hours, count, checked);
     if (checked[SHIMLANTERN_NUMBER]) return refused("log", checked);
 
     const char *end = run[SHIMLANTERN_FILTER_IMPOSSIBLE] ? "impossible" : "settled";
@@ -60,8 +61,8 @@ int main(int argc, char **argv) {
     }
 
     if (argc > 2) {
-        shimlantern_write_plan(h, capacities, rooms, calendars, symbols, task_calendars, n, work_times, n, heights, rooms * n, boxes, bounds,
-                               narrowed, sizeof narrowed, written);
+        shimlantern_write_plan(h, capacities, rooms, calendars, symbols, task_calendars, n, work_times, n, heights, rooms * n, pairs, paired, boxes,
+                               bounds, narrowed, sizeof narrowed, written);
         if (written[SHIMLANTERN_NUMBER]) return refused("writing", written);
         FILE *out = fopen(argv[2], "wb");
         if (!out || fwrite(narrowed, 1, written[SHIMLANTERN_WRITE_LENGTH], out) != written[SHIMLANTERN_WRITE_LENGTH] || fclose(out)) {
