@@ -8,4 +8,5 @@ pub mod Contracts
 pub mod Claim
 pub mod Entry
 pub mod OneRoom
+pub mod NoPairs
 pub mod Weeks

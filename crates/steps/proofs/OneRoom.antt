@@ -2,6 +2,7 @@
 use Rattle.std.specs.Prelude.{if◌then◌else◌}
 use mathlib.Core.Path.{◌≡◌, refl, sym, ap, ap₂, ◌∙◌}
 use mathlib.Core.Logic.{◌≢◌}
+use Rattle.std.proofs.Math.Path.{fun_ext}
 use mathlib.Core.Bool.{Bool, true, false, not}
 use Rattle.std.specs.Prelude.{Option, None, Some}
 use mathlib.Core.List.{List}
@@ -14,7 +15,7 @@ use borrow.Author.Tests.{ltb-true, lt-ltb, le-ltb, eqb-true, eqb-false}
 use Rattle.units.specs.Choice.{◌and◌, some_of, ◌or_else◌, first_of}
 use Rattle.units.specs.Limits.{is_hour, is_room_number}
 use Rattle.units.specs.Sums.{sum_where}
-use Rattle.units.proofs.Choices.{and_left, first-eq}
+use Rattle.units.proofs.Choices.{and_left, else-end, first-eq}
 use Rattle.units.proofs.Summing.{sum-eq}
 use Rattle.plan.specs.Plan.{Plan, room_count, task_count, capacity_of, room_part, heights_of, height_of, heights_where}
 use Rattle.plan.specs.Refusals.{unless}
@@ -27,19 +28,27 @@ use Rattle.steps.specs.Steps.{Kind, kind_c, kind_o, kind_l, kind_u, kind_f, kind
 use Rattle.steps.specs.Steps.{not_admitted, impossible, judge_o, judge_l, judge_u}
 use Rattle.steps.specs.Steps.{on_judgement, judge_kind, judge}
 use Rattle.steps.specs.Log.{replay, replay_by}
-use Rattle.steps.specs.Filter.{Admitted, stops, moves, if_admitted, first_of_kind, first_by, filter_order, next_by, next, run_by}
+use Rattle.steps.specs.Filter.{Admitted, stops, moves, if_admitted, first_of_kind, first_by, filter_order, next_by, next, run_by, run}
 use Rattle.steps.specs.OneRoom as before
 use Rattle.steps.specs.OneRoom.{AsBefore}
 
--- nothing to follow
-else-end : {A : Type 0} (x : Option A) → (x or_else None) ≡ x
-unfolding ◌or_else◌
-else-end None = refl
-else-end (Some a) = refl
+-- ---- what is judged alike is admitted and replayed alike, and what is chosen alike is filtered alike
 
--- functions that agree everywhere
-agree : {A B : Type 0} {f g : A → B} → ((a : A) → f a ≡ g a) → f ≡ g
-agree h = λ i a. h a i
+module _ (P : Plan) where
+  module _ {judge_at : List ℕ → Step → Judgement} (same : (boxes : List ℕ) (x : Step) → judge P boxes x ≡ judge_at boxes x) where
+    pub admitted-alike : (boxes : List ℕ)
+        → if_admitted P boxes ≡ (λ x. on_judgement (judge_at boxes x) None None (Some (stops x)) (λ left. Some (moves x left)))
+    unfolding if_admitted
+    admitted-alike boxes =
+        fun_ext (λ x. ap (λ (j : Judgement). on_judgement j None None (Some (stops x)) (λ left. Some (moves x left))) (same boxes x))
+
+    pub replayed-alike : (boxes : List ℕ) (log : List Step) → replay P boxes log ≡ replay_by judge_at 0 false boxes log
+    unfolding replay
+    replayed-alike boxes log = ap (λ (f : List ℕ → Step → Judgement). replay_by f 0 false boxes log) (fun_ext (λ b. fun_ext (same b)))
+
+  pub filtered-alike : {next_at : List ℕ → Option Admitted} → ((boxes : List ℕ) → next P boxes ≡ next_at boxes)
+      → (boxes : List ℕ) (n : ℕ) → run P boxes n ≡ run_by next_at boxes n
+  filtered-alike same boxes n = ap (λ (f : List ℕ → Option Admitted). run_by f boxes n) (fun_ext same)
 
 module _ (P : Plan) (one : room_count P ≡ 1) where
   -- ---- the one room
@@ -145,27 +154,22 @@ module _ (P : Plan) (one : room_count P ≡ 1) where
       go true e = ap (λ (j : Judgement). if true then j else unknown) (kind-is boxes (kind_of x.kind) x.task x.hour e)
       go false e = refl
 
-  -- ---- the filter and the log checker
-
-  admitted-is : (boxes : List ℕ) → if_admitted P boxes ≡ before.if_admitted P boxes
-  unfolding if_admitted before.if_admitted
-  admitted-is boxes = agree (λ x. ap (λ (j : Judgement). on_judgement j None None (Some (stops x)) (λ left. Some (moves x left))) (judge-is boxes x))
+  -- ---- the filter
 
   next-is : (boxes : List ℕ) → next P boxes ≡ before.next P boxes
-  unfolding next_by first_by first_of_kind filter_order before.next
+  unfolding next_by first_by first_of_kind filter_order before.next before.if_admitted
   next-is boxes =
-      ap (λ (f : Step → Option Admitted). first_by P f filter_order) (admitted-is boxes)
+      ap (λ (f : Step → Option Admitted). first_by P f filter_order) (admitted-alike P judge-is boxes)
       ∙ ap (◌or_else◌ _)
       (ap₂ ◌or_else◌ (first-room _) (ap (◌or_else◌ _) (ap (◌or_else◌ _) (ap (◌or_else◌ _) (else-end _)))))
 
   pub one-room : AsBefore P
-  unfolding replay
   one-room =
       record {
         feasible = λ boxes σ. (feasible-before boxes σ, before-feasible boxes σ);
         refused = schedule-is;
         judged = judge-is;
         chosen = next-is;
-        filtered = λ boxes n. ap (λ (f : List ℕ → Option Admitted). run_by f boxes n) (agree next-is);
-        replayed = λ boxes log. ap (λ (f : List ℕ → Step → Judgement). replay_by f 0 false boxes log) (agree (λ b. agree (judge-is b)));
+        filtered = filtered-alike P next-is;
+        replayed = replayed-alike P judge-is;
       }

@@ -6,5 +6,6 @@ pub mod Widths
 pub mod Entry
 pub mod Claim
 pub mod OneRoom
+pub mod NoPairs
 pub mod Weeks
 pub mod Inner

@@ -145,6 +145,12 @@ unfolding ◌or_else◌
 neither None y e = (refl, e)
 neither (Some a) y e = None≢Some (sym e)
 
+-- nothing to follow
+pub else-end : {A : Type 0} (x : Option A) → (x or_else None) ≡ x
+unfolding ◌or_else◌
+else-end None = refl
+else-end (Some a) = refl
+
 -- one search after another: a hit of the first ends them, and where it finds nothing the rest decides
 module _ {A : Type 0} (x y : Option A) {r : Option A} (e : r ≡ x) where
   pub outer-ends : {a : A} → r ≡ Some a → r ≡ (x or_else y)
