@@ -10,3 +10,4 @@ pub mod Holding
 pub mod Readings
 pub mod Writings
 pub mod Again
+pub mod NoPairs
