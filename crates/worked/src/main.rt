@@ -120,12 +120,14 @@ fn print_listing(rt: &(impl Files + Print), name: &str) -> io::Result<()> {
 }
 
 // What a plan may have at most, and one more.
-const LIMITS: [&str; 5] = [
+const LIMITS: [&str; 7] = [
     "no-tasks.plan",
     "hours-1008.plan",
     "hours-1009.plan",
     "tasks-64.plan",
     "tasks-65.plan",
+    "pairs-256.plan",
+    "pairs-257.plan",
 ];
 
 // 01's weeks and its traps, and overtime asked for and not.
@@ -140,8 +142,8 @@ const WEEKS: [&str; 8] = [
     "own-part-is-no-excess.plan",
 ];
 
-// Every refusal of a plan text but 5, which is among the limits.
-const REFUSALS: [&str; 13] = [
+// Every refusal of a plan text but 5 and 19, which are among the limits.
+const REFUSALS: [&str; 16] = [
     "refused-1.plan",
     "refused-1-no-lf.plan",
     "refused-2.plan",
@@ -155,13 +157,19 @@ const REFUSALS: [&str; 13] = [
     "refused-17.plan",
     "refused-17-no-room.plan",
     "refused-1-heights.plan",
+    "refused-18.plan",
+    "refused-18-one-task.plan",
+    "refused-1-task-after-pair.plan",
 ];
 
-// Weeks of two rooms, and one of 40 tasks.
-const LARGER_WEEKS: [&str; 3] = [
+// Weeks of two rooms, one of 40 tasks, and weeks with pairs: on an open calendar, around a closed hour, and in a ring.
+const LARGER_WEEKS: [&str; 6] = [
     "two-rooms.plan",
     "overload-in-the-second-room.plan",
     "bakery-week.plan",
+    "one-after-another.plan",
+    "after-a-closed-hour.plan",
+    "pairs-in-a-ring.plan",
 ];
 
 fn print_listings(rt: &(impl Files + Print), names: &[&str]) -> io::Result<()> {
@@ -355,21 +363,23 @@ fn count_rewritten(rt: &(impl Files + Print), name: &str, room: usize) -> io::Re
     print_count(rt, b"bytes", end)
 }
 
-// Plans written back: with bounds and without, of two rooms, without tasks, one that is refused, the printed week of 66 bytes, and the longest text.
+// Plans written back: with bounds and without, of two rooms, without tasks, with pairs, one that is refused, the printed week of 66 bytes, and the
+// longest text.
 fn print_rewritings(rt: &(impl Files + Print)) -> io::Result<()> {
     print_rewritten(rt, "printed-week.plan")?;
     print_rewritten(rt, "overtime-not-asked-for.plan")?;
     print_rewritten(rt, "two-rooms.plan")?;
     print_rewritten(rt, "no-tasks.plan")?;
     print_rewritten(rt, "bakery-week.plan")?;
+    print_rewritten(rt, "pairs-in-order.plan")?;
     print_rewritten(rt, "refused-9.plan")?;
     count_rewritten(rt, "printed-week.plan", 0)?;
     count_rewritten(rt, "printed-week.plan", 65)?;
     count_rewritten(rt, "printed-week.plan", 66)?;
     count_rewritten(rt, "printed-week.plan", 67)?;
-    count_rewritten(rt, "longest.plan", 21577)?;
-    count_rewritten(rt, "longest.plan", 21578)?;
-    count_rewritten(rt, "longest.plan", 21579)
+    count_rewritten(rt, "longest.plan", 24649)?;
+    count_rewritten(rt, "longest.plan", 24650)?;
+    count_rewritten(rt, "longest.plan", 24651)
 }
 
 fn main(rt: HostRuntime) -> io::Result<()> {
