@@ -21,7 +21,7 @@ use Rattle.units.proofs.Choices.{first-hit}
 use Rattle.plan.specs.Plan.{Plan, room_count, task_count, pair_count, capacity_of, room_part, heights_of, pair_of}
 use Rattle.plan.specs.Boxes.{bounds_at}
 use Rattle.plan.proofs.Passed.{room-length, room_at}
-use Rattle.units.proofs.Choices.{and-rest, first-eq, first_rest, else-none}
+use Rattle.units.proofs.Choices.{and-rest, first-eq, first_rest, else-none, else-end, else-through}
 use Rattle.calendar.specs.declared.Window.{Window}
 use Rattle.calendar.specs.Rule.{lst, ect}
 use Rattle.steps.specs.declared.Step.{Step}
@@ -35,16 +35,6 @@ use Rattle.turns.specs.Inner.Finding.{admits, letter_of, pair_letter_of, first_h
 use Rattle.turns.specs.Inner.Finding.{first_overload, first_excess, first_pair}
 
 -- ---- the first of several
-
-else-last : {A : Type 0} (x : Option A) → (x or_else None) ≡ x
-unfolding ◌or_else◌
-else-last None = refl
-else-last (Some a) = refl
-
-else-through : {A : Type 0} (x y z : Option A) → ((x or_else y) or_else z) ≡ (x or_else (y or_else z))
-unfolding ◌or_else◌
-else-through None y z = refl
-else-through (Some a) y z = refl
 
 -- the first number of a list that passes a test, as the library's own says it
 module _ {A : Type 0} (test : ℕ → Bool) (f : ℕ → A) (xs : List ℕ) where
@@ -291,7 +281,7 @@ module _ (P : Plan) (boxes : List ℕ) (fits : List (Option Window)) where
         or_else first_excess P boxes fits false)
         → r ≡ first_by P (admitted_by P boxes fits) load_order
     unfolding first_by first_excess first_of_kind letter_of
-    by-load e = e ∙ ap₂ ◌or_else◌ overload-first (ap (◌or_else◌ _) (sym (else-last _)))
+    by-load e = e ∙ ap₂ ◌or_else◌ overload-first (ap (◌or_else◌ _) (sym (else-end _)))
 
   -- the kinds that ask for no loads, before and after those that do
   pub next-first : {r : Option Step}
@@ -311,4 +301,4 @@ module _ (P : Plan) (boxes : List ℕ) (fits : List (Option Window)) where
       ∙ ap (◌or_else◌ (First kind_l))
       (else-through (First kind_u) None _
       ∙ ap (◌or_else◌ (First kind_u))
-      (else-none None _ refl ∙ ap₂ ◌or_else◌ (pair-first true) (pair-first false ∙ sym (else-last _))))))
+      (else-none None _ refl ∙ ap₂ ◌or_else◌ (pair-first true) (pair-first false ∙ sym (else-end _))))))

@@ -151,6 +151,12 @@ unfolding ◌or_else◌
 else-end None = refl
 else-end (Some a) = refl
 
+-- one before two others
+pub else-through : {A : Type 0} (x y z : Option A) → ((x or_else y) or_else z) ≡ (x or_else (y or_else z))
+unfolding ◌or_else◌
+else-through None y z = refl
+else-through (Some a) y z = refl
+
 -- one search after another: a hit of the first ends them, and where it finds nothing the rest decides
 module _ {A : Type 0} (x y : Option A) {r : Option A} (e : r ≡ x) where
   pub outer-ends : {a : A} → r ≡ Some a → r ≡ (x or_else y)
