@@ -16,7 +16,7 @@ use Rattle.plan.specs.Faults.{plan_fault, input_fault}
 use Rattle.plan.proofs.Passed.{input-passed}
 use Rattle.plan.proofs.Refusals.{go_on, refused≢answered}
 use Rattle.plan_format.specs.Reading.{plan_in, boxes_in, is_enough, read_fault, end_with, stored}
-use Rattle.plan_format.specs.Writing.{text_of_plan, write_fault, WriteEnd, write_end, write_plan, ReadsBack}
+use Rattle.plan_format.specs.Writing.{text_of_plan, write_fault, WriteEnd, write_end, write_plan, plan_read, ReadsBack}
 use Rattle.plan_format.proofs.Written.{read_of, calendars-count, tasks-count, plan-held, boxes-held, lines-pass}
 use Rattle.plan_format.proofs.Size.{text-short}
 use Rattle.plan_format.proofs.Rereading.{text-read}
@@ -33,23 +33,7 @@ module _ (rs cs ts ws hs ps bs : List ℕ) where
     no-fault e enough = go_on _ 31 0 _ enough ∙ else-none _ _ (lines-pass p) ∙ ap₂ plan_fault (plan-held p) (boxes-held p) ∙ e
 
     -- and holds the plan
-    stored-plan : stored rs cs ts ws hs ps bs (read_of P boxes)
-        ≡ end_with
-        (answered
-        (record {
-          hours = P.shifts.hours;
-          rooms = room_count P;
-          calendars = calendar_count P.shifts;
-          tasks = task_count P;
-          pairs = pair_count P;
-        }))
-        (written P.capacities rs)
-        (written P.shifts.calendars cs)
-        (written P.shifts.task_calendars ts)
-        (written P.shifts.work_times ws)
-        (written P.heights hs)
-        (written P.pairs ps)
-        (written boxes bs)
+    stored-plan : stored rs cs ts ws hs ps bs (read_of P boxes) ≡ plan_read rs cs ts ws hs ps bs P boxes
     unfolding stored read_of
     stored-plan =
         λ k. end_with

@@ -12,7 +12,7 @@ use Rattle.plan.specs.Refusals.{unless, Answer, refused, answered}
 use Rattle.plan.specs.Faults.{input_fault}
 use Rattle.plan_format.specs.Records.{Record, plan_record, cal_record, task_record, after_record}
 use Rattle.plan_format.specs.Text.{Read, most_bytes, read_text, text_of}
-use Rattle.plan_format.specs.Reading.{plan_in, boxes_in, is_enough, end_with, read_plan}
+use Rattle.plan_format.specs.Reading.{plan_in, boxes_in, is_enough, ReadEnd, end_with, read_plan}
 
 -- the first n calendars, a record each
 unfoldable pub cal_records : Shifts → ℕ → List Record
@@ -67,14 +67,11 @@ write_plan P boxes out =
     (write_end (answered (length (text_of_plan P boxes))) (written (text_of_plan P boxes) out))
     (λ f. write_end (refused f) out)
 
--- A text read again gives an equal plan with equal boxes: it is short enough to be read, it holds them, and reading it into any memory that is
--- enough leaves them there.
-pub record ReadsBack (P : Plan) (boxes text : List ℕ) : Type 0 where
-  pub short : length text ≤ most_bytes
-  pub again : (r : Read) × (read_text text ≡ answered r) × (plan_in r ≡ P) × (boxes_in r ≡ boxes)
-  pub read : (rs cs ts ws hs ps bs : List ℕ) → is_enough rs cs ts ws hs ps bs ≡ true
-      → read_plan rs cs ts ws hs ps bs text
-      ≡ end_with
+-- a plan and its boxes read into this memory: what is answered, and what lies there
+module _ (rs cs ts ws hs ps bs : List ℕ) where
+  abbrev pub plan_read : Plan → List ℕ → ReadEnd
+  plan_read P boxes =
+      end_with
       (answered
       (record {
         hours = P.shifts.hours;
@@ -90,3 +87,11 @@ pub record ReadsBack (P : Plan) (boxes text : List ℕ) : Type 0 where
       (written P.heights hs)
       (written P.pairs ps)
       (written boxes bs)
+
+-- A text read again gives an equal plan with equal boxes: it is short enough to be read, it holds them, and reading it into any memory that is
+-- enough leaves them there.
+pub record ReadsBack (P : Plan) (boxes text : List ℕ) : Type 0 where
+  pub short : length text ≤ most_bytes
+  pub again : (r : Read) × (read_text text ≡ answered r) × (plan_in r ≡ P) × (boxes_in r ≡ boxes)
+  pub read : (rs cs ts ws hs ps bs : List ℕ) → is_enough rs cs ts ws hs ps bs ≡ true
+      → read_plan rs cs ts ws hs ps bs text ≡ plan_read rs cs ts ws hs ps bs P boxes
