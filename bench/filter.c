@@ -134,7 +134,7 @@ static void plain_filter(const struct plan *p, struct memory *m) {
         const uint16_t *pair = p->pair_tasks + 2 * x.task;
         size_t i = x.kind == 'F' ? pair[1] : x.kind == 'B' ? pair[0] : x.task;
         uint16_t *b = m->boxes + 6 * i;
-        /* What lower S is raised to by L and F, and what U and B have upper S end by. */
+        /* What L and F raise lower S to, and the hour from which U and B take lower E for upper S. */
         unsigned lower = x.kind == 'F' ? fits[pair[0]].ect : x.hour + 1u;
         unsigned end = x.kind == 'B' ? fits[pair[1]].box[1] : x.hour;
         int raises = x.kind == 'L' || x.kind == 'F', lowers = x.kind == 'U' || x.kind == 'B';

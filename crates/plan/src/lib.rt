@@ -23,7 +23,8 @@ pub struct Shifts<'a> {
 }
 
 // A plan: that part, the capacity of each room, room by room one number a task for its height there, and two numbers a pair of tasks, the earlier
-// first. The boxes are lent beside the plan and are no field of it: some calls write them, which would have to promise then that the plan stays, and C lends the two as slices of their own.
+// first. The boxes are lent beside the plan and are no field of it: some calls write them, which would have to promise then that the plan stays,
+// and C lends the two as slices of their own.
 #[derive(Clone, Copy)]
 pub struct Plan<'a> {
     pub shifts: Shifts<'a>,

@@ -50,7 +50,7 @@ pub const MOST_BYTES: usize = 32768;
 pub const MOST_SYMBOLS: usize = MOST_CALENDARS * Duration::MOST as usize;
 
 // Where each section of the store's numbers begins, after the tasks' calendars: work times, heights, boxes, capacities, pairs. Each has room for
-// the most tasks, the heights in each of the most rooms: a text's counts are known only at its end.
+// the most that a plan may have, the heights for the most tasks in each of the most rooms: a text's counts are known only at its end.
 pub const WORK_TIMES: usize = Bounds::MOST;
 
 pub const HEIGHTS: usize = 2 * Bounds::MOST;

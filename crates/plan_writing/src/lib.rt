@@ -75,7 +75,7 @@ fn tasks_length(tested: &Tested) -> usize
 }
 
 // The numbers of the line of pair k: the earlier task, then the later.
-fn pair_numbers(tested: &Tested, k: usize) -> [usize; Pair::NUMBERS]
+fn numbers_of_pair(tested: &Tested, k: usize) -> [usize; Pair::NUMBERS]
     requires { k < pair_count (plan_in tested.now.plan.now) }
     ensures { let x = pair_of (plan_in tested.now.plan.now) k in result ≡ x.earlier ∷ x.later ∷ [] }
 {
@@ -92,7 +92,7 @@ fn pairs_length(tested: &Tested) -> usize
     let mut bytes = 0;
     // By number: a pair is two numbers of a lent slice.
     for k in 0..tested.plan.pair_count() {
-        bytes += line_length(b"after", &pair_numbers(tested, k));
+        bytes += line_length(b"after", &numbers_of_pair(tested, k));
     }
     bytes
 }
@@ -164,7 +164,7 @@ fn put_pairs(out: &mut [u8], at: usize, tested: &Tested) -> usize
     let mut end = at;
     // By number, as `pairs_length` counts them.
     for k in 0..tested.plan.pair_count() {
-        end = put_line(out, end, b"after", &pair_numbers(tested, k));
+        end = put_line(out, end, b"after", &numbers_of_pair(tested, k));
     }
     end
 }

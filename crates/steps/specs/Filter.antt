@@ -1,4 +1,5 @@
--- The filter (01, "Steps"; rooms: 02, W-202; pairs: W-206): the first admitted step of each turn, until none is admitted, one says impossible, or the log has no room.
+-- The filter (01, "Steps"; rooms: 02, W-202; pairs: W-206): the first admitted step of each turn, until none is admitted,
+-- one says impossible, or the log has no room.
 use Rattle.std.specs.Prelude.{Option, None, Some}
 use Rattle.std.specs.Prelude.{List, [], ◌∷◌, ℕ, zero, suc, length}
 use Rattle.units.specs.Choice.{on_option, ◌or_else◌, first_of}

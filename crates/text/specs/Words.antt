@@ -1,4 +1,4 @@
--- The words that open a line of plan text or of a listing (01, "Plan text and listing").
+-- The words that open a line of plan text or of a listing (01, "Plan text and listing"; `after`: 02, W-206).
 use Rattle.std.specs.Prelude.{List, [], ◌∷◌, ℕ}
 
 -- `plan`, `cal`, `task`, `after`

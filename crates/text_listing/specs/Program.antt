@@ -1,4 +1,5 @@
--- What the program prints for a text (01, "Plan text and listing"; rooms: 02, W-202; pairs: W-206): it reads the plan, filters with room for 2,048 steps and prints.
+-- What the program prints for a text (01, "Plan text and listing"; rooms: 02, W-202; pairs: W-206): it reads the plan, filters with
+-- room for 2,048 steps and prints.
 use Rattle.std.specs.Prelude.{List, ℕ, ◌*◌, take, replicate}
 use Rattle.units.specs.Limits.{most_rooms, most_tasks, box_numbers, pair_numbers}
 use Rattle.plan.specs.Plan.{Plan, plan, task_count}

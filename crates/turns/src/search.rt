@@ -165,7 +165,7 @@ impl State<'_> {
         ensures { let P = plan_in self.now.plan.now in
             result ≡ first_by P (admitted_by P self.now.boxes.now self.now.fits.now) filter_order }
     {
-        // No `or_else` here, likewise: its closure's clause would repeat the contract of `first_by_load`.
+        // No `or_else` here, likewise: its closures' clauses would repeat the contracts of `first_by_load` and `first_pair`.
         if let Some(calendar) = self.first_calendar() {
             return Some(calendar);
         }

@@ -1,4 +1,4 @@
-// The two bounds of a task's start that a step may move, with the hours in which it can be admitted.
+// The two bounds of a task's start that a step may move, with the letters of the steps that move them and the hours in which L or U can be admitted.
 ghost use Rattle.std.specs.Prelude.{◌≡◌, ◌+◌, ◌<◌};
 ghost use Rattle.turns.specs.Inner.Kept.{is_lower};
 ghost use Rattle.turns.specs.Inner.Finding.{letter_of, pair_letter_of, first_hour, end_hour};
@@ -37,7 +37,7 @@ impl Side {
         }
     }
 
-    // The first hour in which a step of a task with the window and the box can be admitted.
+    // The first hour in which L or U of a task with the window and the box can be admitted.
     #[tactic(auto, unfolding(crate::specs::Inner::Finding::first_hour))]
     pub fn first_hour(self, w: Window, b: Bounds) -> Hour
         ensures { result.0 ≡ first_hour (is_lower self) w b }

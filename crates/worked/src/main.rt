@@ -1,5 +1,5 @@
-// 01's worked weeks without a star, weeks of two rooms and of pairs, logs of step records, and plans written back as text: each is run, and its answer printed on
-// a line.
+// 01's worked weeks without a star, weeks of two rooms and of pairs, logs of step records, and plans written back as text: each is run,
+// and its answer printed on a line.
 #![tactic(auto)]
 
 ghost use Rattle.std.specs.Prelude.{◌≡◌, ◌≤◌, IfOk, length};

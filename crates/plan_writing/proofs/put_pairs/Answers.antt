@@ -11,8 +11,8 @@ loop-k-init c = rw (text-none _) (put-none _ _)
 pub put_line-end-requires : goal.put_line-end-requires
 unfolding after_records
 put_line-end-requires c =
-    text-room _ _ (pair-line c.pair_numbers.ensures) (omega (arith, c.loop-k-test.true, c.pair_count-k-end.ensures)) c.requires c.loop-k.invariant
+    text-room _ _ (pair-line c.numbers_of_pair.ensures) (omega (arith, c.loop-k-test.true, c.pair_count-k-end.ensures)) c.requires c.loop-k.invariant
 
 pub loop-k-preserved : goal.loop-k-preserved
 unfolding after_records
-loop-k-preserved c = text-put _ _ (pair-line c.pair_numbers.ensures) (omega (arith, c.requires)) c.loop-k.invariant c.put_line-end.ensures
+loop-k-preserved c = text-put _ _ (pair-line c.numbers_of_pair.ensures) (omega (arith, c.requires)) c.loop-k.invariant c.put_line-end.ensures
