@@ -23,7 +23,7 @@ use Rattle.steps.specs.declared.Step.{Step}
 use Rattle.steps.specs.Load.{fit_at}
 use Rattle.steps.specs.Steps.{moved, judge}
 use Rattle.steps.proofs.Changes.{judge-change, change-passes}
-use Rattle.turns.specs.Inner.Ready.{RoomReady, Ready}
+use Rattle.turns.specs.Inner.Ready.{RoomReady, Ready, PairsReady}
 use Rattle.turns.specs.Inner.Kept.{Keeping}
 use Rattle.propagation.specs.Inner.Fitting.{Fitting}
 use Rattle.propagation.proofs.Fits.{fitting}
@@ -51,6 +51,9 @@ module _ (P : Plan) (boxes : List ℕ) (passed : Passed P boxes) where
         latest = λ i l. let b = (passed.task i l).box in omega (arith, passed.hours);
         shortest = λ i l. let b = (passed.task i l).box in omega (arith, passed.hours);
       }
+
+  pub pairs_ready : PairsReady P
+  pairs_ready = record { few = passed.few_pairs; pair = passed.pair }
 
 -- ---- a box is stored, and its task's answer worked out anew
 

@@ -120,10 +120,11 @@ module _ (P : Plan) (none : P.pairs ≡ []) where
       (of-none boxes x.task x.hour (eqb x.kind letter_f) (eqb x.kind letter_b))
 
   next-is : (boxes : List ℕ) → next P boxes ≡ before.next P boxes
-  unfolding next_by first_by first_of_kind filter_order before.next before.if_admitted
+  unfolding next_by first_by first_of_kind filter_order before.next
   next-is boxes =
       ap (λ (f : Step → Option Admitted). first_by P f filter_order) (admitted-alike P judge-is boxes)
-      ∙ ap (◌or_else◌ _) (ap (◌or_else◌ _) (ap (◌or_else◌ _) (ap (◌or_else◌ _) (ap (◌or_else◌ _) (else-end _) ∙ none-after _ _) ∙ none-after _ _)))
+      ∙ ap (◌or_else◌ _)
+      (ap (◌or_else◌ _) (ap (◌or_else◌ _) (ap (◌or_else◌ _) (ap (◌or_else◌ _) (else-end _) ∙ none-after _ _) ∙ none-after _ _)))
 
   -- ---- the entry points
 

@@ -28,7 +28,7 @@ use Rattle.steps.specs.Steps.{Kind, kind_c, kind_o, kind_l, kind_u, kind_f, kind
 use Rattle.steps.specs.Steps.{not_admitted, impossible, judge_o, judge_l, judge_u}
 use Rattle.steps.specs.Steps.{on_judgement, judge_kind, judge}
 use Rattle.steps.specs.Log.{replay, replay_by}
-use Rattle.steps.specs.Filter.{Admitted, stops, moves, if_admitted, first_of_kind, first_by, filter_order, next_by, next, run_by, run}
+use Rattle.steps.specs.Filter.{Admitted, stops, moves, if_admitted_by, if_admitted, first_of_kind, first_by, filter_order, next_by, next, run_by, run}
 use Rattle.steps.specs.OneRoom as before
 use Rattle.steps.specs.OneRoom.{AsBefore}
 
@@ -36,8 +36,7 @@ use Rattle.steps.specs.OneRoom.{AsBefore}
 
 module _ (P : Plan) where
   module _ {judge_at : List ℕ → Step → Judgement} (same : (boxes : List ℕ) (x : Step) → judge P boxes x ≡ judge_at boxes x) where
-    pub admitted-alike : (boxes : List ℕ)
-        → if_admitted P boxes ≡ (λ x. on_judgement (judge_at boxes x) None None (Some (stops x)) (λ left. Some (moves x left)))
+    pub admitted-alike : (boxes : List ℕ) → if_admitted P boxes ≡ if_admitted_by judge_at boxes
     unfolding if_admitted
     admitted-alike boxes =
         fun_ext (λ x. ap (λ (j : Judgement). on_judgement j None None (Some (stops x)) (λ left. Some (moves x left))) (same boxes x))
@@ -157,7 +156,7 @@ module _ (P : Plan) (one : room_count P ≡ 1) where
   -- ---- the filter
 
   next-is : (boxes : List ℕ) → next P boxes ≡ before.next P boxes
-  unfolding next_by first_by first_of_kind filter_order before.next before.if_admitted
+  unfolding next_by first_by first_of_kind filter_order before.next
   next-is boxes =
       ap (λ (f : Step → Option Admitted). first_by P f filter_order) (admitted-alike P judge-is boxes)
       ∙ ap (◌or_else◌ _)

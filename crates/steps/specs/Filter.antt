@@ -6,7 +6,7 @@ use Rattle.units.specs.Choice.{on_option, ◌or_else◌, first_of}
 use Rattle.plan.specs.Plan.{Plan, room_count, task_count, pair_count}
 use Rattle.steps.specs.declared.Step.{Step}
 use Rattle.steps.specs.Steps.{step, letter_c, letter_o, letter_l, letter_u, letter_f, letter_b, Kind, kind_c, kind_o, kind_l, kind_u, kind_f, kind_b}
-use Rattle.steps.specs.Steps.{unknown_kind, judge, on_judgement}
+use Rattle.steps.specs.Steps.{unknown_kind, Judgement, judge, on_judgement}
 
 -- An admitted step: one that says impossible, or one that moves a bound, with the boxes that it leaves.
 pub data Admitted : Type 0 where
@@ -21,9 +21,12 @@ unfoldable pub on_admitted : {A : Type 0} → Admitted → (Step → A) → (Ste
 on_admitted (stops x) f g = f x
 on_admitted (moves x left) f g = g x left
 
--- the step, if it is admitted
+-- the step, if it is admitted, for any judgement of a step at its turn; in a plan
+abbrev pub if_admitted_by : (List ℕ → Step → Judgement) → List ℕ → Step → Option Admitted
+if_admitted_by judge_at boxes x = on_judgement (judge_at boxes x) None None (Some (stops x)) (λ left. Some (moves x left))
+
 unfoldable pub if_admitted : Plan → List ℕ → Step → Option Admitted
-if_admitted P boxes x = on_judgement (judge P boxes x) None None (Some (stops x)) (λ left. Some (moves x left))
+if_admitted P boxes x = if_admitted_by (judge P) boxes x
 
 -- the first that f finds among the steps of a kind: C by task; O by room, then hour; L by task, then hour; U by task, then hour; F by pair; B by
 -- pair

@@ -1,7 +1,7 @@
 -- A plan without pairs as 01 and 02 up to W-205 speak of it: its tests, its feasible schedules, the steps C, O, L and U in their order, and what the
 -- entry points come to by these. A plan's pairs are not read. That a plan without pairs answers by these as before W-206 is proved.
 use Rattle.std.specs.Prelude.{Bool, true, false, List, ◌↔◌, ◌≡◌, ℕ, ◌≤◌, ◌<◌, ltb, eqb, if◌then◌else◌, length}
-use Rattle.std.specs.Prelude.{Option, None, Some}
+use Rattle.std.specs.Prelude.{Option, Some}
 use Rattle.units.specs.Choice.{◌and◌, on_option, ◌or_else◌, first_of}
 use Rattle.units.specs.Limits.{is_hour, is_room_count, is_room_number, is_task_count}
 use Rattle.plan.specs.Plan.{Plan, room_count, task_count, calendar_of, work_time_of, capacity_of}
@@ -21,7 +21,7 @@ use Rattle.steps.specs.Steps as pairs-steps
 use Rattle.steps.specs.Steps.{step, letter_c, letter_o, letter_l, letter_u, Judgement, unknown, on_judgement, judge_c, judge_o, judge_l, judge_u}
 use Rattle.steps.specs.Log.{LogEnd, log_end, replay, replay_by}
 use Rattle.steps.specs.Filter as pairs-filter
-use Rattle.steps.specs.Filter.{Admitted, stops, moves, run, run_by}
+use Rattle.steps.specs.Filter.{Admitted, if_admitted_by, run, run_by}
 use Rattle.steps.specs.Entry as pairs-entry
 use Rattle.steps.specs.Entry.{steps_in, one_for_each_step, refused_by, FilterEnd, filter_end, logged}
 
@@ -103,16 +103,13 @@ module _ (P : Plan) where
       then judge_kind boxes (kind_of x.kind) x.task x.hour
       else unknown
 
-  unfoldable pub if_admitted : List ℕ → Step → Option Admitted
-  if_admitted boxes x = on_judgement (judge boxes x) None None (Some (stops x)) (λ left. Some (moves x left))
-
   -- the first admitted step: C by task; O by room, then hour; L by task, then hour; U by task, then hour
   unfoldable pub next : List ℕ → Option Admitted
   next boxes =
-      first_of (λ i. if_admitted boxes (step letter_c i 0)) (task_count P)
-      or_else first_of (λ room. first_of (λ t. if_admitted boxes (step letter_o room t)) P.shifts.hours) (room_count P)
-      or_else first_of (λ i. first_of (λ t. if_admitted boxes (step letter_l i t)) P.shifts.hours) (task_count P)
-      or_else first_of (λ i. first_of (λ t. if_admitted boxes (step letter_u i t)) P.shifts.hours) (task_count P)
+      first_of (λ i. if_admitted_by judge boxes (step letter_c i 0)) (task_count P)
+      or_else first_of (λ room. first_of (λ t. if_admitted_by judge boxes (step letter_o room t)) P.shifts.hours) (room_count P)
+      or_else first_of (λ i. first_of (λ t. if_admitted_by judge boxes (step letter_l i t)) P.shifts.hours) (task_count P)
+      or_else first_of (λ i. first_of (λ t. if_admitted_by judge boxes (step letter_u i t)) P.shifts.hours) (task_count P)
 
   -- ---- the log checker and the filter
 

@@ -1,7 +1,7 @@
 -- A plan of one room as 01 speaks of it: what 02, W-202, gave each room, in 01's words, of the capacity and of one height a task. That a plan of one
 -- room answers by these as before is proved. Its pairs (W-206) are any plan's.
 use Rattle.std.specs.Prelude.{Bool, true, false, not, List, ◌↔◌, ◌≡◌, ℕ, ◌+◌, ◌-◌, ◌≤◌, ◌<◌, leb, ltb, eqb, get_or, if◌then◌else◌}
-use Rattle.std.specs.Prelude.{Option, None, Some}
+use Rattle.std.specs.Prelude.{Option}
 use Rattle.units.specs.Choice.{◌and◌, ◌or_else◌, first_of}
 use Rattle.units.specs.Limits.{is_hour, with_earliest, with_latest}
 use Rattle.units.specs.Sums.{sum_where}
@@ -24,7 +24,7 @@ use Rattle.steps.specs.Steps.{unknown_kind, kind_of}
 use Rattle.steps.specs.Steps.{Judgement, unknown, not_admitted, impossible, moved, on_judgement, on_fit, judge_c, judge_f, judge_b}
 use Rattle.steps.specs.Log.{replay, replay_by}
 use Rattle.steps.specs.Filter as rooms-filter
-use Rattle.steps.specs.Filter.{Admitted, stops, moves, run, run_by}
+use Rattle.steps.specs.Filter.{Admitted, if_admitted_by, run, run_by}
 
 module _ (P : Plan) where
   unfoldable pub capacity : ℕ
@@ -112,18 +112,15 @@ module _ (P : Plan) where
       then judge_kind boxes (kind_of x.kind) x.task x.hour
       else unknown
 
-  unfoldable pub if_admitted : List ℕ → Step → Option Admitted
-  if_admitted boxes x = on_judgement (judge boxes x) None None (Some (stops x)) (λ left. Some (moves x left))
-
   -- the first admitted step: C by task; O by hour; L by task, then hour; U by task, then hour; F by pair; B by pair
   unfoldable pub next : List ℕ → Option Admitted
   next boxes =
-      first_of (λ i. if_admitted boxes (step letter_c i 0)) (task_count P)
-      or_else first_of (λ t. if_admitted boxes (step letter_o 0 t)) P.shifts.hours
-      or_else first_of (λ i. first_of (λ t. if_admitted boxes (step letter_l i t)) P.shifts.hours) (task_count P)
-      or_else first_of (λ i. first_of (λ t. if_admitted boxes (step letter_u i t)) P.shifts.hours) (task_count P)
-      or_else first_of (λ k. if_admitted boxes (step letter_f k 0)) (pair_count P)
-      or_else first_of (λ k. if_admitted boxes (step letter_b k 0)) (pair_count P)
+      first_of (λ i. if_admitted_by judge boxes (step letter_c i 0)) (task_count P)
+      or_else first_of (λ t. if_admitted_by judge boxes (step letter_o 0 t)) P.shifts.hours
+      or_else first_of (λ i. first_of (λ t. if_admitted_by judge boxes (step letter_l i t)) P.shifts.hours) (task_count P)
+      or_else first_of (λ i. first_of (λ t. if_admitted_by judge boxes (step letter_u i t)) P.shifts.hours) (task_count P)
+      or_else first_of (λ k. if_admitted_by judge boxes (step letter_f k 0)) (pair_count P)
+      or_else first_of (λ k. if_admitted_by judge boxes (step letter_b k 0)) (pair_count P)
 
 -- A plan answers as before: its feasible schedules and the refusals of others, its steps, the filter's choice and its run, and the replay of a log.
 pub record AsBefore (P : Plan) : Type 0 where

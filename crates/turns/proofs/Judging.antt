@@ -204,7 +204,8 @@ module _ (P : Plan) (boxes : List ℕ) (fits : List (Option Window)) (x : Pair) 
     second-never false e = sym (on-within _ _ _ w first ∙ on-never _ _ _ e)
 
     module _ (v : Window) (second : get_or fits x.later None ≡ Some v) (b : Bounds) (lower : Bool) where
-      pub pair-forward : lower ≡ true → b ≡ bounds_at boxes x.later → {r : Judged} → r ≡ forward_by w x.later b → r ≡ pair_by P boxes fits lower x
+      pub pair-forward : lower ≡ true → b ≡ bounds_at boxes x.later → {r : Judged} → r ≡ forward_by w x.later b
+          → r ≡ pair_by P boxes fits lower x
       unfolding pair_by
       pair-forward l is q = rw is at q ∙ sym (rw l (on-within _ _ _ w first ∙ on-within _ _ _ v second))
 

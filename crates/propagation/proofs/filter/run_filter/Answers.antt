@@ -1,6 +1,6 @@
 use Rattle.steps.specs.Entry.{ending_answer}
 use Rattle.propagation.proofs.Fits.{all-fitting}
-use Rattle.propagation.proofs.Keeping.{ready}
+use Rattle.propagation.proofs.Keeping.{ready, pairs_ready}
 use Rattle.propagation.proofs.Filtering.{filter-opens, settles, fills, stops_at, filter-may-move, goes_on}
 use Rattle.propagation.proofs.filter.run_filter.Goals as goal
 
@@ -11,7 +11,7 @@ pub loop-next-init : goal.loop-next-init
 loop-next-init c = filter-opens c.requires.passed c.all_fits-fits.ensures.1 c.all_fits-fits.ensures.0
 
 pub invariant_of-state : goal.invariant_of-state
-invariant_of-state c = let p = c.loop-next.invariant.keeps.passed in record { ready = ready _ _ p; short = p.hours; pairs_ready = record { few = p.few_pairs; pair = p.pair } }
+invariant_of-state c = let p = c.loop-next.invariant.keeps.passed in record { ready = ready _ _ p; short = p.hours; pairs_ready = pairs_ready _ _ p }
 
 pub move_bounds-requires : goal.move_bounds-requires
 move_bounds-requires c =

@@ -1,7 +1,7 @@
 use native.Mathlib.Omega.{arith}
 use Rattle.steps.specs.Entry.{step_at}
 use Rattle.propagation.proofs.Fits.{all-fitting}
-use Rattle.propagation.proofs.Keeping.{ready}
+use Rattle.propagation.proofs.Keeping.{ready, pairs_ready}
 use Rattle.propagation.proofs.Replaying.{replay-opens, replay-done, replay-13, replay-11, replay-12, replay-stops, replay-may-move, replay-moves}
 use Rattle.propagation.proofs.replay.replay_log.Goals as goal
 
@@ -15,7 +15,7 @@ pub returns-then-impossible : goal.returns-then-impossible
 returns-then-impossible c = replay-13 c.loop-k.invariant c.loop-k-test.true c.if-impossible.true
 
 pub invariant_of-state : goal.invariant_of-state
-invariant_of-state c = let p = c.loop-k.invariant.keeps.passed in record { ready = ready _ _ p; short = p.hours; pairs_ready = record { few = p.few_pairs; pair = p.pair } }
+invariant_of-state c = let p = c.loop-k.invariant.keeps.passed in record { ready = ready _ _ p; short = p.hours; pairs_ready = pairs_ready _ _ p }
 
 pub returns-in-Unknown : goal.returns-in-Unknown
 unfolding step_at
