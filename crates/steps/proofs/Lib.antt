@@ -7,6 +7,4 @@ pub mod Runs
 pub mod Contracts
 pub mod Claim
 pub mod Entry
-pub mod OneRoom
-pub mod NoPairs
 pub mod Weeks

@@ -74,8 +74,8 @@ Complete order = (k : Kind) → (k ≡ unknown_kind → ⊥) → In k order
 
 pub filter-complete : Complete filter_order
 unfolding filter_order
-filter-complete kind_c known = here
-filter-complete kind_o known = there here
+filter-complete kind_c known = there here
+filter-complete kind_o known = here
 filter-complete kind_l known = there (there here)
 filter-complete kind_u known = there (there (there here))
 filter-complete kind_f known = there (there (there (there here)))

@@ -45,9 +45,9 @@ module _ {A : Type 0} (P : Plan) (f : Step → Option A) where
   first_by [] = None
   first_by (k ∷ ks) = first_of_kind k or_else first_by ks
 
--- the filter's order
+-- the filter's order (02, W-207: O before C)
 unfoldable pub filter_order : List Kind
-filter_order = kind_c ∷ kind_o ∷ kind_l ∷ kind_u ∷ kind_f ∷ kind_b ∷ []
+filter_order = kind_o ∷ kind_c ∷ kind_l ∷ kind_u ∷ kind_f ∷ kind_b ∷ []
 
 -- the first admitted step, in an order of kinds; in the filter's
 unfoldable pub next_by : List Kind → Plan → List ℕ → Option Admitted

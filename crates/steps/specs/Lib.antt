@@ -5,7 +5,5 @@ pub mod Filter
 pub mod Widths
 pub mod Entry
 pub mod Claim
-pub mod OneRoom
-pub mod NoPairs
 pub mod Weeks
 pub mod Inner

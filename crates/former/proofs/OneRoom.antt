@@ -29,8 +29,8 @@ use Rattle.steps.specs.Steps.{not_admitted, impossible, judge_o, judge_l, judge_
 use Rattle.steps.specs.Steps.{on_judgement, judge_kind, judge}
 use Rattle.steps.specs.Log.{replay, replay_by}
 use Rattle.steps.specs.Filter.{Admitted, stops, moves, if_admitted_by, if_admitted, first_of_kind, first_by, filter_order, next_by, next, run_by, run}
-use Rattle.steps.specs.OneRoom as before
-use Rattle.steps.specs.OneRoom.{AsBefore}
+use Rattle.former.specs.OneRoom as before
+use Rattle.former.specs.OneRoom.{AsBefore}
 
 -- ---- what is judged alike is admitted and replayed alike, and what is chosen alike is filtered alike
 

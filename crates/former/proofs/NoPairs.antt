@@ -26,9 +26,9 @@ use Rattle.steps.specs.Steps.{unknown_kind, kind_of, is_step, Judgement, unknown
 use Rattle.steps.specs.Log.{LogEnd, log_end}
 use Rattle.steps.specs.Filter.{Admitted, Run, first_of_kind, first_by, filter_order, next_by, next}
 use Rattle.steps.specs.Entry.{steps_in, one_for_each_step, entry_fault, check_log, refused_by, filter_end, logged, filter_plan}
-use Rattle.steps.specs.NoPairs as before
-use Rattle.steps.specs.NoPairs.{AsBefore}
-use Rattle.steps.proofs.OneRoom.{admitted-alike, replayed-alike, filtered-alike}
+use Rattle.former.specs.NoPairs as before
+use Rattle.former.specs.NoPairs.{AsBefore}
+use Rattle.former.proofs.OneRoom.{admitted-alike, replayed-alike, filtered-alike}
 
 module _ (P : Plan) (none : P.pairs ≡ []) where
   no-pair : pair_count P ≡ 0

@@ -1,0 +1,2 @@
+pub mod OneRoom
+pub mod NoPairs

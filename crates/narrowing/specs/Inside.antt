@@ -1,0 +1,1 @@
+-- Boxes inside boxes.
