@@ -21,7 +21,7 @@ use Rattle.units.proofs.Choices.{first-hit}
 use Rattle.plan.specs.Plan.{Plan, room_count, task_count, pair_count, capacity_of, room_part, heights_of, pair_of}
 use Rattle.plan.specs.Boxes.{bounds_at}
 use Rattle.plan.proofs.Passed.{room-length, room_at}
-use Rattle.units.proofs.Choices.{and-rest, first-eq, first_rest, else-none, else-end, else-through}
+use Rattle.units.proofs.Choices.{and-rest, first-eq, first_rest, else-end}
 use Rattle.calendar.specs.declared.Window.{Window}
 use Rattle.calendar.specs.Rule.{lst, ect}
 use Rattle.steps.specs.declared.Step.{Step}
@@ -31,7 +31,7 @@ use Rattle.steps.specs.Steps.{step, letter_c, letter_o, Kind, kind_c, kind_o, ki
 use Rattle.steps.specs.Filter.{first_of_kind, first_by, filter_order}
 use Rattle.turns.specs.Inner.Kept.{load_of, excess_by, on_judged, calendar_by, lower_by, upper_by, move_by, bound_by, pair_by, judge_kind_by, judge_by}
 use Rattle.turns.specs.Inner.Kept.{admitted_by}
-use Rattle.turns.specs.Inner.Finding.{admits, letter_of, pair_letter_of, first_hour, end_hour, Loaded, load_order, first_calendar, room_overload}
+use Rattle.turns.specs.Inner.Finding.{admits, letter_of, pair_letter_of, first_hour, end_hour, Loaded, first_calendar, room_overload}
 use Rattle.turns.specs.Inner.Finding.{first_overload, first_excess, first_pair}
 
 -- ---- the first of several
@@ -274,31 +274,19 @@ module _ (P : Plan) (boxes : List ℕ) (fits : List (Option Window)) where
     unfolding first_overload first_of_kind
     overload-first = first-eq _ _ (room_count P) room-first
 
-    pub by-load : {r : Option Step}
+    pub next-first : {r : Option Step}
         → r
         ≡ (first_overload P loads
+        or_else first_calendar P boxes fits
         or_else first_excess P boxes fits true
-        or_else first_excess P boxes fits false)
-        → r ≡ first_by P (admitted_by P boxes fits) load_order
-    unfolding first_by first_excess first_of_kind letter_of
-    by-load e = e ∙ ap₂ ◌or_else◌ overload-first (ap (◌or_else◌ _) (sym (else-end _)))
-
-  -- the kinds that ask for no loads, before and after those that do
-  pub next-first : {r : Option Step}
-      → r
-      ≡ (first_calendar P boxes fits
-      or_else first_by P (admitted_by P boxes fits) load_order
-      or_else first_pair P boxes fits true
-      or_else first_pair P boxes fits false)
-      → r ≡ first_by P (admitted_by P boxes fits) filter_order
-  unfolding first_by filter_order first_of_kind pair_letter_of
-  next-first e =
-      e
-      ∙ ap₂ ◌or_else◌ calendar-first
-      (else-through (First kind_o) (First kind_l or_else First kind_u or_else None) _
-      ∙ ap (◌or_else◌ (First kind_o))
-      (else-through (First kind_l) (First kind_u or_else None) _
-      ∙ ap (◌or_else◌ (First kind_l))
-      (else-through (First kind_u) None _
-      ∙ ap (◌or_else◌ (First kind_u))
-      (else-none None _ refl ∙ ap₂ ◌or_else◌ (pair-first true) (pair-first false ∙ sym (else-end _))))))
+        or_else first_excess P boxes fits false
+        or_else first_pair P boxes fits true
+        or_else first_pair P boxes fits false)
+        → r ≡ first_by P (admitted_by P boxes fits) filter_order
+    unfolding first_by filter_order first_excess first_of_kind letter_of pair_letter_of
+    next-first e =
+        e
+        ∙ ap₂ ◌or_else◌ overload-first
+        (ap₂ ◌or_else◌ calendar-first
+        (ap (◌or_else◌ (First kind_l))
+        (ap (◌or_else◌ (First kind_u)) (ap₂ ◌or_else◌ (pair-first true) (pair-first false ∙ sym (else-end _))))))

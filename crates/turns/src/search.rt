@@ -5,7 +5,7 @@ ghost use Rattle.plan.specs.Plan.{room_count, task_count};
 ghost use Rattle.plan.specs.Lent.{plan_in};
 ghost use Rattle.steps.specs.Filter.{first_by, filter_order};
 ghost use Rattle.turns.specs.Inner.Kept.{calendar_by, admitted_by, is_lower};
-ghost use Rattle.turns.specs.Inner.Finding.{admits, Loaded, load_order, first_calendar, room_overload, first_overload, first_excess, first_pair};
+ghost use Rattle.turns.specs.Inner.Finding.{admits, Loaded, first_calendar, room_overload, first_overload, first_excess, first_pair};
 
 use crate::State;
 use crate::side::Side;
@@ -110,39 +110,6 @@ impl State<'_> {
         found
     }
 
-    // The first O, L or U, with memory for the loads of the hours, which is 0.
-    fn first_with_loads(&self, loads: &mut [u16]) -> Option<Step>
-        requires { let P = plan_in self.now.plan.now in
-            (length loads.old ≡ room_count P * P.shifts.hours) × ((k : ℕ) → k < length loads.old → get_or loads.old k 0 ≡ 0) }
-        ensures { let P = plan_in self.now.plan.now in
-            result ≡ first_by P (admitted_by P self.now.boxes.now self.now.fits.now) load_order }
-    {
-        self.fill_loads(loads);
-        // In a chain of `or_else`, a closure without clauses says nothing of its answer, and its clauses would repeat the contract of what it calls.
-        if let Some(overload) = self.first_overload(loads) {
-            return Some(overload);
-        }
-        if let Some(lower) = self.first_excess(Side::Lower, loads) {
-            return Some(lower);
-        }
-        self.first_excess(Side::Upper, loads)
-    }
-
-    // The first O, L or U. Memory is fixed, so that the loads have one of two sizes: a short plan, or one of few rooms, needs little, and it is set
-    // to 0 at each turn.
-    fn first_by_load(&self) -> Option<Step>
-        ensures { let P = plan_in self.now.plan.now in
-            result ≡ first_by P (admitted_by P self.now.boxes.now self.now.fits.now) load_order }
-    {
-        let count = self.plan.rooms() * self.plan.shifts.hours.0 as usize;
-        if count <= Duration::MOST as usize {
-            let mut loads = [0u16; Duration::MOST as usize];
-            return self.first_with_loads(&mut loads[..count]);
-        }
-        let mut loads = [0u16; MOST_LOADS];
-        self.first_with_loads(&mut loads[..count])
-    }
-
     // The first F, or the first B, by pair.
     fn first_pair(&self, side: Side) -> Option<Step>
         ensures { result ≡ first_pair (plan_in self.now.plan.now) self.now.boxes.now self.now.fits.now (is_lower side) }
@@ -160,21 +127,46 @@ impl State<'_> {
         None
     }
 
-    // The first admitted step: C by task; O by room, then hour; L by task, then hour; U by task, then hour; F by pair; B by pair.
-    pub(crate) fn next_step(&self) -> Option<Step>
+    // The first admitted step, with memory for the loads of the hours, which is 0: O by room, then hour; C by task; L by task, then hour; U by task,
+    // then hour; F by pair; B by pair.
+    fn first_with_loads(&self, loads: &mut [u16]) -> Option<Step>
+        requires { let P = plan_in self.now.plan.now in
+            (length loads.old ≡ room_count P * P.shifts.hours) × ((k : ℕ) → k < length loads.old → get_or loads.old k 0 ≡ 0) }
         ensures { let P = plan_in self.now.plan.now in
             result ≡ first_by P (admitted_by P self.now.boxes.now self.now.fits.now) filter_order }
     {
-        // No `or_else` here, likewise: its closures' clauses would repeat the contracts of `first_by_load` and `first_pair`.
+        self.fill_loads(loads);
+        // In a chain of `or_else`, a closure without clauses says nothing of its answer, and its clauses would repeat the contract of what it calls.
+        if let Some(overload) = self.first_overload(loads) {
+            return Some(overload);
+        }
         if let Some(calendar) = self.first_calendar() {
             return Some(calendar);
         }
-        if let Some(by_load) = self.first_by_load() {
-            return Some(by_load);
+        if let Some(lower) = self.first_excess(Side::Lower, loads) {
+            return Some(lower);
+        }
+        if let Some(upper) = self.first_excess(Side::Upper, loads) {
+            return Some(upper);
         }
         if let Some(forward) = self.first_pair(Side::Lower) {
             return Some(forward);
         }
         self.first_pair(Side::Upper)
+    }
+
+    // The first admitted step. Memory is fixed, so that the loads have one of two sizes: a short plan, or one of few rooms, needs little, and it is set
+    // to 0 at each turn.
+    pub(crate) fn next_step(&self) -> Option<Step>
+        ensures { let P = plan_in self.now.plan.now in
+            result ≡ first_by P (admitted_by P self.now.boxes.now self.now.fits.now) filter_order }
+    {
+        let count = self.plan.rooms() * self.plan.shifts.hours.0 as usize;
+        if count <= Duration::MOST as usize {
+            let mut loads = [0u16; Duration::MOST as usize];
+            return self.first_with_loads(&mut loads[..count]);
+        }
+        let mut loads = [0u16; MOST_LOADS];
+        self.first_with_loads(&mut loads[..count])
     }
 }

@@ -1,5 +1,5 @@
 -- The words of the search for the first admitted step. Only contracts of private functions cite this; 01 has no such terms.
-use Rattle.std.specs.Prelude.{Bool, true, false, ◌≡◌, List, [], ◌∷◌, ℕ, ◌+◌, ◌*◌, ◌<◌, ltb, length, get_or, if◌then◌else◌}
+use Rattle.std.specs.Prelude.{Bool, true, false, ◌≡◌, List, ℕ, ◌+◌, ◌*◌, ◌<◌, ltb, length, get_or, if◌then◌else◌}
 use Rattle.std.specs.Prelude.{Option, None}
 use Rattle.units.specs.Choice.{some_if, first_of}
 use Rattle.units.specs.declared.Bounds.{Bounds}
@@ -10,7 +10,7 @@ use Rattle.calendar.specs.Rule.{lst, ect}
 use Rattle.steps.specs.declared.Step.{Step}
 use Rattle.steps.specs.declared.Judged.{Judged}
 use Rattle.steps.specs.Load.{must_run}
-use Rattle.steps.specs.Steps.{step, letter_c, letter_o, letter_l, letter_u, letter_f, letter_b, Kind, kind_o, kind_l, kind_u}
+use Rattle.steps.specs.Steps.{step, letter_c, letter_o, letter_l, letter_u, letter_f, letter_b}
 use Rattle.turns.specs.Inner.Kept.{load_of, on_judged, calendar_by, pair_by, admitted_by}
 
 -- a step so judged is admitted
@@ -41,11 +41,7 @@ pub record Loaded (hours rooms tasks : ℕ) (loads : List ℕ) (fits : List (Opt
   pub each : length loads ≡ rooms * hours
   pub load : (room : ℕ) → room < rooms → (t : ℕ) → t < hours → get_or loads (room * hours + t) 0 ≡ load_of fits (room_part tasks heights room) t
 
--- the order of the kinds that ask for the loads
-abbrev pub load_order : List Kind
-load_order = kind_o ∷ kind_l ∷ kind_u ∷ []
-
--- the first C; the first O of a room, from its loads, and of any; the first L or U; the first F or B
+-- the first O of a room, from its loads, and of any; the first C; the first L or U; the first F or B
 unfoldable pub first_calendar : Plan → List ℕ → List (Option Window) → Option Step
 first_calendar P boxes fits =
     first_of (λ i. some_if (admits (calendar_by (get_or fits i None) i (bounds_at boxes i))) (step letter_c i 0)) (task_count P)
