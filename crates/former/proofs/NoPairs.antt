@@ -4,7 +4,7 @@ use mathlib.Core.Path.{◌≡◌, refl, ap, ap₂, ◌∙◌}
 use mathlib.Core.Bool.{Bool, true, false}
 use Rattle.std.specs.Prelude.{Option, Some}
 use Rattle.std.proofs.Math.Bool.{and-true}
-use mathlib.Core.List.{List, []}
+use mathlib.Core.List.{List, [], ◌∷◌}
 use Prim.Native.Nat.{ℕ, ◌/◌}
 use native.Mathlib.Omega.{arith}
 use lib.ListN.{length}
@@ -24,11 +24,11 @@ use Rattle.steps.specs.declared.Step.{Step}
 use Rattle.steps.specs.Steps.{letter_c, letter_o, letter_l, letter_u, letter_f, letter_b, Kind, kind_c, kind_o, kind_l, kind_u, kind_f, kind_b}
 use Rattle.steps.specs.Steps.{unknown_kind, kind_of, is_step, Judgement, unknown, judge_kind, judge}
 use Rattle.steps.specs.Log.{LogEnd, log_end}
-use Rattle.steps.specs.Filter.{Admitted, Run, first_of_kind, first_by, filter_order, next_by, next}
+use Rattle.steps.specs.Filter.{Run, if_admitted_by, first_of_kind, first_by, filter_order, next_by}
 use Rattle.steps.specs.Entry.{steps_in, one_for_each_step, entry_fault, check_log, refused_by, filter_end, logged, filter_plan}
 use Rattle.former.specs.NoPairs as before
 use Rattle.former.specs.NoPairs.{AsBefore}
-use Rattle.former.proofs.OneRoom.{admitted-alike, replayed-alike, filtered-alike}
+use Rattle.former.proofs.OneRoom.{found-alike, replayed-alike, filtered-alike}
 
 module _ (P : Plan) (none : P.pairs ≡ []) where
   no-pair : pair_count P ≡ 0
@@ -119,12 +119,22 @@ module _ (P : Plan) (none : P.pairs ≡ []) where
       of-kind boxes x.task x.hour (eqb x.kind letter_c) (eqb x.kind letter_o) (eqb x.kind letter_l) (eqb x.kind letter_u) _
       (of-none boxes x.task x.hour (eqb x.kind letter_f) (eqb x.kind letter_b))
 
-  next-is : (boxes : List ℕ) → next P boxes ≡ before.next P boxes
-  unfolding next_by first_by first_of_kind filter_order before.next
-  next-is boxes =
-      ap (λ (f : Step → Option Admitted). first_by P f filter_order) (admitted-alike P judge-is boxes)
-      ∙ ap (◌or_else◌ _)
-      (ap (◌or_else◌ _) (ap (◌or_else◌ _) (ap (◌or_else◌ _) (ap (◌or_else◌ _) (else-end _) ∙ none-after _ _) ∙ none-after _ _)))
+  -- ---- the filter
+
+  first-is : (boxes : List ℕ) (k : before.Kind)
+      → first_of_kind P (if_admitted_by (before.judge P) boxes) (before.kind_with_pairs k) ≡ before.first_of_kind P boxes k
+  unfolding first_of_kind before.kind_with_pairs before.first_of_kind
+  first-is boxes before.kind_c = refl
+  first-is boxes before.kind_o = refl
+  first-is boxes before.kind_l = refl
+  first-is boxes before.kind_u = refl
+  first-is boxes before.unknown_kind = refl
+
+  -- after the last of the four kinds F and B find nothing
+  next-is : (order : List before.Kind) (boxes : List ℕ) → next_by (before.with_pairs order) P boxes ≡ before.next_by P order boxes
+  unfolding next_by first_by first_of_kind first_of ◌or_else◌ before.with_pairs before.next_by
+  next-is [] boxes = rw no-pair refl
+  next-is (k ∷ ks) boxes = ap₂ ◌or_else◌ (found-alike P judge-is boxes (before.kind_with_pairs k) ∙ first-is boxes k) (next-is ks boxes)
 
   -- ---- the entry points
 
@@ -140,10 +150,10 @@ module _ (P : Plan) (none : P.pairs ≡ []) where
       (replayed-alike P judge-is boxes (steps_in kinds tasks hours))
 
   filter-is : (boxes kinds tasks hours : List ℕ) → filter_plan P boxes kinds tasks hours ≡ before.filter_plan P boxes kinds tasks hours
-  unfolding filter_plan before.filter_plan
+  unfolding filter_plan filter_order before.filter_plan before.filter_order before.with_pairs before.kind_with_pairs
   filter-is boxes kinds tasks hours =
       ap₂ (λ (f : Option Fault) (r : Run). on_option f (logged r kinds tasks hours) (λ g. filter_end (refused_by g) boxes kinds tasks hours))
-      (entry-is boxes kinds tasks hours) (filtered-alike P next-is boxes (length kinds))
+      (entry-is boxes kinds tasks hours) (filtered-alike (next-is before.filter_order) boxes (length kinds))
 
   pub no-pairs : AsBefore P
   no-pairs =
@@ -154,7 +164,7 @@ module _ (P : Plan) (none : P.pairs ≡ []) where
         refused = schedule-is;
         judged = judge-is;
         chosen = next-is;
-        filtered = filtered-alike P next-is;
+        filtered = λ order. filtered-alike (next-is order);
         replayed = replayed-alike P judge-is;
         schedule_checker = schedule-checker;
         log_checker = log-checker;

@@ -5,7 +5,7 @@ use mathlib.Core.Logic.{◌≢◌}
 use Rattle.std.proofs.Math.Path.{fun_ext}
 use mathlib.Core.Bool.{Bool, true, false, not}
 use Rattle.std.specs.Prelude.{Option, None, Some}
-use mathlib.Core.List.{List}
+use mathlib.Core.List.{List, [], ◌∷◌}
 use Prim.Native.Nat.{ℕ, ◌+◌, ◌<◌}
 use native.Mathlib.Nat.{zero-mul}
 use native.Mathlib.Omega.{arith}
@@ -15,7 +15,7 @@ use borrow.Author.Tests.{ltb-true, lt-ltb, le-ltb, eqb-true, eqb-false}
 use Rattle.units.specs.Choice.{◌and◌, some_of, ◌or_else◌, first_of}
 use Rattle.units.specs.Limits.{is_hour, is_room_number}
 use Rattle.units.specs.Sums.{sum_where}
-use Rattle.units.proofs.Choices.{and_left, else-end, first-eq}
+use Rattle.units.proofs.Choices.{and_left, first-eq}
 use Rattle.units.proofs.Summing.{sum-eq}
 use Rattle.plan.specs.Plan.{Plan, room_count, task_count, capacity_of, room_part, heights_of, height_of, heights_where}
 use Rattle.plan.specs.Refusals.{unless}
@@ -28,26 +28,29 @@ use Rattle.steps.specs.Steps.{Kind, kind_c, kind_o, kind_l, kind_u, kind_f, kind
 use Rattle.steps.specs.Steps.{not_admitted, impossible, judge_o, judge_l, judge_u}
 use Rattle.steps.specs.Steps.{on_judgement, judge_kind, judge}
 use Rattle.steps.specs.Log.{replay, replay_by}
-use Rattle.steps.specs.Filter.{Admitted, stops, moves, if_admitted_by, if_admitted, first_of_kind, first_by, filter_order, next_by, next, run_by, run}
+use Rattle.steps.specs.Filter.{Admitted, stops, moves, if_admitted_by, if_admitted, first_of_kind, first_by, next_by, run_by}
 use Rattle.former.specs.OneRoom as before
 use Rattle.former.specs.OneRoom.{AsBefore}
 
--- ---- what is judged alike is admitted and replayed alike, and what is chosen alike is filtered alike
+-- ---- what is judged alike is admitted, found and replayed alike, and what is chosen alike is filtered alike
 
 module _ (P : Plan) where
   module _ {judge_at : List ℕ → Step → Judgement} (same : (boxes : List ℕ) (x : Step) → judge P boxes x ≡ judge_at boxes x) where
-    pub admitted-alike : (boxes : List ℕ) → if_admitted P boxes ≡ if_admitted_by judge_at boxes
+    admitted-alike : (boxes : List ℕ) → if_admitted P boxes ≡ if_admitted_by judge_at boxes
     unfolding if_admitted
     admitted-alike boxes =
         fun_ext (λ x. ap (λ (j : Judgement). on_judgement j None None (Some (stops x)) (λ left. Some (moves x left))) (same boxes x))
+
+    pub found-alike : (boxes : List ℕ) (k : Kind) → first_of_kind P (if_admitted P boxes) k ≡ first_of_kind P (if_admitted_by judge_at boxes) k
+    found-alike boxes k = ap (λ (f : Step → Option Admitted). first_of_kind P f k) (admitted-alike boxes)
 
     pub replayed-alike : (boxes : List ℕ) (log : List Step) → replay P boxes log ≡ replay_by judge_at 0 false boxes log
     unfolding replay
     replayed-alike boxes log = ap (λ (f : List ℕ → Step → Judgement). replay_by f 0 false boxes log) (fun_ext (λ b. fun_ext (same b)))
 
-  pub filtered-alike : {next_at : List ℕ → Option Admitted} → ((boxes : List ℕ) → next P boxes ≡ next_at boxes)
-      → (boxes : List ℕ) (n : ℕ) → run P boxes n ≡ run_by next_at boxes n
-  filtered-alike same boxes n = ap (λ (f : List ℕ → Option Admitted). run_by f boxes n) (fun_ext same)
+pub filtered-alike : {f g : List ℕ → Option Admitted} → ((boxes : List ℕ) → f boxes ≡ g boxes)
+    → (boxes : List ℕ) (n : ℕ) → run_by f boxes n ≡ run_by g boxes n
+filtered-alike same boxes n = ap (λ (h : List ℕ → Option Admitted). run_by h boxes n) (fun_ext same)
 
 module _ (P : Plan) (one : room_count P ≡ 1) where
   -- ---- the one room
@@ -155,12 +158,20 @@ module _ (P : Plan) (one : room_count P ≡ 1) where
 
   -- ---- the filter
 
-  next-is : (boxes : List ℕ) → next P boxes ≡ before.next P boxes
-  unfolding next_by first_by first_of_kind filter_order before.next
-  next-is boxes =
-      ap (λ (f : Step → Option Admitted). first_by P f filter_order) (admitted-alike P judge-is boxes)
-      ∙ ap (◌or_else◌ _)
-      (ap₂ ◌or_else◌ (first-room _) (ap (◌or_else◌ _) (ap (◌or_else◌ _) (ap (◌or_else◌ _) (else-end _)))))
+  first-is : (boxes : List ℕ) (k : Kind) → first_of_kind P (if_admitted_by (before.judge P) boxes) k ≡ before.first_of_kind P boxes k
+  unfolding first_of_kind before.first_of_kind
+  first-is boxes kind_c = refl
+  first-is boxes kind_o = first-room _
+  first-is boxes kind_l = refl
+  first-is boxes kind_u = refl
+  first-is boxes kind_f = refl
+  first-is boxes kind_b = refl
+  first-is boxes unknown_kind = refl
+
+  next-is : (order : List Kind) (boxes : List ℕ) → next_by order P boxes ≡ before.next_by P order boxes
+  unfolding next_by first_by before.next_by
+  next-is [] boxes = refl
+  next-is (k ∷ ks) boxes = ap₂ ◌or_else◌ (found-alike P judge-is boxes k ∙ first-is boxes k) (next-is ks boxes)
 
   pub one-room : AsBefore P
   one-room =
@@ -169,6 +180,6 @@ module _ (P : Plan) (one : room_count P ≡ 1) where
         refused = schedule-is;
         judged = judge-is;
         chosen = next-is;
-        filtered = filtered-alike P next-is;
+        filtered = λ order. filtered-alike (next-is order);
         replayed = replayed-alike P judge-is;
       }

@@ -1,7 +1,8 @@
--- A plan without pairs as 01 and 02 up to W-205 speak of it: its tests, its feasible schedules, the steps C, O, L and U in their order, and what the
--- entry points come to by these. A plan's pairs are not read. That a plan without pairs answers by these as before W-206 is proved.
-use Rattle.std.specs.Prelude.{Bool, true, false, List, ◌↔◌, ◌≡◌, ℕ, ◌≤◌, ◌<◌, ltb, eqb, if◌then◌else◌, length}
-use Rattle.std.specs.Prelude.{Option, Some}
+-- A plan without pairs as 01 and 02 up to W-205 speak of it: its tests, its feasible schedules, the steps C, O, L and U, and what the entry points
+-- come to by these. A plan's pairs are not read. That a plan without pairs answers by these as before W-206 is proved. The order of the kinds is any,
+-- since W-207 changed it, and filter_plan's is today's.
+use Rattle.std.specs.Prelude.{Bool, true, false, List, [], ◌∷◌, ◌++◌, map, ◌↔◌, ◌≡◌, ℕ, ◌≤◌, ◌<◌, ltb, eqb, if◌then◌else◌, length}
+use Rattle.std.specs.Prelude.{Option, None, Some}
 use Rattle.units.specs.Choice.{◌and◌, on_option, ◌or_else◌, first_of}
 use Rattle.units.specs.Limits.{is_hour, is_room_count, is_room_number, is_task_count}
 use Rattle.plan.specs.Plan.{Plan, room_count, task_count, calendar_of, work_time_of, capacity_of}
@@ -21,7 +22,7 @@ use Rattle.steps.specs.Steps as pairs-steps
 use Rattle.steps.specs.Steps.{step, letter_c, letter_o, letter_l, letter_u, Judgement, unknown, on_judgement, judge_c, judge_o, judge_l, judge_u}
 use Rattle.steps.specs.Log.{LogEnd, log_end, replay, replay_by}
 use Rattle.steps.specs.Filter as pairs-filter
-use Rattle.steps.specs.Filter.{Admitted, if_admitted_by, run, run_by}
+use Rattle.steps.specs.Filter.{Admitted, if_admitted_by, run_by}
 use Rattle.steps.specs.Entry as pairs-entry
 use Rattle.steps.specs.Entry.{steps_in, one_for_each_step, refused_by, FilterEnd, filter_end, logged}
 
@@ -36,6 +37,22 @@ kind_of letter =
     else (if eqb letter letter_l then kind_l
     else (if eqb letter letter_u then kind_u
     else unknown_kind)))
+
+-- the filter's order (02, W-207: O before C)
+unfoldable pub filter_order : List Kind
+filter_order = kind_o ∷ kind_c ∷ kind_l ∷ kind_u ∷ []
+
+-- the kind, among those that there are with pairs
+unfoldable pub kind_with_pairs : Kind → pairs-steps.Kind
+kind_with_pairs kind_c = pairs-steps.kind_c
+kind_with_pairs kind_o = pairs-steps.kind_o
+kind_with_pairs kind_l = pairs-steps.kind_l
+kind_with_pairs kind_u = pairs-steps.kind_u
+kind_with_pairs unknown_kind = pairs-steps.unknown_kind
+
+-- and the order: a plan's order with pairs ends in F, B (02, W-206)
+unfoldable pub with_pairs : List Kind → List pairs-steps.Kind
+with_pairs order = map kind_with_pairs order ++ (pairs-steps.kind_f ∷ pairs-steps.kind_b ∷ [])
 
 module _ (P : Plan) where
   -- ---- the plan's tests
@@ -103,13 +120,18 @@ module _ (P : Plan) where
       then judge_kind boxes (kind_of x.kind) x.task x.hour
       else unknown
 
-  -- the first admitted step: C by task; O by room, then hour; L by task, then hour; U by task, then hour
-  unfoldable pub next : List ℕ → Option Admitted
-  next boxes =
-      first_of (λ i. if_admitted_by judge boxes (step letter_c i 0)) (task_count P)
-      or_else first_of (λ room. first_of (λ t. if_admitted_by judge boxes (step letter_o room t)) P.shifts.hours) (room_count P)
-      or_else first_of (λ i. first_of (λ t. if_admitted_by judge boxes (step letter_l i t)) P.shifts.hours) (task_count P)
-      or_else first_of (λ i. first_of (λ t. if_admitted_by judge boxes (step letter_u i t)) P.shifts.hours) (task_count P)
+  -- the first admitted step of a kind: C by task; O by room, then hour; L by task, then hour; U by task, then hour
+  unfoldable pub first_of_kind : List ℕ → Kind → Option Admitted
+  first_of_kind boxes kind_c = first_of (λ i. if_admitted_by judge boxes (step letter_c i 0)) (task_count P)
+  first_of_kind boxes kind_o = first_of (λ room. first_of (λ t. if_admitted_by judge boxes (step letter_o room t)) P.shifts.hours) (room_count P)
+  first_of_kind boxes kind_l = first_of (λ i. first_of (λ t. if_admitted_by judge boxes (step letter_l i t)) P.shifts.hours) (task_count P)
+  first_of_kind boxes kind_u = first_of (λ i. first_of (λ t. if_admitted_by judge boxes (step letter_u i t)) P.shifts.hours) (task_count P)
+  first_of_kind boxes unknown_kind = None
+
+  -- and in an order of kinds
+  unfoldable pub next_by : List Kind → List ℕ → Option Admitted
+  next_by [] boxes = None
+  next_by (k ∷ ks) boxes = first_of_kind boxes k or_else next_by ks boxes
 
   -- ---- the log checker and the filter
 
@@ -124,19 +146,20 @@ module _ (P : Plan) where
   unfoldable pub filter_plan : List ℕ → List ℕ → List ℕ → List ℕ → FilterEnd
   filter_plan boxes kinds tasks hours =
       on_option (entry_fault boxes kinds tasks hours)
-      (logged (run_by next boxes (length kinds)) kinds tasks hours)
+      (logged (run_by (next_by filter_order) boxes (length kinds)) kinds tasks hours)
       (λ f. filter_end (refused_by f) boxes kinds tasks hours)
 
--- A plan answers as before: the tests' refusals, its feasible schedules and the refusals of others, its steps, the filter's choice and its run, the
--- replay of a log; and so does each entry point, in its answer and in all that it leaves in lent memory.
+-- A plan answers as before: the tests' refusals, its feasible schedules and the refusals of others, its steps, the filter's choice and its run in any
+-- order of the kinds, the replay of a log; and so does each entry point, in its answer and in all that it leaves in lent memory.
 pub record AsBefore (P : Plan) : Type 0 where
   pub passed : (boxes : List ℕ) → pairs-faults.plan_fault P boxes ≡ plan_fault P boxes
   pub tested : (boxes : List ℕ) → pairs-faults.input_fault P boxes ≡ input_fault P boxes
   pub feasible : (boxes : List ℕ) (σ : ℕ → Triple) → pairs.Feasible P boxes σ ↔ Feasible P boxes σ
   pub refused : (boxes : List ℕ) (σ : ℕ → Triple) → pairs-schedules.schedule_fault P boxes σ ≡ schedule_fault P boxes σ
   pub judged : (boxes : List ℕ) (x : Step) → pairs-steps.judge P boxes x ≡ judge P boxes x
-  pub chosen : (boxes : List ℕ) → pairs-filter.next P boxes ≡ next P boxes
-  pub filtered : (boxes : List ℕ) (n : ℕ) → run P boxes n ≡ run_by (next P) boxes n
+  pub chosen : (order : List Kind) (boxes : List ℕ) → pairs-filter.next_by (with_pairs order) P boxes ≡ next_by P order boxes
+  pub filtered : (order : List Kind) (boxes : List ℕ) (n : ℕ)
+      → run_by (pairs-filter.next_by (with_pairs order) P) boxes n ≡ run_by (next_by P order) boxes n
   pub replayed : (boxes : List ℕ) (log : List Step) → replay P boxes log ≡ replay_by (judge P) 0 false boxes log
   pub schedule_checker : (boxes schedule : List ℕ) → pairs-schedules.check_schedule P boxes schedule ≡ check_schedule P boxes schedule
   pub log_checker : (boxes kinds tasks hours : List ℕ) → pairs-entry.check_log P boxes kinds tasks hours ≡ check_log P boxes kinds tasks hours

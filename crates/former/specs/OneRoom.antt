@@ -1,7 +1,7 @@
 -- A plan of one room as 01 speaks of it: what 02, W-202, gave each room, in 01's words, of the capacity and of one height a task. That a plan of one
--- room answers by these as before is proved. Its pairs (W-206) are any plan's.
-use Rattle.std.specs.Prelude.{Bool, true, false, not, List, ◌↔◌, ◌≡◌, ℕ, ◌+◌, ◌-◌, ◌≤◌, ◌<◌, leb, ltb, eqb, get_or, if◌then◌else◌}
-use Rattle.std.specs.Prelude.{Option}
+-- room answers by these as before is proved. Its pairs (W-206) are any plan's. The order of the kinds is any, since W-207 changed it.
+use Rattle.std.specs.Prelude.{Bool, true, false, not, List, [], ◌∷◌, ◌↔◌, ◌≡◌, ℕ, ◌+◌, ◌-◌, ◌≤◌, ◌<◌, leb, ltb, eqb, get_or, if◌then◌else◌}
+use Rattle.std.specs.Prelude.{Option, None}
 use Rattle.units.specs.Choice.{◌and◌, ◌or_else◌, first_of}
 use Rattle.units.specs.Limits.{is_hour, with_earliest, with_latest}
 use Rattle.units.specs.Sums.{sum_where}
@@ -24,7 +24,7 @@ use Rattle.steps.specs.Steps.{unknown_kind, kind_of}
 use Rattle.steps.specs.Steps.{Judgement, unknown, not_admitted, impossible, moved, on_judgement, on_fit, judge_c, judge_f, judge_b}
 use Rattle.steps.specs.Log.{replay, replay_by}
 use Rattle.steps.specs.Filter as rooms-filter
-use Rattle.steps.specs.Filter.{Admitted, if_admitted_by, run, run_by}
+use Rattle.steps.specs.Filter.{Admitted, if_admitted_by, run_by}
 
 module _ (P : Plan) where
   unfoldable pub capacity : ℕ
@@ -112,21 +112,27 @@ module _ (P : Plan) where
       then judge_kind boxes (kind_of x.kind) x.task x.hour
       else unknown
 
-  -- the first admitted step: C by task; O by hour; L by task, then hour; U by task, then hour; F by pair; B by pair
-  unfoldable pub next : List ℕ → Option Admitted
-  next boxes =
-      first_of (λ i. if_admitted_by judge boxes (step letter_c i 0)) (task_count P)
-      or_else first_of (λ t. if_admitted_by judge boxes (step letter_o 0 t)) P.shifts.hours
-      or_else first_of (λ i. first_of (λ t. if_admitted_by judge boxes (step letter_l i t)) P.shifts.hours) (task_count P)
-      or_else first_of (λ i. first_of (λ t. if_admitted_by judge boxes (step letter_u i t)) P.shifts.hours) (task_count P)
-      or_else first_of (λ k. if_admitted_by judge boxes (step letter_f k 0)) (pair_count P)
-      or_else first_of (λ k. if_admitted_by judge boxes (step letter_b k 0)) (pair_count P)
+  -- the first admitted step of a kind: C by task; O by hour; L by task, then hour; U by task, then hour; F by pair; B by pair
+  unfoldable pub first_of_kind : List ℕ → Kind → Option Admitted
+  first_of_kind boxes kind_c = first_of (λ i. if_admitted_by judge boxes (step letter_c i 0)) (task_count P)
+  first_of_kind boxes kind_o = first_of (λ t. if_admitted_by judge boxes (step letter_o 0 t)) P.shifts.hours
+  first_of_kind boxes kind_l = first_of (λ i. first_of (λ t. if_admitted_by judge boxes (step letter_l i t)) P.shifts.hours) (task_count P)
+  first_of_kind boxes kind_u = first_of (λ i. first_of (λ t. if_admitted_by judge boxes (step letter_u i t)) P.shifts.hours) (task_count P)
+  first_of_kind boxes kind_f = first_of (λ k. if_admitted_by judge boxes (step letter_f k 0)) (pair_count P)
+  first_of_kind boxes kind_b = first_of (λ k. if_admitted_by judge boxes (step letter_b k 0)) (pair_count P)
+  first_of_kind boxes unknown_kind = None
 
--- A plan answers as before: its feasible schedules and the refusals of others, its steps, the filter's choice and its run, and the replay of a log.
+  -- and in an order of kinds
+  unfoldable pub next_by : List Kind → List ℕ → Option Admitted
+  next_by [] boxes = None
+  next_by (k ∷ ks) boxes = first_of_kind boxes k or_else next_by ks boxes
+
+-- A plan answers as before: its feasible schedules and the refusals of others, its steps, the filter's choice and its run in any order of the kinds, and
+-- the replay of a log.
 pub record AsBefore (P : Plan) : Type 0 where
   pub feasible : (boxes : List ℕ) (σ : ℕ → Triple) → rooms.Feasible P boxes σ ↔ Feasible P boxes σ
   pub refused : (boxes : List ℕ) (σ : ℕ → Triple) → rooms-entry.schedule_fault P boxes σ ≡ schedule_fault P boxes σ
   pub judged : (boxes : List ℕ) (x : Step) → rooms-steps.judge P boxes x ≡ judge P boxes x
-  pub chosen : (boxes : List ℕ) → rooms-filter.next P boxes ≡ next P boxes
-  pub filtered : (boxes : List ℕ) (n : ℕ) → run P boxes n ≡ run_by (next P) boxes n
+  pub chosen : (order : List Kind) (boxes : List ℕ) → rooms-filter.next_by order P boxes ≡ next_by P order boxes
+  pub filtered : (order : List Kind) (boxes : List ℕ) (n : ℕ) → run_by (rooms-filter.next_by order P) boxes n ≡ run_by (next_by P order) boxes n
   pub replayed : (boxes : List ℕ) (log : List Step) → replay P boxes log ≡ replay_by (judge P) 0 false boxes log
