@@ -1,2 +1,3 @@
 pub mod OneRoom
 pub mod NoPairs
+pub mod Order

@@ -1,0 +1,37 @@
+-- The filter's order before 02, W-207: C before O. What the order of today makes of a run is said here, over all plans with a box for each task, all
+-- boxes and every room for the log, and proved.
+use Rattle.std.specs.Prelude.{List, [], ◌∷◌, ◌++◌, ◌≡◌, ◌⊎◌, ℕ, ◌*◌, ◌≤◌, ◌<◌, length}
+use Rattle.plan.specs.Plan.{Plan, task_count}
+use Rattle.steps.specs.declared.Step.{Step}
+use Rattle.steps.specs.Steps.{step, letter_o, Kind, kind_c, kind_o, kind_l, kind_u, kind_f, kind_b}
+use Rattle.steps.specs.Filter.{next_by, settled, impossible, Run, count, run_by, run}
+use Rattle.steps.specs.Widths.{widths}
+
+unfoldable pub former_order : List Kind
+former_order = kind_c ∷ kind_o ∷ kind_l ∷ kind_u ∷ kind_f ∷ kind_b ∷ []
+
+abbrev pub former_run : Plan → List ℕ → ℕ → Run
+former_run P = run_by (next_by former_order P)
+
+-- A run ends impossible by an O, after steps that are the first of the former's log, and its count is at most the former's.
+pub record EndsSooner (now former : Run) : Type 0 where
+  pub ends : now.ending ≡ impossible
+  pub first : List Step
+  pub room : ℕ
+  pub hour : ℕ
+  pub log : now.log ≡ first ++ step letter_o room hour ∷ []
+  pub rest : List Step
+  pub former_log : former.log ≡ first ++ rest
+  pub counted : count now ≤ count former
+
+pub record OverloadFirst (P : Plan) (boxes : List ℕ) (room : ℕ) : Type 0 where
+  -- the run is the former one, or ends so
+  pub either : (run P boxes room ≡ former_run P boxes room) ⊎ EndsSooner (run P boxes room) (former_run P boxes room)
+  -- where the former settles, with this room or any other, the two are equal
+  pub settles : (m : ℕ) → (former_run P boxes m).ending ≡ settled → run P boxes room ≡ former_run P boxes room
+  -- where the two differ, the former ends impossible, or it was stopped for room on the way there: with more it ends impossible
+  pub differs : (run P boxes room ≡ former_run P boxes room → ⊥) → (m : ℕ) → widths P boxes < m → (former_run P boxes m).ending ≡ impossible
+
+-- what is proved
+abbrev pub OverloadsFirst : Type 0
+OverloadsFirst = (P : Plan) (boxes : List ℕ) → length boxes ≡ 6 * task_count P → (room : ℕ) → OverloadFirst P boxes room
