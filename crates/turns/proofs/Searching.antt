@@ -1,11 +1,11 @@
 -- Laws of the search for the first admitted step, over the answers that are kept: where a step of each kind is admitted, and what the search finds
 -- once it has passed over the tasks and the hours in which none is. Assumes nothing.
 use Rattle.std.specs.Prelude.{if◌then◌else◌}
-use mathlib.Core.Path.{◌≡◌, refl, sym, ap, ap₂, ◌∙◌}
+use mathlib.Core.Path.{◌≡◌, refl, sym, ap, ◌∙◌}
 use mathlib.Core.Bool.{Bool, true, false, not}
 use Rattle.std.specs.Prelude.{Option, None, Some}
-use mathlib.Core.List.{List}
-use Prim.Native.Nat.{ℕ, ◌+◌, ◌≤◌, ◌<◌, min}
+use mathlib.Core.List.{List, [], ◌∷◌, map}
+use Prim.Native.Nat.{ℕ, zero, suc, ◌+◌, ◌≤◌, ◌<◌, min}
 use native.Mathlib.Omega.{arith}
 use lib.Dec.{leb, ltb}
 use lib.ListN.{length, get_or}
@@ -21,18 +21,20 @@ use Rattle.units.proofs.Choices.{first-hit}
 use Rattle.plan.specs.Plan.{Plan, room_count, task_count, pair_count, capacity_of, room_part, heights_of, pair_of}
 use Rattle.plan.specs.Boxes.{bounds_at}
 use Rattle.plan.proofs.Passed.{room-length, room_at}
-use Rattle.units.proofs.Choices.{and-rest, first-eq, first_rest, else-end}
+use Rattle.units.proofs.Choices.{and-rest, first-eq, first_rest, else-end, else-through}
 use Rattle.calendar.specs.declared.Window.{Window}
 use Rattle.calendar.specs.Rule.{lst, ect}
 use Rattle.steps.specs.declared.Step.{Step}
+use Rattle.steps.specs.declared.StepKind.{StepKind}
+use Rattle.steps.specs.declared.StepKind.TheVariants.{Calendar, Overload, Lower, Upper, Forward, Backward}
 use Rattle.steps.specs.declared.Judged.{Judged}
 use Rattle.steps.specs.declared.Judged.TheVariants.{Unknown, NotAdmitted, Impossible, Moved}
-use Rattle.steps.specs.Steps.{step, letter_c, letter_o, Kind, kind_c, kind_o, kind_l, kind_u, kind_f, kind_b, kind_of, is_step, on_fit, same_bounds}
+use Rattle.steps.specs.Steps.{step, letter_c, letter_o, Kind, kind_c, kind_o, kind_l, kind_u, kind_f, kind_b, kind_of, kind_in, is_step, on_fit, same_bounds}
 use Rattle.steps.specs.Filter.{first_of_kind, first_by, filter_order}
 use Rattle.turns.specs.Inner.Kept.{load_of, excess_by, on_judged, calendar_by, lower_by, upper_by, move_by, bound_by, pair_by, judge_kind_by, judge_by}
 use Rattle.turns.specs.Inner.Kept.{admitted_by}
 use Rattle.turns.specs.Inner.Finding.{admits, letter_of, pair_letter_of, first_hour, end_hour, Loaded, first_calendar, room_overload}
-use Rattle.turns.specs.Inner.Finding.{first_overload, first_excess, first_pair}
+use Rattle.turns.specs.Inner.Finding.{first_overload, first_pair}
 
 -- ---- the first of several
 
@@ -251,11 +253,11 @@ module _ (P : Plan) (boxes : List ℕ) (fits : List (Option Window)) where
   First = first_of_kind P (admitted_by P boxes fits)
 
   -- each search finds the first of its kind
-  calendar-first : first_calendar P boxes fits ≡ First kind_c
+  pub calendar-first : first_calendar P boxes fits ≡ First kind_c
   unfolding first_calendar first_of_kind
   calendar-first = first-eq _ _ (task_count P) (λ i l. sym (calendar-is P boxes fits i l))
 
-  pair-first : (lower : Bool) → first_pair P boxes fits lower
+  pub pair-first : (lower : Bool) → first_pair P boxes fits lower
       ≡ first_of (λ k. admitted_by P boxes fits (step (pair_letter_of lower) k 0)) (pair_count P)
   unfolding first_pair
   pair-first lower = first-eq _ _ (pair_count P) (λ k l. sym (pair-is P boxes fits lower k l))
@@ -270,23 +272,28 @@ module _ (P : Plan) (boxes : List ℕ) (fits : List (Option Window)) where
         (first-eq _ _ P.shifts.hours
         (λ t m. rw (room_at P.shifts.hours loads room t m ∙ loaded.load room l t m) (sym (overload-is P boxes fits room t l m))))
 
-    overload-first : first_overload P loads ≡ First kind_o
+    pub overload-first : first_overload P loads ≡ First kind_o
     unfolding first_overload first_of_kind
     overload-first = first-eq _ _ (room_count P) room-first
 
-    pub next-first : {r : Option Step}
-        → r
-        ≡ (first_overload P loads
-        or_else first_calendar P boxes fits
-        or_else first_excess P boxes fits true
-        or_else first_excess P boxes fits false
-        or_else first_pair P boxes fits true
-        or_else first_pair P boxes fits false)
-        → r ≡ first_by P (admitted_by P boxes fits) filter_order
-    unfolding first_by filter_order first_excess first_of_kind letter_of pair_letter_of
-    next-first e =
-        e
-        ∙ ap₂ ◌or_else◌ overload-first
-        (ap₂ ◌or_else◌ calendar-first
-        (ap (◌or_else◌ (First kind_l))
-        (ap (◌or_else◌ (First kind_u)) (ap₂ ◌or_else◌ (pair-first true) (pair-first false ∙ sym (else-end _))))))
+  -- the first of a kind of the code's
+  abbrev pub of_kind : StepKind → Option Step
+  of_kind kind = First (kind_in (Some kind))
+
+  front-first : {A : Type 0} (f : ℕ → Option A) (n : ℕ) → first_of f (suc n) ≡ (f 0 or_else first_of (λ i. f (suc i)) n)
+  unfolding first_of ◌or_else◌
+  front-first f zero = sym (else-end (f 0))
+  front-first f (suc n) = ap (λ x. x or_else f (suc n)) (front-first f n) ∙ else-through (f 0) (first_of (λ i. f (suc i)) n) (f (suc n))
+
+  -- the first of several kinds, one after another
+  each-first : (kinds : List StepKind) → first_of (λ n. of_kind (get_or kinds n Calendar)) (length kinds)
+      ≡ first_by P (admitted_by P boxes fits) (map (λ k. kind_in (Some k)) kinds)
+  unfolding first_by first_of
+  each-first [] = refl
+  each-first (k ∷ ks) = front-first _ (length ks) ∙ ap (◌or_else◌ (of_kind k)) (each-first ks)
+
+  -- those of the filter's order
+  pub in-order : first_of (λ n. of_kind (get_or (Overload ∷ Calendar ∷ Lower ∷ Upper ∷ Forward ∷ Backward ∷ []) n Calendar)) 6
+      ≡ first_by P (admitted_by P boxes fits) filter_order
+  unfolding filter_order
+  in-order = each-first (Overload ∷ Calendar ∷ Lower ∷ Upper ∷ Forward ∷ Backward ∷ [])

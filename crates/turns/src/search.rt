@@ -1,9 +1,10 @@
 // The search for the first admitted step, in the filter's order.
-ghost use Rattle.std.specs.Prelude.{◌≡◌, ℕ, ◌*◌, ◌≤◌, ◌<◌, length, get_or};
+ghost use Rattle.std.specs.Prelude.{◌≡◌, ℕ, ◌*◌, ◌≤◌, ◌<◌, length, get_or, Some};
 ghost use Rattle.units.specs.Limits.{most_hours};
 ghost use Rattle.plan.specs.Plan.{room_count, task_count};
 ghost use Rattle.plan.specs.Lent.{plan_in};
-ghost use Rattle.steps.specs.Filter.{first_by, filter_order};
+ghost use Rattle.steps.specs.Steps.{kind_in};
+ghost use Rattle.steps.specs.Filter.{first_of_kind, first_by, filter_order};
 ghost use Rattle.turns.specs.Inner.Kept.{calendar_by, admitted_by, is_lower};
 ghost use Rattle.turns.specs.Inner.Finding.{admits, Loaded, first_calendar, room_overload, first_overload, first_excess, first_pair};
 
@@ -42,6 +43,16 @@ fn room_overload(room: u16, loads: &[u16], capacity: Height) -> Option<Step>
             hour: hour as u16,
         })
 }
+
+// The kinds in the filter's order.
+const ORDER: [StepKind; 6] = [
+    StepKind::Overload,
+    StepKind::Calendar,
+    StepKind::Lower,
+    StepKind::Upper,
+    StepKind::Forward,
+    StepKind::Backward,
+];
 
 // The most loads: one an hour in each room.
 const MOST_LOADS: usize = MOST_ROOMS * Duration::MOST as usize;
@@ -127,8 +138,23 @@ impl State<'_> {
         None
     }
 
-    // The first admitted step, with memory for the loads of the hours, which is 0: O by room, then hour; C by task; L by task, then hour; U by task,
-    // then hour; F by pair; B by pair.
+    // The first admitted step of a kind, by the loads.
+    fn first_of_kind(&self, kind: StepKind, loads: &[u16]) -> Option<Step>
+        requires { let P = plan_in self.now.plan.now in Loaded P.shifts.hours (room_count P) (task_count P) loads.now self.now.fits.now P.heights }
+        ensures { let P = plan_in self.now.plan.now in
+            result ≡ first_of_kind P (admitted_by P self.now.boxes.now self.now.fits.now) (kind_in (Some kind)) }
+    {
+        match kind {
+            StepKind::Calendar => self.first_calendar(),
+            StepKind::Overload => self.first_overload(loads),
+            StepKind::Lower => self.first_excess(Side::Lower, loads),
+            StepKind::Upper => self.first_excess(Side::Upper, loads),
+            StepKind::Forward => self.first_pair(Side::Lower),
+            StepKind::Backward => self.first_pair(Side::Upper),
+        }
+    }
+
+    // The first admitted step, with memory for the loads of the hours, which is 0.
     fn first_with_loads(&self, loads: &mut [u16]) -> Option<Step>
         requires { let P = plan_in self.now.plan.now in
             (length loads.old ≡ room_count P * P.shifts.hours) × ((k : ℕ) → k < length loads.old → get_or loads.old k 0 ≡ 0) }
@@ -136,23 +162,12 @@ impl State<'_> {
             result ≡ first_by P (admitted_by P self.now.boxes.now self.now.fits.now) filter_order }
     {
         self.fill_loads(loads);
-        // In a chain of `or_else`, a closure without clauses says nothing of its answer, and its clauses would repeat the contract of what it calls.
-        if let Some(overload) = self.first_overload(loads) {
-            return Some(overload);
+        for kind in ORDER {
+            if let Some(found) = self.first_of_kind(kind, loads) {
+                return Some(found);
+            }
         }
-        if let Some(calendar) = self.first_calendar() {
-            return Some(calendar);
-        }
-        if let Some(lower) = self.first_excess(Side::Lower, loads) {
-            return Some(lower);
-        }
-        if let Some(upper) = self.first_excess(Side::Upper, loads) {
-            return Some(upper);
-        }
-        if let Some(forward) = self.first_pair(Side::Lower) {
-            return Some(forward);
-        }
-        self.first_pair(Side::Upper)
+        None
     }
 
     // The first admitted step. Memory is fixed, so that the loads have one of two sizes: a short plan, or one of few rooms, needs little, and it is set
