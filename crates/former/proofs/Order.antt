@@ -17,7 +17,7 @@ use Rattle.steps.specs.Widths.{widths}
 use Rattle.steps.proofs.Searches.{Complete, here, there}
 use Rattle.steps.proofs.Runs.{run_settled, run-full, run-stops, run-moves}
 use Rattle.narrowing.proofs.Ways.{overload-stops, no-overload-on-the-way, room-enough}
-use Rattle.former.specs.Order.{former_order, former_run, EndsSooner, OverloadFirst, OverloadsFirst}
+use Rattle.former.specs.Order.{former_order, former_run, EndsSooner, OverloadFirst}
 
 former-complete : Complete former_order
 unfolding former_order
@@ -178,6 +178,3 @@ module _ (P : Plan) where
         go other m l settled q = absurd (other (settles room m q))
         go other m l impossible q = q
         go other m l no_room q = absurd (omega (arith, l, room-enough P former_order m boxes sized q))
-
-pub overloads-first : OverloadsFirst
-overloads-first P boxes sized room = overload-first P boxes sized room

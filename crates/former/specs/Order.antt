@@ -1,12 +1,13 @@
--- The filter's order before 02, W-207: C before O. What the order of today makes of a run is said here, over all plans with a box for each task, all
--- boxes and every room for the log, and proved.
-use Rattle.std.specs.Prelude.{List, [], ◌∷◌, ◌++◌, ◌≡◌, ◌⊎◌, ℕ, ◌*◌, ◌≤◌, ◌<◌, length}
-use Rattle.plan.specs.Plan.{Plan, task_count}
+-- The filter's order before 02, W-207: C before O. What O before C makes of a run is said of it, and proved for every plan with a box for each task, all
+-- boxes and every room.
+use Rattle.std.specs.Prelude.{List, [], ◌∷◌, ◌++◌, ◌≡◌, ◌⊎◌, ℕ, ◌≤◌, ◌<◌}
+use Rattle.plan.specs.Plan.{Plan}
 use Rattle.steps.specs.declared.Step.{Step}
 use Rattle.steps.specs.Steps.{step, letter_o, Kind, kind_c, kind_o, kind_l, kind_u, kind_f, kind_b}
 use Rattle.steps.specs.Filter.{next_by, settled, impossible, Run, count, run_by, run}
 use Rattle.steps.specs.Widths.{widths}
 
+-- 01's order
 unfoldable pub former_order : List Kind
 former_order = kind_c ∷ kind_o ∷ kind_l ∷ kind_u ∷ kind_f ∷ kind_b ∷ []
 
@@ -24,14 +25,11 @@ pub record EndsSooner (now former : Run) : Type 0 where
   pub former_log : former.log ≡ first ++ rest
   pub counted : count now ≤ count former
 
+-- What O before C makes of the run from the boxes, with room for so many steps.
 pub record OverloadFirst (P : Plan) (boxes : List ℕ) (room : ℕ) : Type 0 where
   -- the run is the former one, or ends so
   pub either : (run P boxes room ≡ former_run P boxes room) ⊎ EndsSooner (run P boxes room) (former_run P boxes room)
   -- where the former settles, with this room or any other, the two are equal
   pub settles : (m : ℕ) → (former_run P boxes m).ending ≡ settled → run P boxes room ≡ former_run P boxes room
-  -- where the two differ, the former ends impossible, or it was stopped for room on the way there: with more it ends impossible
+  -- where they differ, the former ends impossible, with room enough: if it did not with this room, it was stopped on the way there
   pub differs : (run P boxes room ≡ former_run P boxes room → ⊥) → (m : ℕ) → widths P boxes < m → (former_run P boxes m).ending ≡ impossible
-
--- what is proved
-abbrev pub OverloadsFirst : Type 0
-OverloadsFirst = (P : Plan) (boxes : List ℕ) → length boxes ≡ 6 * task_count P → (room : ℕ) → OverloadFirst P boxes room

@@ -19,7 +19,7 @@ use Rattle.plan.proofs.Boxes.{bounds-same, bounds-other}
 use Rattle.calendar.specs.declared.Triple.{Triple}
 use Rattle.calendar.specs.declared.Window.{Window}
 use Rattle.calendar.specs.Triples.{valid_triples}
-use Rattle.calendar.specs.Rule.{rule_of, lst, ect, lct}
+use Rattle.calendar.specs.Rule.{rule_of, lst, ect}
 use Rattle.calendar.proofs.Triples.{InBounds, Held, Narrower, only-valid, never-valid, valid-never, rule-held, rule-tight, rule-narrower}
 use Rattle.steps.specs.declared.Step.{Step}
 use Rattle.steps.specs.Load.{fit_at, must_run, load, others_load, room_excess, excess}
@@ -71,11 +71,10 @@ module _ (P : Plan) where
 
 -- ---- the calendar rule on a smaller box
 
--- the window of fewer triples: its bounds inside the other's, its ect no earlier, its lct no later
+-- the window of fewer triples: its bounds inside the other's, its ect no earlier
 pub record Tighter (small large : Window) : Type 0 where
   pub bounds : BoundsInside small.bounds large.bounds
   pub ect : ect large ≤ ect small
-  pub lct : lct small ≤ lct large
 
 module _ (cal : List ℕ) (p : ℕ) (a b : Bounds) (inside : BoundsInside a b) where
   -- no valid triple in the larger box, none in the smaller
@@ -101,7 +100,6 @@ module _ (cal : List ℕ) (p : ℕ) (a b : Bounds) (inside : BoundsInside a b) w
                 most = omega (arith, held t.most, t.most.value);
               };
           ect = omega (arith, held t.ect, t.ect.value);
-          lct = omega (arith, held t.lct, t.lct.value);
         }
 
   -- a valid triple in the smaller box is one in the larger, and its window is the tighter

@@ -1,5 +1,4 @@
--- Boxes inside boxes, and boxes in which each task has a valid triple: what 02, W-207, asks to be shown is shown by these. 01 and 02 have no such
--- terms.
+-- Boxes inside boxes, and boxes that leave each task a valid triple: terms of the laws behind O before C (02, W-207), which 01 and 02 do not have.
 use Rattle.std.specs.Prelude.{◌≡◌, List, ℕ, ◌≤◌, ◌<◌, Some}
 use Rattle.units.specs.declared.Bounds.{Bounds}
 use Rattle.plan.specs.Plan.{Plan, task_count}
