@@ -73,12 +73,12 @@ module _ (P : Plan) (boxes : List ℕ) where
   unfolding next_by first_by filter_order former_order
   same-next e = else-none _ _ e ∙ sym (ap (◌or_else◌ (First kind_c)) (else-none _ _ e))
 
-  pub none-first : ((room t : ℕ) → if_admitted P boxes (step letter_o room t) ≡ None) → next P boxes ≡ former_next
+  none-first : ((room t : ℕ) → if_admitted P boxes (step letter_o room t) ≡ None) → next P boxes ≡ former_next
   unfolding first_of_kind
   none-first none = same-next (first-all-none _ (room_count P) (λ room l. first-all-none _ P.shifts.hours (λ t m. none room t)))
 
   -- the same step stands next; or an O does, which says impossible, where another step was admitted
-  pub data Turn : Type 0 where
+  data Turn : Type 0 where
     alike : next P boxes ≡ former_next → Turn
     sooner : (room t : ℕ) → next P boxes ≡ Some (stops (step letter_o room t)) → (a : Admitted) → former_next ≡ Some a → Turn
 
@@ -100,7 +100,7 @@ module _ (P : Plan) (boxes : List ℕ) where
       let (b, q) = former-found (First kind_c) a refl e in
       sooner room t (now-found room t a e (overload-stops P boxes room t a g)) b q
 
-  pub turn : Turn
+  turn : Turn
   turn = go (First kind_o) refl
     where
       go : (o : Option Admitted) → First kind_o ≡ o → Turn

@@ -26,7 +26,7 @@ use Rattle.steps.proofs.Runs.{run_settled, run-stops, run-moves, run-all, run-re
 use Rattle.narrowing.specs.Inside.{Inside, AllFit}
 use Rattle.narrowing.proofs.Inside.{inside-refl, inside-trans, load-more, moved-inside}
 
--- ---- when C or O is admitted and says impossible
+-- ---- C of a task without a valid triple, and O of an hour that is overloaded, say impossible
 
 module _ (P : Plan) (boxes : List ℕ) where
   C-impossible : (i : ℕ) → i < task_count P → fit_at P.shifts boxes i ≡ None → judge P boxes (step letter_c i 0) ≡ judged.impossible
@@ -57,6 +57,7 @@ module _ (P : Plan) (boxes : List ℕ) where
         (λ fits. none))
         (λ other. none)
 
+  -- such a step is admitted
   stops-admitted : (x : Step) → judge P boxes x ≡ judged.impossible → if_admitted P boxes x ≡ None → ⊥
   unfolding if_admitted on_judgement
   stops-admitted x e none = None≢Some (sym (rw e at none))

@@ -1,5 +1,5 @@
--- The filter (01, "Steps"; rooms: 02, W-202; pairs: W-206): the first admitted step of each turn, until none is admitted,
--- one says impossible, or the log has no room.
+-- The filter (01, "Steps"; rooms: 02, W-202; pairs: W-206; O before C: W-207): the first admitted step of each turn, until none is admitted, one says
+-- impossible, or the log has no room.
 use Rattle.std.specs.Prelude.{Option, None, Some}
 use Rattle.std.specs.Prelude.{List, [], ◌∷◌, ℕ, zero, suc, length}
 use Rattle.units.specs.Choice.{on_option, ◌or_else◌, first_of}
@@ -45,7 +45,7 @@ module _ {A : Type 0} (P : Plan) (f : Step → Option A) where
   first_by [] = None
   first_by (k ∷ ks) = first_of_kind k or_else first_by ks
 
--- the filter's order (02, W-207: O before C)
+-- the filter's order
 unfoldable pub filter_order : List Kind
 filter_order = kind_o ∷ kind_c ∷ kind_l ∷ kind_u ∷ kind_f ∷ kind_b ∷ []
 

@@ -53,6 +53,12 @@ module _ {A : Type 0} (test : ℕ → Bool) (f : ℕ → A) (xs : List ℕ) wher
   first-position None h = none-to _ h
   first-position (Some i) h = first-hit At i _ _ h.0 (none-to i h.2) (some-if _ _ (h.1 0))
 
+-- the search, parted after its first number
+front-first : {A : Type 0} (f : ℕ → Option A) (n : ℕ) → first_of f (suc n) ≡ (f 0 or_else first_of (λ i. f (suc i)) n)
+unfolding first_of ◌or_else◌
+front-first f zero = sym (else-end (f 0))
+front-first f (suc n) = ap (λ x. x or_else f (suc n)) (front-first f n) ∙ else-through (f 0) (first_of (λ i. f (suc i)) n) (f (suc n))
+
 -- ---- what is admitted
 
 judged-is : (j : Judged) (x : Step) → on_judged j None None (Some x) (λ i b. Some x) ≡ some_if (admits j) x
@@ -276,23 +282,18 @@ module _ (P : Plan) (boxes : List ℕ) (fits : List (Option Window)) where
     unfolding first_overload first_of_kind
     overload-first = first-eq _ _ (room_count P) room-first
 
-  -- the first of a kind of the code's
+  -- of the kinds as the code has them, the first of one
   abbrev pub of_kind : StepKind → Option Step
   of_kind kind = First (kind_in (Some kind))
 
-  front-first : {A : Type 0} (f : ℕ → Option A) (n : ℕ) → first_of f (suc n) ≡ (f 0 or_else first_of (λ i. f (suc i)) n)
-  unfolding first_of ◌or_else◌
-  front-first f zero = sym (else-end (f 0))
-  front-first f (suc n) = ap (λ x. x or_else f (suc n)) (front-first f n) ∙ else-through (f 0) (first_of (λ i. f (suc i)) n) (f (suc n))
-
-  -- the first of several kinds, one after another
+  -- and of several, one kind after another
   each-first : (kinds : List StepKind) → first_of (λ n. of_kind (get_or kinds n Calendar)) (length kinds)
       ≡ first_by P (admitted_by P boxes fits) (map (λ k. kind_in (Some k)) kinds)
   unfolding first_by first_of
   each-first [] = refl
   each-first (k ∷ ks) = front-first _ (length ks) ∙ ap (◌or_else◌ (of_kind k)) (each-first ks)
 
-  -- those of the filter's order
+  -- of those in the code's order, which is the filter's
   pub in-order : first_of (λ n. of_kind (get_or (Overload ∷ Calendar ∷ Lower ∷ Upper ∷ Forward ∷ Backward ∷ []) n Calendar)) 6
       ≡ first_by P (admitted_by P boxes fits) filter_order
   unfolding filter_order
