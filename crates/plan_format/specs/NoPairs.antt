@@ -1,6 +1,6 @@
 -- Plan text as 01 and 02 up to W-205 speak of it: its lines of three words, read and written, and what reading leaves in lent memory. That text
 -- without pairs is read and written by these as before W-206 is proved. What did not change is cited: a record of the three words leaves the pairs
--- read so far as they are, and a plan's own tests, where it has no pairs, are those of before (crate steps, NoPairs).
+-- read so far as they are, and a plan's own tests, where it has no pairs, are those of before (crate former, NoPairs).
 use Rattle.std.specs.Prelude.{Bool, true, List, [], ◌∷◌, ◌++◌, ◌≡◌, ◌⊎◌, ℕ, ◌+◌, ◌≤◌, leb, eqb, length, get_or, take, if◌then◌else◌}
 use Rattle.std.specs.Prelude.{Option, None}
 use Rattle.units.specs.Cells.{written}
