@@ -84,18 +84,20 @@ struct found {
     uint16_t task, hour;
 };
 
-/* The first admitted step, in 01's order; kind 0 if there is none. */
+/* The first admitted step, in the filter's order (02, W-207: O before C); kind 0 if there is none. */
 static struct found next_step(const struct plan *p, const uint16_t *boxes, const struct fit *fits) {
     static unsigned load[ROOMS][HOURS];
-    for (size_t i = 0; i < p->tasks; i++)
-        if (!fits[i].any || memcmp(fits[i].box, boxes + 6 * i, sizeof fits[i].box)) return (struct found){'C', i, 0};
     memset(load, 0, p->rooms * sizeof *load);
     for (size_t r = 0; r < p->rooms; r++)
-        for (size_t i = 0; i < p->tasks; i++)
+        for (size_t i = 0; i < p->tasks; i++) {
+            if (!fits[i].any) continue;
             for (unsigned t = fits[i].box[1]; t < fits[i].ect; t++) load[r][t] += p->heights[r * TASKS + i];
+        }
     for (size_t r = 0; r < p->rooms; r++)
         for (unsigned t = 0; t < p->hours; t++)
             if (load[r][t] > p->capacities[r]) return (struct found){'O', r, t};
+    for (size_t i = 0; i < p->tasks; i++)
+        if (!fits[i].any || memcmp(fits[i].box, boxes + 6 * i, sizeof fits[i].box)) return (struct found){'C', i, 0};
     for (int upper = 0; upper < 2; upper++)
         for (size_t i = 0; i < p->tasks; i++)
             for (unsigned t = 0; t < p->hours; t++) {

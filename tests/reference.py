@@ -1,4 +1,4 @@
-"""Document 01, with 02's requests up to W-206, in plain Python, written from their text alone and from no code of the product. tests/compare
+"""Document 01, with 02's requests up to W-207, in plain Python, written from their text alone and from no code of the product. tests/compare
 holds the library to it.
 
 A calendar is bytes of r, c, o. A box is six numbers: S, E, O, the lower bound first. Heights lie room by room, each room's of all tasks, and pairs
@@ -357,25 +357,37 @@ def check_log(plan, boxes, log):
     return LogEnd(refusal, 0, False, boxes) if refusal else replay(plan, boxes, log)
 
 
-def steps_in_order(plan):
-    tasks, pairs, hours = range(plan.tasks()), range(len(plan.each_pair())), range(plan.hours)
-    yield from ((C, task, 0) for task in tasks)
-    yield from ((O, room, hour) for room in range(plan.rooms()) for hour in hours)
-    yield from ((L, task, hour) for task in tasks for hour in hours)
-    yield from ((U, task, hour) for task in tasks for hour in hours)
-    yield from ((F, pair, 0) for pair in pairs)
-    yield from ((B, pair, 0) for pair in pairs)
+# The filter's order of kinds (W-207: O before C), and the one before it.
+ORDER, FORMER_ORDER = b"OCLUFB", b"COLUFB"
 
 
-@lru_cache(maxsize=4096)
-def next_step(plan, boxes):
-    """The first admitted step and what it comes to, or None; boxes as a tuple, so that runs with other room for the log share what was found."""
-    state = State(plan, list(boxes))
-    for step in steps_in_order(plan):
-        judged = judge(state, step)
-        if judged != NOT_ADMITTED:
-            return step, judged
-    return None
+def admitted(state, order=ORDER):
+    """The admitted steps in an order of kinds, and what each comes to: O by room, then hour; C by task; L and U by task, then hour; F and B by
+    pair."""
+    for kind in order:
+        hours = range(state.plan.hours if kind in b"OLU" else 1)
+        for step in ((kind, at, hour) for at in range(state.counts[kind]) for hour in hours):
+            judged = judge(state, step)
+            if judged != NOT_ADMITTED:
+                yield step, judged
+
+
+@lru_cache(maxsize=4)
+def state_at(plan, boxes):
+    """The state of a turn, for the kinds that are asked one after the other."""
+    return State(plan, list(boxes))
+
+
+@lru_cache(maxsize=24576)
+def first_of_kind(plan, boxes, kind):
+    """The first admitted step of a kind and what it comes to, or None; boxes as a tuple, so that runs in another order, or with other room for the
+    log, share what was found."""
+    return next(admitted(state_at(plan, boxes), [kind]), None)
+
+
+def next_step(plan, boxes, order):
+    """The first admitted step in an order of kinds and what it comes to, or None."""
+    return next(filter(None, (first_of_kind(plan, boxes, kind) for kind in order)), None)
 
 
 class Run(NamedTuple):
@@ -385,18 +397,18 @@ class Run(NamedTuple):
     boxes: list
 
 
-def run_filter(plan, boxes, room):
+def run_filter(plan, boxes, room, order=ORDER):
     refusal = plan_fault(plan, boxes)
     if refusal:
         return Run(refusal, "refused", [], boxes)
     log = []
     while True:
-        admitted = next_step(plan, tuple(boxes))
-        if admitted is None:
+        found = next_step(plan, tuple(boxes), order)
+        if found is None:
             return Run(None, "settled", log, boxes)
         if len(log) == room:
             return Run((32, 0), "room", log, boxes)
-        step, judged = admitted
+        step, judged = found
         log.append(step)
         if judged == IMPOSSIBLE:
             return Run(None, "impossible", log, boxes)

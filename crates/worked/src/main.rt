@@ -130,8 +130,8 @@ const LIMITS: [&str; 7] = [
     "pairs-257.plan",
 ];
 
-// 01's weeks and its traps, and overtime asked for and not.
-const WEEKS: [&str; 8] = [
+// 01's weeks and its traps, overtime asked for and not, and an hour that is overfull before C moves a bound.
+const WEEKS: [&str; 9] = [
     "printed-week.plan",
     "height-above-capacity.plan",
     "calendar-a.plan",
@@ -140,6 +140,7 @@ const WEEKS: [&str; 8] = [
     "overtime-not-asked-for.plan",
     "two-hours-of-overtime.plan",
     "own-part-is-no-excess.plan",
+    "overload-before-calendar.plan",
 ];
 
 // Every refusal of a plan text but 5 and 19, which are among the limits.
@@ -225,6 +226,10 @@ const NO_STEP: Step = Step {
     hour: 0,
 };
 
+fn step(kind: u8, task: u16, hour: u16) -> Step {
+    Step { kind, task, hour }
+}
+
 // How many steps stand before the first empty cell: no step has the kind 0.
 fn step_count(log: &[Step]) -> usize
     ensures { result ≤ length log.now }
@@ -273,6 +278,17 @@ fn printed_week_logs(rt: &impl Print) -> io::Result<()> {
     let plan = week(6, &[1], b"rcrrrr", &HEIGHTS, &[]);
     week_log(rt, &plan, OPENING, &mut [NO_STEP; CELLS])?;
     week_log(rt, &plan, OPENING, &mut [NO_STEP; 2])
+}
+
+// Both tasks must run in hour 1, which has racks for one: O says so before C moves a bound, with room for every step and for one. C of both tasks
+// and then O, the log in the order before W-207, is accepted as well.
+fn overload_before_calendar_logs(rt: &impl Print) -> io::Result<()> {
+    let opening: [u16; 12] = [0, 1, 2, 3, 0, 0, 0, 1, 2, 3, 0, 0];
+    let plan = week(3, &[1], b"rrr", &HEIGHTS, &[]);
+    week_log(rt, &plan, opening, &mut [NO_STEP; CELLS])?;
+    week_log(rt, &plan, opening, &mut [NO_STEP; 1])?;
+    let log = [step(b'C', 0, 0), step(b'C', 1, 0), step(b'O', 0, 1)];
+    check_week(rt, &plan, opening, &log)
 }
 
 // Weeks of two rooms: task 0 fills the second in hours 0 and 1, so that task 1 starts in hour 2; both must run in hour 1.
@@ -393,6 +409,7 @@ fn main(rt: HostRuntime) -> io::Result<()> {
     print_listings(&rt, &REFUSALS)?;
     print_listings(&rt, &LARGER_WEEKS)?;
     printed_week_logs(&rt)?;
+    overload_before_calendar_logs(&rt)?;
     two_rooms_logs(&rt)?;
     pairs_logs(&rt)?;
     log_of_two_parts(&rt)?;
