@@ -160,7 +160,7 @@ static void library_filter(const struct plan *p, struct memory *m) {
 
 /* The plans. */
 
-/* A task of a plan with one room. */
+/* A task, with its height in the first room. */
 static void add_task(struct plan *p, uint16_t *boxes, uint16_t calendar, uint16_t work_time, uint16_t height, const uint16_t box[6]) {
     size_t i = p->tasks++;
     p->task_calendars[i] = calendar;
@@ -216,6 +216,18 @@ static void by_turns(struct plan *p, uint16_t *boxes) {
     for (size_t k = 0; k < HOURS; k++) p->symbols[k] = "ro"[k % 2];
     add_task(p, boxes, 0, WORK, 1, (uint16_t[]){0, 0, WORK, WORK, 0, WORK});
     while (p->tasks < TASKS) add_task(p, boxes, 0, WORK, 1, (uint16_t[]){0, HOURS - 1, 1, HOURS, 0, WORK});
+}
+
+/* Regular and closed hours by turns, eight rooms; task 0 fills each for its first 250 hours of work, the others may start at any hour. An L moves
+   one of these into a closed hour, and C out of it: every other step is a C. */
+static void closed_by_turns(struct plan *p, uint16_t *boxes) {
+    enum { WORK = 250, TIME = 2 * WORK - 1 };
+    *p = (struct plan){.hours = HOURS, .rooms = ROOMS, .calendars = 1};
+    for (size_t k = 0; k < HOURS; k++) p->symbols[k] = "rc"[k % 2];
+    for (size_t r = 0; r < ROOMS; r++) p->capacities[r] = 1;
+    add_task(p, boxes, 0, WORK, 1, (uint16_t[]){0, 0, TIME, TIME, 0, 0});
+    while (p->tasks < TASKS) add_task(p, boxes, 0, 4, 1, (uint16_t[]){0, HOURS - 1, 1, HOURS, 0, 0});
+    for (size_t k = TASKS; k < ROOMS * TASKS; k++) p->heights[k] = 1;
 }
 
 /* Times. */
@@ -288,6 +300,7 @@ int main(void) {
     time_filter("filter, mostly regular hours, eight rooms", eight_rooms, 10);
     time_filter("filter, mostly regular hours, 256 pairs", with_pairs, 10);
     time_filter("filter, regular and overtime by turns", by_turns, 3);
+    time_filter("filter, closed hours by turns, eight rooms", closed_by_turns, 10);
     time_rule("calendar rule, all overtime, p = 504", "o", 504, 200);
     time_rule("calendar rule, regular and overtime by turns, p = 100", "ro", 100, 200);
     time_rule("calendar rule, shifts with overtime, p = 60", "ooooorrrrrrrccccccccoooo", 60, 200);
