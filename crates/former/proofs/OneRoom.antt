@@ -70,7 +70,7 @@ module _ (P : Plan) (one : room_count P ≡ 1) where
   only : (room : ℕ) → room < room_count P → room ≡ 0
   only room l = omega (arith, one)
 
-  -- what is found in the first room is found in any
+  -- what is found over the rooms is found in the one that there is
   first-room : {A : Type 0} (f : ℕ → Option A) → first_of f (room_count P) ≡ f 0
   unfolding first_of ◌or_else◌
   first-room f = rw one

@@ -1,4 +1,5 @@
--- O before C changes a run only in that it may end impossible sooner, and a plan that settles keeps log, count and boxes (02, W-207). Assumes nothing.
+-- O before C changes a run only in that it may end impossible by an O, after no more steps, and a plan that settles keeps log, count and boxes (02,
+-- W-207). Assumes nothing.
 use mathlib.Core.Path.{◌≡◌, refl, sym, ap, ◌∙◌, subst}
 use mathlib.Core.Logic.{◌⊎◌, inl, inr}
 use Rattle.std.specs.Prelude.{Option, None, Some}
@@ -10,29 +11,30 @@ use Rattle.units.specs.Choice.{◌or_else◌}
 use Rattle.units.proofs.Choices.{else-none, else-some, first-at, first-all-none}
 use Rattle.plan.specs.Plan.{Plan, room_count, task_count}
 use Rattle.steps.specs.declared.Step.{Step}
-use Rattle.steps.specs.Steps.{step, letter_o, Kind, kind_c, kind_o, kind_l, kind_u, kind_f, kind_b, unknown_kind}
+use Rattle.steps.specs.Steps.{step, letter_o, Kind, kind_c, kind_o}
 use Rattle.steps.specs.Filter.{Admitted, stops, moves, if_admitted, first_of_kind, first_by, filter_order, next_by, next}
 use Rattle.steps.specs.Filter.{Ending, settled, impossible, no_room, Run, count, ended, after, run_by, run}
 use Rattle.steps.specs.Widths.{widths}
-use Rattle.steps.proofs.Searches.{Complete, here, there}
+use Rattle.steps.proofs.Searches.{In, Complete, here, there, filter-complete}
 use Rattle.steps.proofs.Runs.{run_settled, run-full, run-stops, run-moves}
 use Rattle.narrowing.proofs.Ways.{overload-stops, no-overload-on-the-way, room-enough}
-use Rattle.former.specs.Order.{former_order, former_run, EndsSooner, OverloadFirst}
+use Rattle.former.specs.Order.{former_order, former_run, EndsByOverload, OverloadFirst}
+
+-- two kinds at the head of an order change places
+swapped : {k a b : Kind} {ks : List Kind} → In k (a ∷ b ∷ ks) → In k (b ∷ a ∷ ks)
+swapped here = there here
+swapped (there here) = here
+swapped (there (there p)) = there (there p)
 
 former-complete : Complete former_order
-unfolding former_order
-former-complete kind_c known = here
-former-complete kind_o known = there here
-former-complete kind_l known = there (there here)
-former-complete kind_u known = there (there (there here))
-former-complete kind_f known = there (there (there (there here)))
-former-complete kind_b known = there (there (there (there (there here))))
-former-complete unknown_kind known = absurd (known refl)
+unfolding former_order filter_order
+former-complete k known = swapped (filter-complete k known)
 
 -- ---- two choices of the step that stands next
 
 module _ (f g : List ℕ → Option Admitted) where
-  -- what holds of a run and itself, and with a step more before both, holds of their runs where they agree at the turn and it holds of the rest
+  -- a relation of each run to itself, kept by one step more before both, holds of the two runs where both choose alike at these boxes and it holds of
+  -- the rest
   module _ (R : Run → Run → Type 0) (same : (r : Run) → R r r) (more : (x : Step) (r s : Run) → R r s → R (after x r) (after x s)) (boxes : List ℕ)
       (agree : f boxes ≡ g boxes) where
     full-turn : R (run_by f boxes 0) (run_by g boxes 0)
@@ -50,7 +52,7 @@ module _ (f g : List ℕ → Option Admitted) where
         go (Some (moves x left)) e =
             rw (run-moves f boxes room x left (agree ∙ e), run-moves g boxes room x left e) (more x (run_by f left room) (run_by g left room) (rest x left e))
 
-  -- where they agree at all boxes on the way of the one's run, their runs are equal
+  -- where they agree at all boxes on the way of g's run, the two runs are equal
   run-alike : (room : ℕ) (boxes : List ℕ) → ((n : ℕ) → f (run_by g boxes n).boxes ≡ g (run_by g boxes n).boxes)
       → run_by f boxes room ≡ run_by g boxes room
   unfolding run_by after
@@ -61,29 +63,29 @@ module _ (f g : List ℕ → Option Admitted) where
 
 -- ---- one turn
 
-module _ (P : Plan) (boxes : List ℕ) where
-  abbrev former_next : Option Admitted
-  former_next = next_by former_order P boxes
+abbrev former_at : Plan → List ℕ → Option Admitted
+former_at P = next_by former_order P
 
+module _ (P : Plan) (boxes : List ℕ) where
   abbrev First : Kind → Option Admitted
   First = first_of_kind P (if_admitted P boxes)
 
   -- where no O is admitted, the same step stands next
-  same-next : First kind_o ≡ None → next P boxes ≡ former_next
+  same-next : First kind_o ≡ None → next P boxes ≡ former_at P boxes
   unfolding next_by first_by filter_order former_order
   same-next e = else-none _ _ e ∙ sym (ap (◌or_else◌ (First kind_c)) (else-none _ _ e))
 
-  none-first : ((room t : ℕ) → if_admitted P boxes (step letter_o room t) ≡ None) → next P boxes ≡ former_next
+  none-first : ((room t : ℕ) → if_admitted P boxes (step letter_o room t) ≡ None) → next P boxes ≡ former_at P boxes
   unfolding first_of_kind
   none-first none = same-next (first-all-none _ (room_count P) (λ room l. first-all-none _ P.shifts.hours (λ t m. none room t)))
 
-  -- the same step stands next; or an O does, which says impossible, where another step was admitted
+  -- the same step stands next; or an O does, which says impossible, where some step stands next in the former order too
   data Turn : Type 0 where
-    alike : next P boxes ≡ former_next → Turn
-    sooner : (room t : ℕ) → next P boxes ≡ Some (stops (step letter_o room t)) → (a : Admitted) → former_next ≡ Some a → Turn
+    alike : next P boxes ≡ former_at P boxes → Turn
+    overload : (room t : ℕ) → next P boxes ≡ Some (stops (step letter_o room t)) → (a : Admitted) → former_at P boxes ≡ Some a → Turn
 
-  -- the former found C first, or that O
-  former-found : (c : Option Admitted) (a : Admitted) → First kind_c ≡ c → First kind_o ≡ Some a → (b : Admitted) × (former_next ≡ Some b)
+  -- the former order's step is the first C, or that O
+  former-found : (c : Option Admitted) (a : Admitted) → First kind_c ≡ c → First kind_o ≡ Some a → (b : Admitted) × (former_at P boxes ≡ Some b)
   unfolding next_by first_by former_order
   former-found None a q e = (a, else-none _ _ q ∙ else-some _ _ a e)
   former-found (Some c) a q e = (c, else-some _ _ c q)
@@ -98,7 +100,7 @@ module _ (P : Plan) (boxes : List ℕ) where
       let (room, l, f) = first-at _ (room_count P) a e in
       let (t, m, g) = first-at _ P.shifts.hours a f in
       let (b, q) = former-found (First kind_c) a refl e in
-      sooner room t (now-found room t a e (overload-stops P boxes room t a g)) b q
+      overload room t (now-found room t a e (overload-stops P boxes room t a g)) b q
 
   turn : Turn
   turn = go (First kind_o) refl
@@ -110,7 +112,7 @@ module _ (P : Plan) (boxes : List ℕ) where
 -- ---- the two runs
 
 abbrev Either : Run → Run → Type 0
-Either now former = (now ≡ former) ⊎ EndsSooner now former
+Either now former = (now ≡ former) ⊎ EndsByOverload now former
 
 -- a step more before both
 either-after : (x : Step) (now former : Run) → Either now former → Either (after x now) (after x former)
@@ -129,10 +131,10 @@ either-after x now former (inr s) =
       counted = omega (arith, s.counted);
     })
 
--- an O alone, before a run that has a step
-alone-sooner : (room hour : ℕ) (boxes : List ℕ) (former : Run) → 1 ≤ count former
-    → EndsSooner (ended impossible (step letter_o room hour ∷ []) boxes) former
-alone-sooner room hour boxes former l =
+-- an O alone, beside a run that has a step
+overload-alone : (room hour : ℕ) (boxes : List ℕ) (former : Run) → 1 ≤ count former
+    → EndsByOverload (ended impossible (step letter_o room hour ∷ []) boxes) former
+overload-alone room hour boxes former l =
     record { ends = refl; first = []; room = room; hour = hour; log = refl; rest = former.log; former_log = refl; counted = l }
 
 some-step : (next_at : List ℕ → Option Admitted) (boxes : List ℕ) (room : ℕ) (a : Admitted) → next_at boxes ≡ Some a
@@ -142,27 +144,24 @@ some-step next_at boxes room (stops x) e = rw (run-stops next_at boxes room x e)
 some-step next_at boxes room (moves x left) e = rw (run-moves next_at boxes room x left e) (omega arith)
 
 module _ (P : Plan) where
-  abbrev former_at : List ℕ → Option Admitted
-  former_at = next_by former_order P
-
   either : (room : ℕ) (boxes : List ℕ) → Either (run P boxes room) (former_run P boxes room)
   either zero boxes = go (turn P boxes)
     where
       go : Turn P boxes → Either (run P boxes 0) (former_run P boxes 0)
-      go (alike e) = full-turn (next P) former_at Either (λ r. inl refl) either-after boxes e
-      go (sooner r t e a f) = inl (run-full (next P) boxes _ e ∙ sym (run-full former_at boxes a f))
+      go (alike e) = full-turn (next P) (former_at P) Either (λ r. inl refl) either-after boxes e
+      go (overload r t e a f) = inl (run-full (next P) boxes _ e ∙ sym (run-full (former_at P) boxes a f))
   either (suc room) boxes = go (either room) (turn P boxes)
     where
       go : ((left : List ℕ) → Either (run P left room) (former_run P left room)) → Turn P boxes
           → Either (run P boxes (suc room)) (former_run P boxes (suc room))
-      go below (alike e) = next-turn (next P) former_at Either (λ r. inl refl) either-after boxes e room (λ x left q. below left)
-      go below (sooner r t e a f) =
-          inr (rw (run-stops (next P) boxes room _ e) (alone-sooner r t boxes (former_run P boxes (suc room)) (some-step former_at boxes room a f)))
+      go below (alike e) = next-turn (next P) (former_at P) Either (λ r. inl refl) either-after boxes e room (λ x left q. below left)
+      go below (overload r t e a f) =
+          inr (rw (run-stops (next P) boxes room _ e) (overload-alone r t boxes (former_run P boxes (suc room)) (some-step (former_at P) boxes room a f)))
 
   module _ (boxes : List ℕ) (sized : length boxes ≡ 6 * task_count P) where
     settles : (room m : ℕ) → (former_run P boxes m).ending ≡ settled → run P boxes room ≡ former_run P boxes room
     settles room m q =
-        run-alike (next P) former_at room boxes
+        run-alike (next P) (former_at P) room boxes
         (λ n. none-first P (former_run P boxes n).boxes (no-overload-on-the-way P former_order former-complete boxes sized m q n))
 
     pub overload-first : (room : ℕ) → OverloadFirst P boxes room

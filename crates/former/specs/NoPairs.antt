@@ -1,6 +1,6 @@
 -- A plan without pairs as 01 and 02 up to W-205 speak of it: its tests, its feasible schedules, the steps C, O, L and U, and what the entry points
--- come to by these. A plan's pairs are not read. That a plan without pairs answers by these as before W-206 is proved. The order of the kinds is any,
--- since W-207 changed it, and filter_plan's is today's.
+-- come to by these. A plan's pairs are not read. That a plan without pairs answers by these as before W-206 is proved. The order of the kinds is left
+-- open, since W-207 changed it; filter_plan's is today's.
 use Rattle.std.specs.Prelude.{Bool, true, false, List, [], ◌∷◌, ◌++◌, map, ◌↔◌, ◌≡◌, ℕ, ◌≤◌, ◌<◌, ltb, eqb, if◌then◌else◌, length}
 use Rattle.std.specs.Prelude.{Option, None, Some}
 use Rattle.units.specs.Choice.{◌and◌, on_option, ◌or_else◌, first_of}
@@ -42,7 +42,7 @@ kind_of letter =
 unfoldable pub filter_order : List Kind
 filter_order = kind_o ∷ kind_c ∷ kind_l ∷ kind_u ∷ []
 
--- the kind, among those that there are with pairs
+-- the same kind among those of plans with pairs
 unfoldable pub kind_with_pairs : Kind → pairs-steps.Kind
 kind_with_pairs kind_c = pairs-steps.kind_c
 kind_with_pairs kind_o = pairs-steps.kind_o
@@ -50,7 +50,7 @@ kind_with_pairs kind_l = pairs-steps.kind_l
 kind_with_pairs kind_u = pairs-steps.kind_u
 kind_with_pairs unknown_kind = pairs-steps.unknown_kind
 
--- and the order: a plan's order with pairs ends in F, B (02, W-206)
+-- and the order, with F and B last (02, W-206)
 unfoldable pub with_pairs : List Kind → List pairs-steps.Kind
 with_pairs order = map kind_with_pairs order ++ (pairs-steps.kind_f ∷ pairs-steps.kind_b ∷ [])
 
@@ -150,7 +150,7 @@ module _ (P : Plan) where
       (λ f. filter_end (refused_by f) boxes kinds tasks hours)
 
 -- A plan answers as before: the tests' refusals, its feasible schedules and the refusals of others, its steps, the filter's choice and its run in any
--- order of the kinds, the replay of a log; and so does each entry point, in its answer and in all that it leaves in lent memory.
+-- order of the four kinds, F and B after them, the replay of a log; and so does each entry point, in its answer and in all that it leaves in lent memory.
 pub record AsBefore (P : Plan) : Type 0 where
   pub passed : (boxes : List ℕ) → pairs-faults.plan_fault P boxes ≡ plan_fault P boxes
   pub tested : (boxes : List ℕ) → pairs-faults.input_fault P boxes ≡ input_fault P boxes

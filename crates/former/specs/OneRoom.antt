@@ -1,5 +1,5 @@
 -- A plan of one room as 01 speaks of it: what 02, W-202, gave each room, in 01's words, of the capacity and of one height a task. That a plan of one
--- room answers by these as before is proved. Its pairs (W-206) are any plan's. The order of the kinds is any, since W-207 changed it.
+-- room answers by these as before is proved. Its pairs (W-206) are any plan's. The order of the kinds is left open, since W-207 changed it.
 use Rattle.std.specs.Prelude.{Bool, true, false, not, List, [], ◌∷◌, ◌↔◌, ◌≡◌, ℕ, ◌+◌, ◌-◌, ◌≤◌, ◌<◌, leb, ltb, eqb, get_or, if◌then◌else◌}
 use Rattle.std.specs.Prelude.{Option, None}
 use Rattle.units.specs.Choice.{◌and◌, ◌or_else◌, first_of}

@@ -1,4 +1,4 @@
-// What was before the requests that changed answers, in the words of then, and how the answers are as before: definitions (specs/) and the laws about
-// them (proofs/). No other crate cites it.
+// What a request changed, in the words of before, and how far answers are still those: definitions (specs/) and the laws about them (proofs/). No other
+// crate cites it.
 
 #![tactic(auto)]

@@ -1,4 +1,4 @@
--- Laws of boxes inside boxes: the order, the calendar rule, load and excess on smaller boxes, and that a step that moves a bound leaves smaller boxes.
+-- Laws of boxes inside boxes: inclusion, the calendar rule, load and excess on smaller boxes, and that a step that moves a bound leaves smaller boxes.
 -- Assumes nothing.
 use Rattle.std.specs.Prelude.{Option, None, Some}
 use mathlib.Core.Path.{◌≡◌, refl, sym, ◌∙◌}
@@ -28,13 +28,13 @@ use Rattle.steps.proofs.Loads.{where-le, fit-there}
 use Rattle.steps.proofs.Judgements.{Moves, moves_c, moves_l, moves_u, moves_f, moves_b, judged-moved}
 use Rattle.narrowing.specs.Inside.{BoundsInside, Inside, AllFit}
 
--- ---- the order of one task's boxes
+-- ---- inclusion of one task's boxes
 
-pub bounds-refl : (a : Bounds) → BoundsInside a a
+bounds-refl : (a : Bounds) → BoundsInside a a
 bounds-refl a =
     record { earliest = omega arith; latest = omega arith; shortest = omega arith; longest = omega arith; fewest = omega arith; most = omega arith }
 
-pub bounds-trans : {a b c : Bounds} → BoundsInside a b → BoundsInside b c → BoundsInside a c
+bounds-trans : {a b c : Bounds} → BoundsInside a b → BoundsInside b c → BoundsInside a c
 bounds-trans s t =
     record { earliest = omega arith; latest = omega arith; shortest = omega arith; longest = omega arith; fewest = omega arith; most = omega arith }
 
@@ -60,7 +60,7 @@ module _ (b : Bounds) (t : ℕ) where
   earlier-inside l =
       record { earliest = omega arith; latest = l; shortest = omega arith; longest = omega arith; fewest = omega arith; most = omega arith }
 
--- ---- the order of all tasks' boxes
+-- ---- inclusion of all tasks' boxes
 
 module _ (P : Plan) where
   pub inside-refl : (a : List ℕ) → Inside P a a
@@ -102,7 +102,7 @@ module _ (cal : List ℕ) (p : ℕ) (a b : Bounds) (inside : BoundsInside a b) w
           ect = omega (arith, held t.ect, t.ect.value);
         }
 
-  -- a valid triple in the smaller box is one in the larger, and its window is the tighter
+  -- where the smaller box has a valid triple, so has the larger, and the smaller one's window is the tighter
   pub rule-tighter : (v : Window) → rule_of cal p a ≡ Some v → (w : Window) × (rule_of cal p b ≡ Some w) × Tighter v w
   rule-tighter v e = go (rule_of cal p b) refl
     where
@@ -110,7 +110,7 @@ module _ (cal : List ℕ) (p : ℕ) (a b : Bounds) (inside : BoundsInside a b) w
       go None q = None≢Some (sym (rule-never q) ∙ e)
       go (Some w) q = (w, q, tighter w q v e)
 
--- a task that must run in an hour by the window of the larger box must by the tighter one
+-- a task that must run in an hour by the window of the larger box must run then by the tighter one too
 must-tighter : (v w : Window) (t : ℕ) → Tighter v w → must_run (Some w) t ≡ true → must_run (Some v) t ≡ true
 unfolding must_run
 must-tighter v w t k e =
@@ -159,7 +159,7 @@ module _ (P : Plan) (small large : List ℕ) (inside : Inside P small large) whe
 
 module _ (P : Plan) (boxes : List ℕ) (sized : length boxes ≡ 6 * task_count P) where
   -- the boxes lie inside those before
-  pub with-smaller : (i : ℕ) (b : Bounds) → i < task_count P → BoundsInside b (bounds_at boxes i) → Inside P (with_bounds boxes i b) boxes
+  with-smaller : (i : ℕ) (b : Bounds) → i < task_count P → BoundsInside b (bounds_at boxes i) → Inside P (with_bounds boxes i b) boxes
   with-smaller i b there s = record { at = λ j l. go j (eqb j i) refl }
     where
       here : bounds_at (with_bounds boxes i b) i ≡ b

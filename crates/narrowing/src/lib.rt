@@ -1,4 +1,4 @@
-// Boxes inside boxes: what the calendar rule, load and excess come to on smaller boxes, and that a step only makes them smaller: definitions (specs/)
-// and the laws about them (proofs/).
+// Boxes inside boxes: what the calendar rule, load and excess come to on smaller boxes, that a step only makes them smaller, and so what holds on the
+// way of a run: definitions (specs/) and the laws about them (proofs/).
 
 #![tactic(auto)]

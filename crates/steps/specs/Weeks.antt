@@ -1,5 +1,5 @@
--- The starred weeks of 01's "Worked weeks", those of calendar A with their witnesses (02, W-204): a list of weeks and their outcomes, of the
--- calendar rule and the filter as they are called. That the definitions give each outcome is proved.
+-- The starred weeks of 01's "Worked weeks", those of calendar A with their witnesses (02, W-204), and a week of O before C (W-207): a list of weeks and
+-- their outcomes, of the calendar rule and the filter as they are called. That the definitions give each outcome is proved.
 use Rattle.std.specs.Prelude.{Option, None, Some}
 use Rattle.std.specs.Prelude.{Bool, true, false, List, [], ◌∷◌, ◌++◌, map, ℕ, zero, suc, length, replicate, if◌then◌else◌}
 use Rattle.units.specs.Limits.{hour, duration}
@@ -89,6 +89,10 @@ printed_boxes = 0 ∷ 3 ∷ 2 ∷ 3 ∷ 0 ∷ 0 ∷ 0 ∷ 2 ∷ 2 ∷ 3 ∷ 0 �
 abbrev pub too_high : Plan
 too_high = plan 2 (1 ∷ []) (regular ∷ regular ∷ []) (0 ∷ []) (1 ∷ []) (2 ∷ []) []
 
+-- `rrr`, capacity 1, two tasks of height 1 that both must run in hour 1
+abbrev pub in_one_hour : Plan
+in_one_hour = plan 3 (1 ∷ []) (regular ∷ regular ∷ regular ∷ []) (0 ∷ 0 ∷ []) (2 ∷ 2 ∷ []) (1 ∷ 1 ∷ []) []
+
 unfoldable pub weeks : List Starred
 weeks =
     -- A, S 0..8, E 1..9, O 0..3: S 1..5, E 3..7, O 1..3, ect 4, lct 8, no compulsory part
@@ -131,4 +135,9 @@ weeks =
     (leaves (impossible_after 3)
     (1 ∷ 1 ∷ 1 ∷ 1 ∷ 0 ∷ 0 ∷ [])
     (step letter_c 0 0 ∷ step letter_l 0 0 ∷ step letter_o 0 1 ∷ []))
+    -- 02, W-207: O before C, p = 2, S 0..1, E 2..3, O 0..0 each: O 0 1, impossible; left as opened
+    ∷ starred (filter in_one_hour (0 ∷ 1 ∷ 2 ∷ 3 ∷ 0 ∷ 0 ∷ 0 ∷ 1 ∷ 2 ∷ 3 ∷ 0 ∷ 0 ∷ []) 2048)
+    (leaves (impossible_after 1)
+    (0 ∷ 1 ∷ 2 ∷ 3 ∷ 0 ∷ 0 ∷ 0 ∷ 1 ∷ 2 ∷ 3 ∷ 0 ∷ 0 ∷ [])
+    (step letter_o 0 1 ∷ []))
     ∷ []

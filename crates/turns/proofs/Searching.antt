@@ -5,7 +5,7 @@ use mathlib.Core.Path.{◌≡◌, refl, sym, ap, ◌∙◌}
 use mathlib.Core.Bool.{Bool, true, false, not}
 use Rattle.std.specs.Prelude.{Option, None, Some}
 use mathlib.Core.List.{List, [], ◌∷◌, map}
-use Prim.Native.Nat.{ℕ, zero, suc, ◌+◌, ◌≤◌, ◌<◌, min}
+use Prim.Native.Nat.{ℕ, ◌+◌, ◌≤◌, ◌<◌, min}
 use native.Mathlib.Omega.{arith}
 use lib.Dec.{leb, ltb}
 use lib.ListN.{length, get_or}
@@ -21,7 +21,7 @@ use Rattle.units.proofs.Choices.{first-hit}
 use Rattle.plan.specs.Plan.{Plan, room_count, task_count, pair_count, capacity_of, room_part, heights_of, pair_of}
 use Rattle.plan.specs.Boxes.{bounds_at}
 use Rattle.plan.proofs.Passed.{room-length, room_at}
-use Rattle.units.proofs.Choices.{and-rest, first-eq, first_rest, else-end, else-through}
+use Rattle.units.proofs.Choices.{and-rest, first-eq, first_rest, front-first}
 use Rattle.calendar.specs.declared.Window.{Window}
 use Rattle.calendar.specs.Rule.{lst, ect}
 use Rattle.steps.specs.declared.Step.{Step}
@@ -52,12 +52,6 @@ module _ {A : Type 0} (test : ℕ → Bool) (f : ℕ → A) (xs : List ℕ) wher
       → first_of At (length xs) ≡ option_map f r
   first-position None h = none-to _ h
   first-position (Some i) h = first-hit At i _ _ h.0 (none-to i h.2) (some-if _ _ (h.1 0))
-
--- the search, parted after its first number
-front-first : {A : Type 0} (f : ℕ → Option A) (n : ℕ) → first_of f (suc n) ≡ (f 0 or_else first_of (λ i. f (suc i)) n)
-unfolding first_of ◌or_else◌
-front-first f zero = sym (else-end (f 0))
-front-first f (suc n) = ap (λ x. x or_else f (suc n)) (front-first f n) ∙ else-through (f 0) (first_of (λ i. f (suc i)) n) (f (suc n))
 
 -- ---- what is admitted
 
@@ -282,7 +276,7 @@ module _ (P : Plan) (boxes : List ℕ) (fits : List (Option Window)) where
     unfolding first_overload first_of_kind
     overload-first = first-eq _ _ (room_count P) room-first
 
-  -- of the kinds as the code has them, the first of one
+  -- the first step of a kind, by the code's name of it
   abbrev pub of_kind : StepKind → Option Step
   of_kind kind = First (kind_in (Some kind))
 

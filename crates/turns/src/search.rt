@@ -75,8 +75,8 @@ impl State<'_> {
         None
     }
 
-    // The first O, by room, then hour, by the loads. Inlined into the loop over the kinds, its own loop was left by a far jump, and the filter took 1.08
-    // times as long in eight rooms (`bench/run`).
+    // The first O, by room, then hour, by the loads. Not inlined: within the loop over the kinds the jump out of its own loop needs the longer form, and
+    // the filter took 1.08 times as long in eight rooms (`bench/run`).
     #[inline(never)]
     fn first_overload(&self, loads: &[u16]) -> Option<Step>
         requires { let P = plan_in self.now.plan.now in length loads.now ≡ room_count P * P.shifts.hours }
@@ -92,8 +92,8 @@ impl State<'_> {
         None
     }
 
-    // The first L, or the first U, by task, then hour, by the loads. A task with no valid triple is skipped, and so are the hours in which no step of
-    // its can be admitted.
+    // The first L, or the first U, by task, then hour, by the loads. A task with no valid triple is skipped, and so are the hours in which none of its
+    // steps can be admitted.
     fn first_excess(&self, side: Side, loads: &[u16]) -> Option<Step>
         requires { let P = plan_in self.now.plan.now in Loaded P.shifts.hours (room_count P) (task_count P) loads.now self.now.fits.now P.heights }
         ensures { result ≡ first_excess (plan_in self.now.plan.now) self.now.boxes.now self.now.fits.now (is_lower side) }

@@ -7,9 +7,8 @@ use Rattle.std.specs.Prelude.{Option, None, Some}
 use Prim.Native.Nat.{ℕ, zero, suc, ◌+◌, ◌≤◌, ◌<◌}
 use native.Mathlib.Numerals.{add-one}
 use native.Mathlib.Omega.{arith}
-use native.Mathlib.Decide.{dec_le}
-use lib.Dec.{eqb, leb, ltb}
-use borrow.Author.Tests.{eqb-true, eqb-false, le-leb, lt-leb, leb-true, ltb-true, ltb-false}
+use lib.Dec.{eqb, ltb}
+use borrow.Author.Tests.{eqb-true, eqb-false, ltb-true, ltb-false}
 use Rattle.units.specs.Choice.{◌and◌, some_if, on_option, ◌or_else◌, some_of, first_of}
 
 -- ---- what a test comes to
@@ -22,14 +21,6 @@ true≢false {x = false} p q = absurd (false≢true p)
 pub untrue : (x y : Bool) → (x ≡ true → y ≡ true) → y ≡ false → x ≡ false
 untrue true y h e = true≢false (h refl) e
 untrue false y h e = refl
-
--- two comparisons that decide the same
-pub same-leb : (x y u v : ℕ) → (x ≤ y → u ≤ v) → (u ≤ v → x ≤ y) → leb x y ≡ leb u v
-same-leb x y u v f g = go (dec_le x y)
-  where
-    go : Dec (x ≤ y) → leb x y ≡ leb u v
-    go (yes h) = le-leb x y h ∙ sym (le-leb u v (f h))
-    go (no h) = lt-leb x y (omega arith) ∙ sym (untrue (leb u v) (leb x y) (λ q. le-leb x y (g (leb-true u v q))) (lt-leb x y (omega arith)))
 
 -- ---- and
 
@@ -157,14 +148,6 @@ unfolding ◌or_else◌
 else-through None y z = refl
 else-through (Some a) y z = refl
 
--- one search after another: a hit of the first ends them, and where it finds nothing the rest decides
-module _ {A : Type 0} (x y : Option A) {r : Option A} (e : r ≡ x) where
-  pub outer-ends : {a : A} → r ≡ Some a → r ≡ (x or_else y)
-  outer-ends {a} q = q ∙ sym (else-some x y a (sym e ∙ q))
-
-  pub outer-goes-on : {s : Option A} → r ≡ None → s ≡ y → s ≡ (x or_else y)
-  outer-goes-on q k = k ∙ sym (else-none x y (sym e ∙ q))
-
 -- ---- some of several
 
 module _ (test : ℕ → Bool) where
@@ -251,6 +234,12 @@ pub first-eq : {A : Type 0} (f g : ℕ → Option A) (n : ℕ) → ((i : ℕ) �
 unfolding first_of
 first-eq f g zero h = refl
 first-eq f g (suc n) h = ap₂ ◌or_else◌ (first-eq f g n (λ i l. h i (omega arith))) (h n (omega arith))
+
+-- parted after the first number
+pub front-first : {A : Type 0} (f : ℕ → Option A) (n : ℕ) → first_of f (suc n) ≡ (f 0 or_else first_of (λ i. f (suc i)) n)
+unfolding first_of ◌or_else◌
+front-first f zero = sym (else-end (f 0))
+front-first f (suc n) = ap₂ ◌or_else◌ (front-first f n) refl ∙ else-through (f 0) (first_of (λ i. f (suc i)) n) (f (suc n))
 
 -- ---- what f makes of the one that is found
 

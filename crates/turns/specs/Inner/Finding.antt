@@ -41,7 +41,7 @@ pub record Loaded (hours rooms tasks : ℕ) (loads : List ℕ) (fits : List (Opt
   pub each : length loads ≡ rooms * hours
   pub load : (room : ℕ) → room < rooms → (t : ℕ) → t < hours → get_or loads (room * hours + t) 0 ≡ load_of fits (room_part tasks heights room) t
 
--- the first O of a room, from its loads, and of any; the first C; the first L or U; the first F or B
+-- the first C; the first O of a room, from its loads, and of any; the first L or U; the first F or B
 unfoldable pub first_calendar : Plan → List ℕ → List (Option Window) → Option Step
 first_calendar P boxes fits =
     first_of (λ i. some_if (admits (calendar_by (get_or fits i None) i (bounds_at boxes i))) (step letter_c i 0)) (task_count P)
