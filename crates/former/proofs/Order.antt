@@ -66,6 +66,10 @@ module _ (f g : List ℕ → Option Admitted) where
 abbrev former_at : Plan → List ℕ → Option Admitted
 former_at P = next_by former_order P
 
+-- the O of a room and an hour, which says impossible
+abbrev overload_at : ℕ → ℕ → Admitted
+overload_at room t = stops (step letter_o room t)
+
 module _ (P : Plan) (boxes : List ℕ) where
   abbrev First : Kind → Option Admitted
   First = first_of_kind P (if_admitted P boxes)
@@ -82,7 +86,7 @@ module _ (P : Plan) (boxes : List ℕ) where
   -- the same step stands next; or an O does, which says impossible, where some step stands next in the former order too
   data Turn : Type 0 where
     alike : next P boxes ≡ former_at P boxes → Turn
-    overload : (room t : ℕ) → next P boxes ≡ Some (stops (step letter_o room t)) → (a : Admitted) → former_at P boxes ≡ Some a → Turn
+    overload : (room t : ℕ) → next P boxes ≡ Some (overload_at room t) → (a : Admitted) → former_at P boxes ≡ Some a → Turn
 
   -- the former order's step is the first C, or that O
   former-found : (c : Option Admitted) (a : Admitted) → First kind_c ≡ c → First kind_o ≡ Some a → (b : Admitted) × (former_at P boxes ≡ Some b)
@@ -90,7 +94,7 @@ module _ (P : Plan) (boxes : List ℕ) where
   former-found None a q e = (a, else-none _ _ q ∙ else-some _ _ a e)
   former-found (Some c) a q e = (c, else-some _ _ c q)
 
-  now-found : (room t : ℕ) (a : Admitted) → First kind_o ≡ Some a → a ≡ stops (step letter_o room t) → next P boxes ≡ Some (stops (step letter_o room t))
+  now-found : (room t : ℕ) (a : Admitted) → First kind_o ≡ Some a → a ≡ overload_at room t → next P boxes ≡ Some (overload_at room t)
   unfolding next_by first_by filter_order
   now-found room t a e q = else-some _ _ a e ∙ ap Some q
 
@@ -172,8 +176,8 @@ module _ (P : Plan) where
           differs = λ other m l. go other m l (former_run P boxes m).ending refl;
         }
       where
-        go : (run P boxes room ≡ former_run P boxes room → ⊥) → (m : ℕ) → widths P boxes < m → (e : Ending) → (former_run P boxes m).ending ≡ e
-            → (former_run P boxes m).ending ≡ impossible
+        go : (run P boxes room ≡ former_run P boxes room → ⊥) → (m : ℕ) → widths P boxes < m → (e : Ending)
+            → (former_run P boxes m).ending ≡ e → (former_run P boxes m).ending ≡ impossible
         go other m l settled q = absurd (other (settles room m q))
         go other m l impossible q = q
         go other m l no_room q = absurd (omega (arith, l, room-enough P former_order m boxes sized q))

@@ -131,11 +131,12 @@ module _ (P : Plan) (order : List Kind) where
       (λ boxes left a x r e h s. rw (suc-add a b, run-moves (next_by order P) boxes (a + b) x left e) (h (moved-sized boxes left x s e)))
 
   -- O is never admitted on the way of a run that settles: if it settles with some room m, no O is admitted at the boxes that it leaves with any room n
-  pub no-overload-on-the-way : Complete order → (boxes : List ℕ) → Sized boxes → (m : ℕ) → (run_in_order boxes m).ending ≡ settled → (n room t : ℕ)
-      → if_admitted P (run_in_order boxes n).boxes (step letter_o room t) ≡ None
+  pub no-overload-on-the-way : Complete order → (boxes : List ℕ) → Sized boxes → (m : ℕ) → (run_in_order boxes m).ending ≡ settled
+      → (n room t : ℕ) → if_admitted P (run_in_order boxes n).boxes (step letter_o room t) ≡ None
   no-overload-on-the-way all boxes sized m q n =
       no-overload P (run_in_order boxes m).boxes (run_in_order boxes n).boxes
-      (subst (λ (r : Run). Inside P r.boxes (run_in_order boxes n).boxes) (ap (run_in_order boxes) (omega arith) ∙ settled-stays (next_by order P) boxes m n q)
+      (subst (λ (r : Run). Inside P r.boxes (run_in_order boxes n).boxes)
+      (ap (run_in_order boxes) (omega arith) ∙ settled-stays (next_by order P) boxes m n q)
       (further-inside m n boxes sized))
       (next-none P (run_in_order boxes m).boxes order all (run-rests (next_by order P) boxes m q))
 

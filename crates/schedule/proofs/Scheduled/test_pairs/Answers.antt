@@ -13,8 +13,8 @@ use Rattle.schedule.specs.Entry.{order_fault}
 use Rattle.schedule.proofs.Scheduled.test_pairs.Goals as goal
 
 -- what the code found of a pair's two triples
-kept : (σ : ℕ → Triple) (x y : Pair) (a b : Triple) (r f : Bool) → y ≡ x → a ≡ σ y.earlier → b ≡ σ y.later → r ≡ leb (end_of a) (start_of b) → r ≡ f
-    → in_turn x σ ≡ f
+kept : (σ : ℕ → Triple) (x y : Pair) (a b : Triple) (r f : Bool) → y ≡ x → a ≡ σ y.earlier → b ≡ σ y.later
+    → r ≡ leb (end_of a) (start_of b) → r ≡ f → in_turn x σ ≡ f
 unfolding in_turn
 kept σ x y a b r f p q s e g = rw (← p, ← q, ← s) (sym e ∙ g)
 
