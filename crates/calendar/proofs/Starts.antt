@@ -82,7 +82,7 @@ module _ (cal : List ℕ) (s : ℕ) (symbols : AllSymbols cal) where
 -- ---- validity and the two tests
 
 module _ (cal : List ℕ) (p : ℕ) (b : Bounds) (s : ℕ) (symbols : AllSymbols cal) where
-  valid-ends : (t : Triple) → Starting cal p b s t → Valid cal p s (elapsed_of t) (overtime_of t) → MayEnd p b (stretch_of cal s (elapsed_of t))
+  pub valid-ends : (t : Triple) → Starting cal p b s t → Valid cal p s (elapsed_of t) (overtime_of t) → MayEnd p b (stretch_of cal s (elapsed_of t))
   valid-ends t h v =
       record {
         shortest = h.shortest;
@@ -91,7 +91,7 @@ module _ (cal : List ℕ) (p : ℕ) (b : Bounds) (s : ℕ) (symbols : AllSymbols
         most = omega (arith, v.works, h.most);
       }
 
-  valid-lasts : (t : Triple) → Starting cal p b s t → Valid cal p s (elapsed_of t) (overtime_of t) → MayLast cal p b s (elapsed_of t)
+  pub valid-lasts : (t : Triple) → Starting cal p b s t → Valid cal p s (elapsed_of t) (overtime_of t) → MayLast cal p b s (elapsed_of t)
   valid-lasts t h v =
       record {
         longest = h.longest;
@@ -123,6 +123,29 @@ module _ (cal : List ℕ) (p : ℕ) (b : Bounds) (s : ℕ) (symbols : AllSymbols
         works = omega (arith, n.fewest);
         in_overtime = omega (arith, m.works);
         ends_worked = omega (arith, n.worked, worked-ends cal s symbols e l u first last);
+      }
+
+  -- the triple of such an end
+  pub tests-start : (e : ℕ) → 1 ≤ e → s + e ≤ length cal → is_kind closed cal s ≡ false → MayEnd p b (stretch_of cal s e) → MayLast cal p b s e
+      → Starting cal p b s (triple s e (p - hours_of regular cal s e))
+  tests-start e l u first m n =
+      record {
+        start = refl;
+        shortest = m.shortest;
+        longest = n.longest;
+        fewest = omega (arith, n.fewest);
+        most = omega (arith, m.most);
+        is_valid = facts-valid cal p s e _ (tests-valid e l u first m n);
+      }
+
+  -- a later open hour is an end too
+  pub ends-later : (k e : ℕ) → 1 ≤ e → k ≤ e → is_kind closed cal (s + e - 1) ≡ false → MayEnd p b (stretch_of cal s k) → MayEnd p b (stretch_of cal s e)
+  ends-later k e some l last m =
+      record {
+        shortest = omega (arith, m.shortest);
+        works = omega (arith, m.works, hours-mono regular cal s k e l, hours-mono overtime cal s k e l);
+        goes = open-itself cal s e some last;
+        most = omega (arith, m.most, hours-mono regular cal s k e l);
       }
 
 -- ---- from the shortest to the longest
@@ -187,18 +210,8 @@ module _ {cal : List ℕ} {p : ℕ} {b : Bounds} {s : ℕ} {shortest longest : S
     some_hours : 1 ≤ shortest.hours.0
     some_hours = omega (arith, shortest-ends.shortest, R.ready.shortest)
 
-    -- a later open hour is an end too
     later-ends : (e : ℕ) → shortest.hours.0 ≤ e → is_kind closed cal (s + e - 1) ≡ false → MayEnd p b (stretch_of cal s e)
-    later-ends e l last_open =
-        record {
-          shortest = omega (arith, shortest-ends.shortest);
-          works = omega (arith, shortest-ends.works, more_of regular, more_of overtime);
-          goes = open-itself cal s e (omega (arith, some_hours)) last_open;
-          most = omega (arith, shortest-ends.most, more_of regular);
-        }
-      where
-        more_of : (kind : ℕ) → hours_of kind cal s shortest.hours.0 ≤ hours_of kind cal s e
-        more_of kind = hours-mono kind cal s shortest.hours.0 e l
+    later-ends e l last_open = ends-later cal p b s symbols shortest.hours.0 e (omega (arith, some_hours)) l last_open shortest-ends
 
     longest-open : is_kind closed cal (s + longest.last.0 - 1) ≡ false
     longest-open = rw is_last (open-last cal s longest.hours.0 (omega (arith, is_last, some_hours)))
@@ -208,14 +221,7 @@ module _ {cal : List ℕ} {p : ℕ} {b : Bounds} {s : ℕ} {shortest longest : S
         → Starting cal p b s (triple s e (p - n))
     lasting-start e n q l u m =
         let may = may-last cal p b s e (R.lasts e l u) in
-        record {
-          start = refl;
-          shortest = m.shortest;
-          longest = may.longest;
-          fewest = omega (arith, q, may.fewest);
-          most = omega (arith, q, m.most);
-          is_valid = rw q (facts-valid cal p s e _ (tests-valid cal p b s symbols e l (omega (arith, R.is_longest.hours.inside)) open-start m may));
-        }
+        rw q (tests-start cal p b s symbols e l (omega (arith, R.is_longest.hours.inside)) open-start m may)
 
     shortest-regular : shortest.counts.regular ≡ hours_of regular cal s shortest.hours.0
     shortest-regular = regulars cal s _ _ (counts-are R.is_shortest)
