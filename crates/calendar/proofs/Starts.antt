@@ -151,7 +151,7 @@ module _ (cal : List ℕ) (p : ℕ) (b : Bounds) (s : ℕ) (symbols : AllSymbols
 -- ---- from the shortest to the longest
 
 module _ (cal : List ℕ) (p : ℕ) (b : Bounds) (s : ℕ) where
-  valid-start : (t : Triple) → Starting cal p b s t → Valid cal p s (elapsed_of t) (overtime_of t)
+  pub valid-start : (t : Triple) → Starting cal p b s t → Valid cal p s (elapsed_of t) (overtime_of t)
   valid-start t h = valid-facts cal p s (elapsed_of t) (overtime_of t) (rw h.start at h.is_valid)
 
   -- none starts at a closed hour
