@@ -12,8 +12,8 @@ use plan::{Plan, Refusal};
 use steps::{Ending, Filtered, Judged};
 use turns::State;
 
-// The run on a plan that passed its tests, after so many steps taken before. The answers of the calendar rule are kept, and only the moved
-// task's is worked out anew.
+// The run on a plan that passed its tests, after so many steps taken before. The answers of the calendar rule are kept, and of the moved
+// task's only what the step changed is worked out.
 fn run_filter(
     plan: &Plan,
     boxes: &mut [u16],
@@ -30,7 +30,7 @@ fn run_filter(
         filter_end (filter_answer (Ok result)) boxes.new log_kinds.new log_tasks.new log_hours.new
         ≡ logged_from taken run log_kinds.old log_tasks.old log_hours.old }
 {
-    let mut fits = kept::all_fits(&plan.shifts, boxes);
+    let mut answers = kept::all_answers(&plan.shifts, boxes);
     // Where the next step goes in each of the three slices, and how many steps the answer counts.
     let mut count: usize = 0;
     loop {
@@ -38,7 +38,7 @@ fn run_filter(
         let state = State {
             plan: &*plan,
             boxes,
-            fits: &fits,
+            fits: &answers.fits,
         };
         let Some(next) = state.next_turn() else {
             return Filtered {
@@ -62,7 +62,7 @@ fn run_filter(
                 count: taken + count,
             };
         };
-        kept::move_bounds(&plan.shifts, boxes, &mut fits, task, bounds);
+        kept::move_bounds(&plan.shifts, boxes, &mut answers, task, bounds);
     }
 }
 

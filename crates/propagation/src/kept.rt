@@ -1,51 +1,68 @@
 // The answers of the calendar rule that are kept beside the boxes, one for each task.
-ghost use Rattle.std.specs.Prelude.{◌≡◌, ℕ, ◌≤◌, ◌<◌, length, get_or, set, None};
+ghost use Rattle.std.specs.Prelude.{◌≡◌, ℕ, ◌≤◌, ◌<◌, length, set};
 ghost use Rattle.units.specs.Limits.{most_tasks};
 ghost use Rattle.plan.specs.Boxes.{with_bounds};
 ghost use Rattle.plan.specs.Lent.{shifts_in};
 ghost use Rattle.steps.specs.Load.{fit_at};
-ghost use Rattle.propagation.specs.Inner.Fitting.{Fitting};
+ghost use Rattle.propagation.specs.Inner.Fitting.{Fitting, Answered};
 
-use calendar::Window;
+use incremental::{Kept, Starts};
 use plan::Shifts;
-use std::array;
 use stretches::Task;
 use turns::Fits;
 use units::Bounds;
 
-// What the calendar rule answers for task i. No step reads a witness, so none is kept.
-pub fn fit_of(shifts: &Shifts, boxes: &[u16], i: usize) -> Option<Window>
-    requires { Fitting (shifts_in shifts.now) boxes.now i }
-    ensures { result ≡ fit_at (shifts_in shifts.now) boxes.now i }
-{
-    let task = Task::of_plan(shifts, boxes, i);
-    calendar::without_witnesses(calendar::rule(&task))
+// The answers, by which the steps are judged, and the starts that are kept beside each. No step reads a witness, so none is kept.
+#[derive(Clone, Copy)]
+pub struct Answers {
+    pub fits: Fits,
+    pub starts: [Starts; Bounds::MOST],
+}
+
+impl Answers {
+    // Stores what is kept of task i.
+    fn keep(&mut self, i: usize, kept: Kept)
+        requires { i < most_tasks }
+        ensures { (self.new.fits ≡ set self.old.fits i kept.fit) × (self.new.starts ≡ set self.old.starts i kept.starts) }
+    {
+        self.fits[i] = kept.fit;
+        self.starts[i] = kept.starts;
+    }
 }
 
 // The answers for all tasks; past the last, none.
-pub fn all_fits(shifts: &Shifts, boxes: &[u16]) -> Fits
+pub fn all_answers(shifts: &Shifts, boxes: &[u16]) -> Answers
     requires { let S = shifts_in shifts.now in
         (length S.task_calendars ≤ most_tasks) × ((i : ℕ) → i < length S.task_calendars → Fitting S boxes.now i) }
-    ensures { let S = shifts_in shifts.now in
-        (length result ≡ most_tasks) × ((i : ℕ) → i < length S.task_calendars → get_or result i None ≡ fit_at S boxes.now i) }
+    ensures { Answered (shifts_in shifts.now) (length (shifts_in shifts.now).task_calendars) boxes.now result }
 {
-    let tasks = shifts.tasks();
-    array::from_fn(|i| {
-        if i < tasks {
-            fit_of(shifts, boxes, i)
-        } else {
-            None
-        }
-    })
+    let mut answers = Answers {
+        fits: [None; Bounds::MOST],
+        starts: [Kept::NONE.starts; Bounds::MOST],
+    };
+    for i in 0..shifts.tasks() {
+        answers.keep(i, incremental::answer(&Task::of_plan(shifts, boxes, i)));
+    }
+    answers
 }
 
-// Stores the bounds that a task has now, and works its answer out anew.
-pub fn move_bounds(shifts: &Shifts, boxes: &mut [u16], fits: &mut Fits, task: u16, b: Bounds)
-    requires { (task < most_tasks) × Fitting (shifts_in shifts.now) (with_bounds boxes.old task b) task }
-    ensures { (boxes.new ≡ with_bounds boxes.old task b)
-        × (fits.new ≡ set fits.old task (fit_at (shifts_in shifts.now) boxes.new task)) }
+// Stores the bounds that a task has now, and works its answer out from the one for those that it had.
+pub fn move_bounds(shifts: &Shifts, boxes: &mut [u16], answers: &mut Answers, task: u16, b: Bounds)
+    requires fits { (task < most_tasks) × Fitting (shifts_in shifts.now) (with_bounds boxes.old task b) task }
+    requires answered { let S = shifts_in shifts.now in Answered S (length S.task_calendars) boxes.old answers.old }
+    ensures moves { (boxes.new ≡ with_bounds boxes.old task b)
+        × (answers.new.fits ≡ set answers.old.fits task (fit_at (shifts_in shifts.now) boxes.new task)) }
+    ensures answered { let S = shifts_in shifts.now in Answered S (length S.task_calendars) boxes.new answers.new }
 {
     let i = task as usize;
+    let before = plan::bounds_at(boxes, i);
+    let kept = Kept {
+        fit: answers.fits[i],
+        starts: answers.starts[i],
+    };
     plan::put_bounds(boxes, i, b);
-    fits[i] = fit_of(shifts, boxes, i);
+    answers.keep(
+        i,
+        incremental::answer_after(&Task::of_plan(shifts, boxes, i), before, kept),
+    );
 }

@@ -14,7 +14,7 @@ use steps::{Accepted, Judged, Step};
 use turns::State;
 
 // The replay of a log on a plan that passed its tests, after the steps that were accepted before its first, from the boxes that they left. The
-// answers of the calendar rule are kept, and only the moved task's is worked out anew.
+// answers of the calendar rule are kept, and of the moved task's only what the step changed is worked out.
 fn replay_log(
     plan: &Plan,
     boxes: &mut [u16],
@@ -30,7 +30,7 @@ fn replay_log(
         let e = replay_from P after.steps after.impossible boxes.old (steps_in log_kinds.now log_tasks.now log_hours.now) in
         (answer_of result ≡ check_answer e) × (boxes.new ≡ e.boxes) }
 {
-    let mut fits = kept::all_fits(&plan.shifts, boxes);
+    let mut answers = kept::all_answers(&plan.shifts, boxes);
     let mut impossible = after.impossible;
     // By number: a step lies in three slices, which zips would nest, and its number is the place that a refusal names.
     for k in 0..log_kinds.len() {
@@ -45,7 +45,7 @@ fn replay_log(
         let state = State {
             plan: &*plan,
             boxes,
-            fits: &fits,
+            fits: &answers.fits,
         };
         match state.judge_step(x) {
             Judged::Unknown => {
@@ -59,7 +59,7 @@ fn replay_log(
                 continue;
             }
             Judged::Moved { task, bounds } => {
-                kept::move_bounds(&plan.shifts, boxes, &mut fits, task, bounds);
+                kept::move_bounds(&plan.shifts, boxes, &mut answers, task, bounds);
             }
         }
     }
