@@ -9,20 +9,20 @@
 #include <string.h>
 #include <time.h>
 
-enum { HOURS = 1008, TASKS = 64, ROOM = 2048, CALENDARS = 4, ROOMS = 8, PAIRS = 256 };
+enum { HOURS = 1008, TASKS = 64, ROOM = 2048, MOST_ROOM = 16384, CALENDARS = 16, ROOMS = 8, PAIRS = 256 };
 
-/* Of TASKS tasks, so that room r's heights begin at cell r * TASKS. */
+/* Of TASKS tasks, so that room r's heights begin at cell r * TASKS. The log that a run of it is lent has `log_room` steps. */
 struct plan {
     uint16_t hours;
-    size_t rooms, calendars, tasks, pairs;
+    size_t rooms, calendars, tasks, pairs, log_room;
     uint8_t symbols[CALENDARS * HOURS];
     uint16_t capacities[ROOMS], task_calendars[TASKS], work_times[TASKS], heights[ROOMS * TASKS], pair_tasks[2 * PAIRS];
 };
 
 struct memory {
     uint16_t boxes[6 * TASKS];
-    uint8_t kinds[ROOM];
-    uint16_t tasks[ROOM], hours[ROOM];
+    uint8_t kinds[MOST_ROOM];
+    uint16_t tasks[MOST_ROOM], hours[MOST_ROOM];
     uint64_t answer[4];
 };
 
@@ -125,7 +125,7 @@ static void plain_filter(const struct plan *p, struct memory *m) {
     for (;;) {
         struct found x = next_step(p, m->boxes, fits);
         if (!x.kind) break;
-        if (count == ROOM) {
+        if (count == p->log_room) {
             number = 32;
             break;
         }
@@ -154,8 +154,8 @@ static void plain_filter(const struct plan *p, struct memory *m) {
 
 static void library_filter(const struct plan *p, struct memory *m) {
     shimlantern_filter(p->hours, p->capacities, p->rooms, p->symbols, p->calendars * p->hours, p->task_calendars, p->tasks, p->work_times,
-                       p->tasks, p->heights, p->rooms * p->tasks, p->pair_tasks, 2 * p->pairs, m->boxes, 6 * p->tasks, m->kinds, ROOM, m->tasks,
-                       ROOM, m->hours, ROOM, m->answer);
+                       p->tasks, p->heights, p->rooms * p->tasks, p->pair_tasks, 2 * p->pairs, m->boxes, 6 * p->tasks, m->kinds, p->log_room,
+                       m->tasks, p->log_room, m->hours, p->log_room, m->answer);
 }
 
 /* The plans. */
@@ -169,16 +169,20 @@ static void add_task(struct plan *p, uint16_t *boxes, uint16_t calendar, uint16_
     memcpy(boxes + 6 * i, box, 6 * sizeof *box);
 }
 
+/* Days of the hours of one pattern, which begin at another hour in each of the plan's calendars. */
+static void fill_days(struct plan *p, const char *day) {
+    for (size_t k = 0; k < p->calendars * HOURS; k++) p->symbols[k] = day[(k % HOURS + 5 * (k / HOURS)) % 24];
+}
+
 /* Four calendars of days with two closed and two overtime hours. Four tasks fill the capacity at the start of the plan and four near its end;
    the others start between. */
 static void mostly_regular(struct plan *p, uint16_t *boxes) {
-    const char *day = "rrrrrrrrrrrrrrrrrrrroocc";
-    *p = (struct plan){.hours = HOURS, .rooms = 1, .capacities = {4}, .calendars = CALENDARS};
-    for (size_t k = 0; k < CALENDARS * HOURS; k++) p->symbols[k] = day[(k % HOURS + 5 * (k / HOURS)) % 24];
+    *p = (struct plan){.hours = HOURS, .rooms = 1, .capacities = {4}, .calendars = 4, .log_room = ROOM};
+    fill_days(p, "rrrrrrrrrrrrrrrrrrrroocc");
     for (uint16_t i = 0; i < TASKS; i++) {
         uint16_t first = i >= 4 && i < 8 ? 890 : 0, last = i < 8 ? first : 920;
         uint16_t work = i < 8 ? 31 + i : 4 + 7 * i % 40;
-        add_task(p, boxes, i % CALENDARS, work, i < 8 ? 1 : 1 + i % 3, (uint16_t[]){first, last, 1, HOURS, 0, work});
+        add_task(p, boxes, i % 4, work, i < 8 ? 1 : 1 + i % 3, (uint16_t[]){first, last, 1, HOURS, 0, work});
     }
 }
 
@@ -192,9 +196,19 @@ static void eight_rooms(struct plan *p, uint16_t *boxes) {
     }
 }
 
-/* The same weeks with racks for all, and tasks of a few hours that may start at any. Each of the first 59 ends before the four after it, and some
-   before the fifth. The pairs of the first 40 go from the last of them to the first, which is the long way for F, those of the others from the
-   first to the last, which is that for B. */
+/* As many pairs as there can be, of the tasks from `first` on. Each of them but the last five ends before the four after it, and some before the
+   fifth. The pairs of the first `turn` go from the last of them to the first, which is the long way for F, those of the others from the first to
+   the last, which is that for B. */
+static void add_pairs(struct plan *p, size_t first, size_t turn) {
+    size_t earlier_tasks = TASKS - 5 - first;
+    while (p->pairs < PAIRS) {
+        size_t k = p->pairs++, n = k % earlier_tasks, earlier = first + (n < turn ? turn - 1 - n : n);
+        p->pair_tasks[2 * k] = earlier;
+        p->pair_tasks[2 * k + 1] = earlier + 1 + k / earlier_tasks;
+    }
+}
+
+/* The same weeks with racks for all, and tasks of a few hours that may start at any, in 256 pairs. */
 static void with_pairs(struct plan *p, uint16_t *boxes) {
     mostly_regular(p, boxes);
     p->capacities[0] = 3 * TASKS;
@@ -202,17 +216,13 @@ static void with_pairs(struct plan *p, uint16_t *boxes) {
         p->work_times[i] = 1 + 5 * i % 9;
         memcpy(boxes + 6 * i, (uint16_t[]){0, HOURS - 1, 1, HOURS, 0, p->work_times[i]}, 6 * sizeof *boxes);
     }
-    while (p->pairs < PAIRS) {
-        size_t k = p->pairs++, n = k % (TASKS - 5), earlier = n < 40 ? 39 - n : n;
-        p->pair_tasks[2 * k] = earlier;
-        p->pair_tasks[2 * k + 1] = earlier + 1 + k / (TASKS - 5);
-    }
+    add_pairs(p, 0, 40);
 }
 
 /* Regular and overtime hours by turns; task 0 fills the capacity of 1 for its first 200 hours, the others may start at any hour. */
 static void by_turns(struct plan *p, uint16_t *boxes) {
     enum { WORK = 200 };
-    *p = (struct plan){.hours = HOURS, .rooms = 1, .capacities = {1}, .calendars = 1};
+    *p = (struct plan){.hours = HOURS, .rooms = 1, .capacities = {1}, .calendars = 1, .log_room = ROOM};
     for (size_t k = 0; k < HOURS; k++) p->symbols[k] = "ro"[k % 2];
     add_task(p, boxes, 0, WORK, 1, (uint16_t[]){0, 0, WORK, WORK, 0, WORK});
     while (p->tasks < TASKS) add_task(p, boxes, 0, WORK, 1, (uint16_t[]){0, HOURS - 1, 1, HOURS, 0, WORK});
@@ -222,12 +232,53 @@ static void by_turns(struct plan *p, uint16_t *boxes) {
    one of these into a closed hour, and C out of it: every other step is a C. */
 static void closed_by_turns(struct plan *p, uint16_t *boxes) {
     enum { WORK = 250, TIME = 2 * WORK - 1 };
-    *p = (struct plan){.hours = HOURS, .rooms = ROOMS, .calendars = 1};
+    *p = (struct plan){.hours = HOURS, .rooms = ROOMS, .calendars = 1, .log_room = ROOM};
     for (size_t k = 0; k < HOURS; k++) p->symbols[k] = "rc"[k % 2];
     for (size_t r = 0; r < ROOMS; r++) p->capacities[r] = 1;
     add_task(p, boxes, 0, WORK, 1, (uint16_t[]){0, 0, TIME, TIME, 0, 0});
     while (p->tasks < TASKS) add_task(p, boxes, 0, 4, 1, (uint16_t[]){0, HOURS - 1, 1, HOURS, 0, 0});
     for (size_t k = TASKS; k < ROOMS * TASKS; k++) p->heights[k] = 1;
+}
+
+/* Regular hours. Tasks side by side fill the capacity in all but one of them, from hour 0 or 1 on; the last task, of one hour, may start at any,
+   and is moved hour by hour to the one that is left. */
+static void pushed_from(uint16_t filled, struct plan *p, uint16_t *boxes) {
+    enum { WORK = HOURS / (TASKS - 1) };
+    *p = (struct plan){.hours = HOURS, .rooms = 1, .capacities = {1}, .calendars = 1, .log_room = ROOM};
+    memset(p->symbols, 'r', HOURS);
+    for (uint16_t i = 0; i < TASKS - 1; i++) {
+        uint16_t start = filled + WORK * i, work = i < TASKS - 2 ? WORK : WORK - 1;
+        add_task(p, boxes, 0, work, 1, (uint16_t[]){start, start, work, work, 0, 0});
+    }
+    add_task(p, boxes, 0, 1, 1, (uint16_t[]){0, HOURS - 1, 1, 1, 0, 0});
+}
+
+/* The last hour is left: every step is an L. */
+static void pushed_later(struct plan *p, uint16_t *boxes) {
+    pushed_from(0, p, boxes);
+}
+
+/* The first hour is left: every step is a U. */
+static void pushed_earlier(struct plan *p, uint16_t *boxes) {
+    pushed_from(1, p, boxes);
+}
+
+/* The greatest sizes, and a run of more steps than a year has hours, of every kind but O, which would end it. Six tasks fill all rooms for a
+   stretch each, the longest at the start and near the end. The others, of a few hours, may start at any and stand in two rooms each. L and U move
+   them out of those stretches and C out of closed hours; F and B, since 256 pairs make them follow each other, move them into the next stretch. */
+static void greatest_sizes(struct plan *p, uint16_t *boxes) {
+    static const uint16_t starts[] = {0, 250, 350, 450, 550, 700}, works[] = {105, 27, 27, 27, 27, 240};
+    enum { FIXED = sizeof starts / sizeof *starts };
+    *p = (struct plan){.hours = HOURS, .rooms = ROOMS, .calendars = CALENDARS, .log_room = MOST_ROOM};
+    fill_days(p, "rrrcrrrcrrrcrrrcrrroocoo");
+    for (size_t r = 0; r < ROOMS; r++) p->capacities[r] = 4;
+    for (uint16_t i = 0; i < TASKS; i++) {
+        int fixed = i < FIXED;
+        uint16_t first = fixed ? starts[i] : 0, last = fixed ? first + 2 : HOURS - 1, work = fixed ? works[i] : 1 + 5 * i % 9;
+        add_task(p, boxes, i % CALENDARS, work, 0, (uint16_t[]){first, last, 1, HOURS, 0, work});
+        for (size_t r = 0; r < ROOMS; r++) p->heights[r * TASKS + i] = fixed ? 4 : (i + r) % ROOMS < 2 ? 1 + i % 3 : 0;
+    }
+    add_pairs(p, FIXED, 36);
 }
 
 /* Times. */
@@ -301,6 +352,9 @@ int main(void) {
     time_filter("filter, mostly regular hours, 256 pairs", with_pairs, 10);
     time_filter("filter, regular and overtime by turns", by_turns, 3);
     time_filter("filter, closed hours by turns, eight rooms", closed_by_turns, 10);
+    time_filter("filter, pushed later hour by hour, L", pushed_later, 10);
+    time_filter("filter, pushed earlier hour by hour, U", pushed_earlier, 10);
+    time_filter("filter, a year of turns, greatest sizes", greatest_sizes, 3);
     time_rule("calendar rule, all overtime, p = 504", "o", 504, 200);
     time_rule("calendar rule, regular and overtime by turns, p = 100", "ro", 100, 200);
     time_rule("calendar rule, shifts with overtime, p = 60", "ooooorrrrrrrccccccccoooo", 60, 200);
