@@ -126,8 +126,8 @@ module _ (cal : List ℕ) (p : ℕ) (b : Bounds) (s : ℕ) (symbols : AllSymbols
       }
 
   -- the triple of such an end
-  pub tests-start : (e : ℕ) → 1 ≤ e → s + e ≤ length cal → is_kind closed cal s ≡ false → MayEnd p b (stretch_of cal s e) → MayLast cal p b s e
-      → Starting cal p b s (triple s e (p - hours_of regular cal s e))
+  pub tests-start : (e : ℕ) → 1 ≤ e → s + e ≤ length cal → is_kind closed cal s ≡ false → MayEnd p b (stretch_of cal s e)
+      → MayLast cal p b s e → Starting cal p b s (triple s e (p - hours_of regular cal s e))
   tests-start e l u first m n =
       record {
         start = refl;
@@ -139,7 +139,8 @@ module _ (cal : List ℕ) (p : ℕ) (b : Bounds) (s : ℕ) (symbols : AllSymbols
       }
 
   -- a later open hour is an end too
-  pub ends-later : (k e : ℕ) → 1 ≤ e → k ≤ e → is_kind closed cal (s + e - 1) ≡ false → MayEnd p b (stretch_of cal s k) → MayEnd p b (stretch_of cal s e)
+  pub ends-later : (k e : ℕ) → 1 ≤ e → k ≤ e → is_kind closed cal (s + e - 1) ≡ false → MayEnd p b (stretch_of cal s k)
+      → MayEnd p b (stretch_of cal s e)
   ends-later k e some l last m =
       record {
         shortest = omega (arith, m.shortest);

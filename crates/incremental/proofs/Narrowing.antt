@@ -54,7 +54,8 @@ fewer-same f =
 
 module _ (cal : List ℕ) (p : ℕ) where
   -- a valid triple of the one with a start of the other is the other's
-  same-in : {a b : Bounds} {t : Triple} → SameTimes a b → ValidIn cal p a t → b.earliest.0 ≤ start_of t → start_of t ≤ b.latest.0 → ValidIn cal p b t
+  same-in : {a b : Bounds} {t : Triple} → SameTimes a b → ValidIn cal p a t
+      → b.earliest.0 ≤ start_of t → start_of t ≤ b.latest.0 → ValidIn cal p b t
   same-in s v l u =
       record {
         inside =
@@ -269,7 +270,8 @@ module _ (cal : List ℕ) (p : ℕ) where
 
   -- beside the rule's answer stand the starts of its witnesses
   pub witnesses-start : (b : Bounds) (f : Witnessed) → witnessed_rule cal p b ≡ Some f
-      → StartsKept cal p b f.window (record { shortest = f.by.shortest.start; longest = f.by.longest.start; fewest = f.by.fewest.start; most = f.by.most.start })
+      → StartsKept cal p b f.window
+      (record { shortest = f.by.shortest.start; longest = f.by.longest.start; fewest = f.by.fewest.start; most = f.by.most.start })
   witnesses-start b f e =
       let has = rule-witnesses cal p b f.window f.by e in
       record {
@@ -328,7 +330,8 @@ module _ (cal : List ℕ) (p : ℕ) where
 
   module _ (b : Bounds) (w : Window) (h : Had cal p b w) where
     -- one that is a start of the box stands
-    start-stands : {key : Triple → ℕ} {k s : ℕ} → within b.earliest.0 b.latest.0 s ≡ true → StartsWith cal p h.large key k s → StartsWith cal p b key k s
+    start-stands : {key : Triple → ℕ} {k s : ℕ} → within b.earliest.0 b.latest.0 s ≡ true → StartsWith cal p h.large key k s
+        → StartsWith cal p b key k s
     start-stands e x =
         start_in (λ t v q. same-in (same-times (fewer-same h.fewer)) v (omega (arith, q, from-least _ _ _ e)) (omega (arith, q, to-most _ _ _ e))) x
 
@@ -344,7 +347,8 @@ module _ (cal : List ℕ) (p : ℕ) where
         }
 
     -- a witness of a part of the box with the same number is another start
-    pub start-found : (first last other s kept : Hour) {key : Triple → ℕ} {k : ℕ} (n : ℕ) (attains : Bool) → b.earliest.0 ≤ first.0 → last.0 ≤ b.latest.0
+    pub start-found : (first last other s kept : Hour) {key : Triple → ℕ} {k : ℕ} (n : ℕ) (attains : Bool)
+        → b.earliest.0 ≤ first.0 → last.0 ≤ b.latest.0
         → (attains ≡ true → n ≡ k) → StartsWith cal p (starting_in b first last) key n other.0 → StartsWith cal p h.large key k s.0
         → (if within b.earliest.0 b.latest.0 s.0 then Some s else if attains then Some other else None) ≡ Some kept → StartsWith cal p b key k kept.0
     start-found first last other s kept {key} {k} n attains l u same x y e =

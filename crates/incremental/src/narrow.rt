@@ -151,6 +151,10 @@ pub fn narrowed(task: &Task, w: Window, starts: Starts) -> Option<Kept>
         × StartsKept task.now.calendar.now task.now.work_time.0 h.large w starts }
     ensures { (kept : Kept) → result ≡ Some kept → Keeps task.now.calendar.now task.now.work_time.0 task.now.bounds kept }
 {
+    // A part of so small a box is the box.
+    if task.bounds.latest.0 - task.bounds.earliest.0 <= NEAR {
+        return None;
+    }
     let first = with_first(task, w)?;
     let last = with_last(task, w)?;
     let starts = starts_of(task, w, starts)?;

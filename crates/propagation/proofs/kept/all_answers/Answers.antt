@@ -12,4 +12,5 @@ answer-requires c =
 pub loop-i-preserved : goal.loop-i-preserved
 loop-i-preserved c =
     let task = c.of_plan.ensures in
-    next-answered c.loop-i.invariant _ (omega (arith, c.loop-i-test.true, c.tasks-i-end.ensures, c.requires.0)) c.keep.ensures refl (keeps-task _ _ _ task.0 task.1 task.2 c.answer.ensures)
+    next-answered c.loop-i.invariant _ (omega (arith, c.loop-i-test.true, c.tasks-i-end.ensures, c.requires.0)) c.keep.ensures refl
+    (keeps-task _ _ _ task.0 task.1 task.2 c.answer.ensures)
