@@ -1,15 +1,16 @@
--- Laws of the filter's loop: the steps taken, logged in the first cells, what holds at each turn, and what each case of a turn makes of it. Assumes
--- nothing.
+-- Laws of the filter's loop: the steps taken, logged in the first cells, what holds at each turn, and what each case of a turn makes of it; and of
+-- the memory that it is given for the loads. Assumes nothing.
 use Rattle.std.specs.Prelude.{Option}
 use Rattle.calendar.specs.declared.Window.{Window}
 use mathlib.Core.Path.{◌≡◌, refl, sym, ap, ◌∙◌}
 use mathlib.Core.Bool.{true}
 use Rattle.std.specs.Prelude.{None, Some}
 use mathlib.Core.List.{List, [], ◌∷◌, ◌++◌, map, append_assoc, append-nil, map-append}
-use Prim.Native.Nat.{ℕ, suc, ◌+◌, ◌-◌, ◌≤◌, ◌<◌}
+use Prim.Native.Nat.{ℕ, zero, suc, ◌+◌, ◌-◌, ◌≤◌, ◌<◌}
 use native.Mathlib.Omega.{arith}
-use lib.ListN.{length, get_or, set, drop, length-set, length-map, length-append}
-use lib.Seq.{drop-cons, set_at}
+use lib.ListN.{length, get_or, set, take, drop, replicate, length-replicate, length-set, length-map, length-append}
+use lib.Seq.{drop-cons, set_at, get_or-take, length-take-le}
+use Rattle.std.proofs.lemmas.List.{set-set, set-get_or}
 use Rattle.units.specs.Cells.{written}
 use Rattle.units.specs.Limits.{most_tasks}
 use Rattle.units.specs.declared.Bounds.{Bounds}
@@ -218,8 +219,8 @@ module _ {P : Plan} {opening kinds₀ tasks₀ hours₀ : List ℕ} {count : ℕ
 
       -- the next turn, on the boxes and the answers once the bounds are moved
       module _ {i : ℕ} {b : Bounds} (m : j ≡ Moved i b) (tells : r ≡ Some (turn x (Moved i b)) → i < task_count P) where
-        there : i < task_count P
-        there = tells (found ∙ ap (λ (k : Judged). Some (turn x k)) m)
+        pub moved_task : i < task_count P
+        moved_task = tells (found ∙ ap (λ (k : Judged). Some (turn x k)) m)
 
         next-moves : next P boxes ≡ Some (moves x (with_bounds boxes i b))
         next-moves = next-is ∙ ap Some (admitted-moves boxes x m)
@@ -229,7 +230,7 @@ module _ {P : Plan} {opening kinds₀ tasks₀ hours₀ : List ℕ} {count : ℕ
         moves_so = next-rightly P boxes filter_order (moves x (with_bounds boxes i b)) next-moves
 
         pub filter-may-move : (i < most_tasks) × Fitting P.shifts (with_bounds boxes i b) i
-        filter-may-move = may-move P boxes fits at.keeps x i b moves_so there
+        filter-may-move = may-move P boxes fits at.keeps x i b moves_so moved_task
 
         pub goes_on : {boxes' : List ℕ} {fits' : List (Option Window)}
             → (boxes' ≡ with_bounds boxes i b) × (fits' ≡ set fits i (fit_at P.shifts boxes' i))
@@ -237,7 +238,7 @@ module _ {P : Plan} {opening kinds₀ tasks₀ hours₀ : List ℕ} {count : ℕ
             (set hours count x.hour) fits'
         goes_on {boxes'} {fits'} (e, f) =
             record {
-              keeps = keeps-moved P boxes fits at.keeps x i b moves_so there (e, f);
+              keeps = keeps-moved P boxes fits at.keeps x i b moves_so moved_task (e, f);
               taken =
                   step-taken P opening kinds₀ tasks₀ hours₀ count boxes kinds tasks hours at.taken x boxes'
                   (next-moves ∙ ap (λ (left : List ℕ). Some (moves x left)) (sym e))
@@ -251,3 +252,27 @@ module _ {P : Plan} {opening kinds₀ tasks₀ hours₀ : List ℕ} {count : ℕ
               each_task = at.each_task;
               each_hour = at.each_hour;
             }
+
+-- the answers before one task's became another
+pub put-back : (fits : List (Option Window)) {fits' : List (Option Window)} (i : ℕ) (fit : Option Window) → fits' ≡ set fits i fit
+    → set fits' i (get_or fits i None) ≡ fits
+put-back fits i fit e =
+    ap (λ (others : List (Option Window)). set others i (get_or fits i None)) e ∙ set-set fits i fit (get_or fits i None) ∙ set-get_or fits i None
+
+-- ---- the first numbers of an array of zeros, lent
+
+all-zero : (n k : ℕ) → ◌≡◌ {A = ℕ} (get_or (replicate n 0) k 0) 0
+all-zero zero k = refl
+all-zero (suc n) zero = refl
+all-zero (suc n) (suc k) = all-zero n k
+
+module _ (size count : ℕ) (l : count ≤ size) where
+  -- the array that is lent
+  abbrev pub zeros : List ℕ
+  zeros = replicate size 0
+
+  pub lent_length : count ≡ length (take count zeros)
+  lent_length = sym (length-take-le count zeros (rw (length-replicate size) l))
+
+  pub lent-zero : (k : ℕ) → k < length (take count zeros) → get_or (take count zeros) k 0 ≡ 0
+  lent-zero k m = get_or-take count zeros k 0 (omega (arith, lent_length)) ∙ all-zero size k

@@ -1,5 +1,7 @@
 // The filter: takes the first admitted step of each turn, and logs it.
-ghost use Rattle.std.specs.Prelude.{true, ◌≡◌, ◌+◌, ◌^◌, ◌<◌, length, Ok};
+ghost use Rattle.std.specs.Prelude.{true, ◌≡◌, ℕ, ◌+◌, ◌*◌, ◌^◌, ◌≤◌, ◌<◌, length, get_or, Ok};
+ghost use Rattle.units.specs.Limits.{most_hours, most_rooms};
+ghost use Rattle.plan.specs.Plan.{room_count};
 ghost use Rattle.plan.specs.Lent.{plan_in};
 ghost use Rattle.plan.specs.Passed.{Passed};
 ghost use Rattle.steps.specs.Filter.{run};
@@ -10,10 +12,12 @@ ghost use Rattle.steps.specs.Claim.{FilterHolds};
 use crate::{entry, kept};
 use plan::{Plan, Refusal};
 use steps::{Ending, Filtered, Judged};
-use turns::State;
+use turns::{State, load};
+use units::{Duration, MOST_ROOMS};
 
-// The run on a plan that passed its tests, after so many steps taken before. The answers of the calendar rule are kept, and of the moved
-// task's only what the step changed is worked out.
+// The run on a plan that passed its tests, after so many steps taken before, with memory for the loads of the hours, which is 0. The answers of the
+// calendar rule are kept, and of the moved task's only what the step changed is worked out; the loads are kept too, and mended by its old and its new
+// compulsory part.
 fn run_filter(
     plan: &Plan,
     boxes: &mut [u16],
@@ -21,16 +25,20 @@ fn run_filter(
     log_tasks: &mut [u16],
     log_hours: &mut [u16],
     taken: usize,
+    loads: &mut [u16],
 ) -> Filtered
     requires passed { Passed (plan_in plan.now) boxes.old
         × (one_for_each_step log_kinds.old log_tasks.old log_hours.old ≡ true) }
     requires count_fits { taken + length log_kinds.old < 2 ^ 64 }
+    requires loads { let P = plan_in plan.now in
+        (length loads.old ≡ room_count P * P.shifts.hours) × ((k : ℕ) → k < length loads.old → get_or loads.old k 0 ≡ 0) }
     ensures { let P = plan_in plan.now in
         let run = run P boxes.old (length log_kinds.old) in
         filter_end (filter_answer (Ok result)) boxes.new log_kinds.new log_tasks.new log_hours.new
         ≡ logged_from taken run log_kinds.old log_tasks.old log_hours.old }
 {
     let mut answers = kept::all_answers(&plan.shifts, boxes);
+    load::fill_loads(plan, &answers.fits, loads);
     // Where the next step goes in each of the three slices, and how many steps the answer counts.
     let mut count: usize = 0;
     loop {
@@ -40,7 +48,7 @@ fn run_filter(
             boxes,
             fits: &answers.fits,
         };
-        let Some(next) = state.next_turn() else {
+        let Some(next) = state.next_turn(loads) else {
             return Filtered {
                 ending: Ending::Settled,
                 count: taken + count,
@@ -62,11 +70,25 @@ fn run_filter(
                 count: taken + count,
             };
         };
+        let was = answers.fits[task as usize];
         kept::move_bounds(&plan.shifts, boxes, &mut answers, task, bounds);
+        load::mend_loads(plan, &answers.fits, loads, task as usize, was);
     }
 }
 
-// The filter from a count on: after so many steps taken before, on the boxes that they left. The answer counts from the run's first step.
+// The most loads: one an hour in each room.
+const MOST_LOADS: usize = MOST_ROOMS * Duration::MOST as usize;
+
+// How many loads a plan has.
+fn load_count(plan: &Plan) -> usize
+    requires { let P = plan_in plan.now in (room_count P ≤ most_rooms) × (P.shifts.hours ≤ most_hours) }
+    ensures { let P = plan_in plan.now in (result ≡ room_count P * P.shifts.hours) × (result ≤ most_rooms * most_hours) }
+{
+    plan.rooms() * plan.shifts.hours.0 as usize
+}
+
+// The filter from a count on: after so many steps taken before, on the boxes that they left. The answer counts from the run's first step. Memory is
+// fixed, so that the loads have one of two sizes: a short plan, or one of few rooms, needs little, and it is set to 0.
 pub fn filter_from(
     plan: &Plan,
     boxes: &mut [u16],
@@ -81,7 +103,29 @@ pub fn filter_from(
         ≡ filter_from P boxes.old log_kinds.old log_tasks.old log_hours.old taken }
 {
     entry::test_entry(plan, boxes, log_kinds, log_tasks, log_hours)?;
-    Ok(run_filter(plan, boxes, log_kinds, log_tasks, log_hours, taken))
+    let count = load_count(plan);
+    if count <= Duration::MOST as usize {
+        let mut loads = [0u16; Duration::MOST as usize];
+        return Ok(run_filter(
+            plan,
+            boxes,
+            log_kinds,
+            log_tasks,
+            log_hours,
+            taken,
+            &mut loads[..count],
+        ));
+    }
+    let mut loads = [0u16; MOST_LOADS];
+    Ok(run_filter(
+        plan,
+        boxes,
+        log_kinds,
+        log_tasks,
+        log_hours,
+        taken,
+        &mut loads[..count],
+    ))
 }
 
 // The filter, with the log lent as its room. A refused plan changes nothing; log cells past the count are untouched.

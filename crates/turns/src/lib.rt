@@ -12,7 +12,7 @@ use plan::Plan;
 use units::Bounds;
 
 pub mod judge;
-mod load;
+pub mod load;
 mod search;
 mod side;
 pub mod turn;

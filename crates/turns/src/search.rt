@@ -1,5 +1,5 @@
 // The search for the first admitted step, in the filter's order.
-ghost use Rattle.std.specs.Prelude.{◌≡◌, ℕ, ◌*◌, ◌≤◌, ◌<◌, length, get_or, Some};
+ghost use Rattle.std.specs.Prelude.{◌≡◌, ℕ, ◌*◌, ◌≤◌, ◌<◌, length, Some};
 ghost use Rattle.units.specs.Limits.{most_hours};
 ghost use Rattle.plan.specs.Plan.{room_count, task_count};
 ghost use Rattle.plan.specs.Lent.{plan_in};
@@ -12,7 +12,7 @@ use crate::State;
 use crate::side::Side;
 use calendar::Window;
 use steps::{Judged, Step, StepKind};
-use units::{Bounds, Duration, Height, Hour, MOST_ROOMS};
+use units::{Bounds, Height, Hour};
 
 // Whether C is admitted: the task has no valid triple, or a bound changes.
 fn is_narrowed(fit: Option<Window>, b: Bounds) -> bool
@@ -53,9 +53,6 @@ const ORDER: [StepKind; 6] = [
     StepKind::Forward,
     StepKind::Backward,
 ];
-
-// The most loads: one an hour in each room.
-const MOST_LOADS: usize = MOST_ROOMS * Duration::MOST as usize;
 
 impl State<'_> {
     // The first C, by task.
@@ -156,34 +153,17 @@ impl State<'_> {
         }
     }
 
-    // The first admitted step, with memory for the loads of the hours, which is 0.
-    fn first_with_loads(&self, loads: &mut [u16]) -> Option<Step>
-        requires { let P = plan_in self.now.plan.now in
-            (length loads.old ≡ room_count P * P.shifts.hours) × ((k : ℕ) → k < length loads.old → get_or loads.old k 0 ≡ 0) }
+    // The first admitted step, by the loads.
+    pub(crate) fn next_step(&self, loads: &[u16]) -> Option<Step>
+        requires { let P = plan_in self.now.plan.now in Loaded P.shifts.hours (room_count P) (task_count P) loads.now self.now.fits.now P.heights }
         ensures { let P = plan_in self.now.plan.now in
             result ≡ first_by P (admitted_by P self.now.boxes.now self.now.fits.now) filter_order }
     {
-        self.fill_loads(loads);
         for kind in ORDER {
             if let Some(found) = self.first_of_kind(kind, loads) {
                 return Some(found);
             }
         }
         None
-    }
-
-    // The first admitted step. Memory is fixed, so that the loads have one of two sizes: a short plan, or one of few rooms, needs little, and it is set
-    // to 0 at each turn.
-    pub(crate) fn next_step(&self) -> Option<Step>
-        ensures { let P = plan_in self.now.plan.now in
-            result ≡ first_by P (admitted_by P self.now.boxes.now self.now.fits.now) filter_order }
-    {
-        let count = self.plan.rooms() * self.plan.shifts.hours.0 as usize;
-        if count <= Duration::MOST as usize {
-            let mut loads = [0u16; Duration::MOST as usize];
-            return self.first_with_loads(&mut loads[..count]);
-        }
-        let mut loads = [0u16; MOST_LOADS];
-        self.first_with_loads(&mut loads[..count])
     }
 }

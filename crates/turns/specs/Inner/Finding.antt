@@ -1,7 +1,7 @@
 -- The words of the search for the first admitted step. Only contracts of private functions cite this; 01 has no such terms.
-use Rattle.std.specs.Prelude.{Bool, true, false, ◌≡◌, List, ℕ, ◌+◌, ◌*◌, ◌<◌, ltb, length, get_or, if◌then◌else◌}
+use Rattle.std.specs.Prelude.{Bool, true, false, ◌≡◌, List, ℕ, ◌+◌, ◌*◌, ◌<◌, leb, ltb, length, get_or, if◌then◌else◌}
 use Rattle.std.specs.Prelude.{Option, None}
-use Rattle.units.specs.Choice.{some_if, first_of}
+use Rattle.units.specs.Choice.{◌and◌, some_if, first_of}
 use Rattle.units.specs.declared.Bounds.{Bounds}
 use Rattle.plan.specs.Plan.{Plan, room_count, task_count, pair_count, capacity_of, room_part, pair_of}
 use Rattle.plan.specs.Boxes.{bounds_at}
@@ -11,6 +11,7 @@ use Rattle.steps.specs.declared.Step.{Step}
 use Rattle.steps.specs.declared.Judged.{Judged}
 use Rattle.steps.specs.Load.{must_run}
 use Rattle.steps.specs.Steps.{step, letter_c, letter_o, letter_l, letter_u, letter_f, letter_b}
+use Rattle.turns.specs.declared.load.Part.{Part}
 use Rattle.turns.specs.Inner.Kept.{load_of, on_judged, calendar_by, pair_by, admitted_by}
 
 -- a step so judged is admitted
@@ -35,6 +36,10 @@ end_hour lower w b = if lower then ect w else b.latest.0 + b.shortest.0
 -- what a task's compulsory part adds to the load of an hour
 unfoldable pub part_at : Option Window → ℕ → ℕ → ℕ
 part_at fit height t = if must_run fit t then height else 0
+
+-- and what one does that has these hours
+unfoldable pub share_in : Part → ℕ → ℕ → ℕ
+share_in part height t = if leb part.from.0 t and ltb t part.end.0 then height else 0
 
 -- the numbers are the loads of the hours, room by room
 pub record Loaded (hours rooms tasks : ℕ) (loads : List ℕ) (fits : List (Option Window)) (heights : List ℕ) : Type 0 where

@@ -1,16 +1,17 @@
-use mathlib.Core.Path.{sym}
-use Prim.Native.Nat.{◌*◌}
-use native.Mathlib.Nat.{mul-le-mul}
-use Rattle.units.specs.Limits.{most_hours, most_rooms}
-use Rattle.turns.proofs.Loading.{lent_length, lent-zero}
+use mathlib.Core.Path.{sym, ◌∙◌}
+use Rattle.units.proofs.Searching.{unfound-first, unfound-next, unfound-hit, unfound-end}
+use Rattle.turns.proofs.Searching.{in-order}
 use Rattle.turns.proofs.State.next_step.Goals as goal
 
-pub first_with_loads-requires : goal.first_with_loads-requires
-first_with_loads-requires c =
-    let few = rw c.rooms.ensures at c.if-count.true in
-    rw c.rooms.ensures (sym (lent_length most_hours _ few), lent-zero most_hours _ few)
+pub loop-kind-init : goal.loop-kind-init
+loop-kind-init c = unfound-first
 
-pub first_with_loads-requires-2 : goal.first_with_loads-requires-2
-first_with_loads-requires-2 c =
-    let few = mul-le-mul c.args.self.now.ready.rooms_ready.few_rooms c.args.self.now.short in
-    rw c.rooms.ensures (sym (lent_length (most_rooms * most_hours) _ few), lent-zero (most_rooms * most_hours) _ few)
+pub returns-in-Some : goal.returns-in-Some
+returns-in-Some c =
+    sym (unfound-hit c.loop-kind.invariant c.loop-kind-test.true (sym c.first_of_kind.ensures ∙ c.in-Some.is)) ∙ in-order _ _ _
+
+pub loop-kind-preserved : goal.loop-kind-preserved
+loop-kind-preserved c = unfound-next c.loop-kind.invariant c.loop-kind-test.true (sym c.first_of_kind.ensures ∙ c.in_default.is)
+
+pub returns : goal.returns
+returns c = sym (unfound-end c.loop-kind.invariant c.loop-kind-test.false) ∙ in-order _ _ _

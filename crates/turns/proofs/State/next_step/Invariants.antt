@@ -3,7 +3,7 @@ use Rattle.units.proofs.Searching.{Unfound}
 use Rattle.plan.specs.Lent.{plan_in}
 use Rattle.steps.specs.declared.StepKind.TheVariants.{Calendar}
 use Rattle.turns.proofs.Searching.{of_kind}
-use Rattle.turns.proofs.State.first_with_loads.Given as goal
+use Rattle.turns.proofs.State.next_step.Given as goal
 
 abbrev pub invariant-loop-kind : goal.invariant-loop-kind
 invariant-loop-kind l =
