@@ -1,6 +1,6 @@
 /* Times the library against a plain implementation of the same definitions in C: same plans, same memory, one run. Both must leave the same
-   answer, boxes and log before a time is printed. The plain one keeps each task's answer of the calendar rule and makes the load of each hour
-   in each room once a turn, as the library does; its calendar rule tries each start and each elapsed time with running counts. */
+   answer, boxes and log before a time is printed. The plain one keeps each task's answer of the calendar rule, works the moved task's out anew and
+   makes the load of each hour in each room once a turn; its calendar rule tries each start and each elapsed time with running counts. */
 
 #include "../crates/capi/shimlantern.h"
 

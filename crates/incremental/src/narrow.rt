@@ -16,7 +16,8 @@ const NEAR: u16 = 24;
 
 // Whether a box has no starts but some of the larger one's, and its bounds of elapsed time and overtime.
 pub fn has_fewer_starts(small: Bounds, large: Bounds) -> bool
-    ensures { result ≡ true → FewerStarts small large }
+    ensures holds { result ≡ true → FewerStarts small large }
+    ensures told { FewerStarts small large → result ≡ true }
 {
     small.earliest <= small.latest
         && large.earliest <= small.earliest

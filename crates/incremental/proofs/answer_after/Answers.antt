@@ -19,4 +19,4 @@ returns-then-eq c =
 pub narrowed-requires-clause-had : goal.narrowed-requires-clause-had
 narrowed-requires-clause-had c =
     let is = sym c.requires.keeps.is ∙ c.in-Some.is in
-    (record { large = c.args.before; fewer = c.has_fewer_starts.ensures c.if-has_fewer_starts.true; is = is }, c.requires.keeps.starts c.in-Some.w c.in-Some.is)
+    (record { large = c.args.before; fewer = c.has_fewer_starts.ensures.holds c.if-has_fewer_starts.true; is = is }, c.requires.keeps.starts c.in-Some.w c.in-Some.is)
