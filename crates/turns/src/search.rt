@@ -70,9 +70,7 @@ impl State<'_> {
         None
     }
 
-    // The first O, by room, then hour, by the loads. Not inlined: within the loop over the kinds the jump out of its own loop needs the longer form, and
-    // the filter took 1.08 times as long in eight rooms (`bench/run`).
-    #[inline(never)]
+    // The first O, by room, then hour, by the loads.
     fn first_overload(&self, loads: &[u16]) -> Option<Step>
         requires { let P = plan_in self.now.plan.now in length loads.now ≡ room_count P * P.shifts.hours }
         ensures { result ≡ first_overload (plan_in self.now.plan.now) loads.now }
@@ -116,7 +114,7 @@ impl State<'_> {
     }
 
     // The first L, or the first U, by task, then hour, by the loads. A task with no valid triple is skipped, and so are the hours in which none of its
-    // steps can be admitted.
+    // steps can be admitted; of the others the first are passed over, as far as no room has an excess.
     fn first_excess(&self, side: Side, loads: &[u16]) -> Option<Step>
         requires { let P = plan_in self.now.plan.now in Loaded P.shifts.hours (room_count P) (task_count P) loads.now self.now.fits.now P.heights }
         ensures { result ≡ first_excess (plan_in self.now.plan.now) self.now.boxes.now self.now.fits.now (is_lower side) }
