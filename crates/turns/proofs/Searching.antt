@@ -13,11 +13,8 @@ use borrow.Author.Tests.{lt-ltb, le-ltb, le-leb, lt-leb}
 use Rattle.units.specs.Choice.{◌and◌, some_if, on_option, ◌or_else◌, first_of}
 use Rattle.units.specs.declared.Bounds.{Bounds}
 use Rattle.units.specs.declared.Pair.{Pair}
-use Rattle.std.specs.Option.{MatchOption, option_map}
-use Rattle.std.specs.List.{AllWithin, HoldsAt}
-use Rattle.units.proofs.Choices.{and_both, not_left, not_right, if-true, if-all, some-if, none-if}
+use Rattle.units.proofs.Choices.{and_both, not_left, not_right, if-true, if-all, none-if}
 use Rattle.units.proofs.Choices.{first-all-none}
-use Rattle.units.proofs.Choices.{first-hit}
 use Rattle.plan.specs.Plan.{Plan, room_count, task_count, pair_count, capacity_of, room_part, heights_of, pair_of}
 use Rattle.plan.specs.Boxes.{bounds_at}
 use Rattle.plan.proofs.Passed.{room-length, room_at}
@@ -35,23 +32,6 @@ use Rattle.turns.specs.Inner.Kept.{load_of, excess_by, on_judged, calendar_by, l
 use Rattle.turns.specs.Inner.Kept.{admitted_by}
 use Rattle.turns.specs.Inner.Finding.{admits, letter_of, pair_letter_of, first_hour, end_hour, Loaded, first_calendar, room_overload}
 use Rattle.turns.specs.Inner.Finding.{first_overload, first_pair}
-
--- ---- the first of several
-
--- the first number of a list that passes a test, as the library's own says it
-module _ {A : Type 0} (test : ℕ → Bool) (f : ℕ → A) (xs : List ℕ) where
-  abbrev At : ℕ → Option A
-  At i = some_if (test (get_or xs i 0)) (f i)
-
-  none-to : (n : ℕ) → AllWithin (λ x. test x ≡ false) xs 0 n → first_of At n ≡ None
-  none-to n h = first-all-none At n (λ i l. none-if _ _ (h i 0 (omega arith) l))
-
-  pub first-position : (r : Option ℕ)
-      → MatchOption r (AllWithin (λ x. test x ≡ false) xs 0 (length xs))
-      (λ i. (i < length xs) × HoldsAt (λ x. test x ≡ true) xs i × AllWithin (λ x. test x ≡ false) xs 0 i)
-      → first_of At (length xs) ≡ option_map f r
-  first-position None h = none-to _ h
-  first-position (Some i) h = first-hit At i _ _ h.0 (none-to i h.2) (some-if _ _ (h.1 0))
 
 -- ---- what is admitted
 
@@ -232,6 +212,14 @@ module _ (P : Plan) (boxes : List ℕ) (fits : List (Option Window)) where
           → from ≤ t → t < clip
           → i < task_count P → r ≡ excess_by P fits w i t → at_hour i t ≡ some_if r (step (letter_of lower) i t)
       test-hour from end clip t r p q s k l m h = excess-is i t w b e f lower m (omega arith) (omega arith) (omega arith) ∙ rw h
+
+      -- the hours before the first, and those after it that are passed over
+      pub passed : (from end clip t : ℕ) → from ≡ first_hour lower w b → end ≡ end_hour lower w b → clip ≡ min end P.shifts.hours
+          → i < task_count P → (from ≤ t) × ((u : ℕ) → from ≤ u → u < t → (u < clip) × (excess_by P fits w i u ≡ false))
+          → first_of (at_hour i) t ≡ None
+      passed from end clip t p q s m h =
+          first_rest (at_hour i) from t (early from p)
+          (λ u k l. let none = h.1 u k l in test-hour from end clip u false p q s k none.0 m (sym none.1))
 
 -- ---- what the loop over the tasks finds of C
 

@@ -13,6 +13,7 @@ use units::Bounds;
 
 pub mod judge;
 pub mod load;
+mod scan;
 mod search;
 mod side;
 pub mod turn;

@@ -1,15 +1,15 @@
 // The search for the first admitted step, in the filter's order.
-ghost use Rattle.std.specs.Prelude.{◌≡◌, ℕ, ◌*◌, ◌≤◌, ◌<◌, length, Some};
+ghost use Rattle.std.specs.Prelude.{false, ◌≡◌, ℕ, ◌*◌, ◌≤◌, ◌<◌, length, Some};
 ghost use Rattle.units.specs.Limits.{most_hours};
 ghost use Rattle.plan.specs.Plan.{room_count, task_count};
 ghost use Rattle.plan.specs.Lent.{plan_in};
 ghost use Rattle.steps.specs.Steps.{kind_in};
 ghost use Rattle.steps.specs.Filter.{first_of_kind, first_by, filter_order};
-ghost use Rattle.turns.specs.Inner.Kept.{calendar_by, admitted_by, is_lower};
+ghost use Rattle.turns.specs.Inner.Kept.{excess_by, calendar_by, admitted_by, is_lower};
 ghost use Rattle.turns.specs.Inner.Finding.{admits, Loaded, first_calendar, room_overload, first_overload, first_excess, first_pair};
 
-use crate::State;
 use crate::side::Side;
+use crate::{State, scan};
 use calendar::Window;
 use steps::{Judged, Step, StepKind};
 use units::{Bounds, Height, Hour};
@@ -34,14 +34,12 @@ fn room_overload(room: u16, loads: &[u16], capacity: Height) -> Option<Step>
     requires { length loads.now ≤ most_hours }
     ensures { result ≡ room_overload room loads.now capacity.0 }
 {
-    loads
-        .iter()
-        .position(|load| Height(*load) > capacity)
-        .map(|hour| Step {
-            kind: StepKind::Overload.letter(),
-            task: room,
-            hour: hour as u16,
-        })
+    let hour = scan::first_above(loads, capacity)?;
+    Some(Step {
+        kind: StepKind::Overload.letter(),
+        task: room,
+        hour: hour as u16,
+    })
 }
 
 // The kinds in the filter's order.
@@ -72,9 +70,7 @@ impl State<'_> {
         None
     }
 
-    // The first O, by room, then hour, by the loads. Not inlined: within the loop over the kinds the jump out of its own loop needs the longer form, and
-    // the filter took 1.08 times as long in eight rooms (`bench/run`).
-    #[inline(never)]
+    // The first O, by room, then hour, by the loads.
     fn first_overload(&self, loads: &[u16]) -> Option<Step>
         requires { let P = plan_in self.now.plan.now in length loads.now ≡ room_count P * P.shifts.hours }
         ensures { result ≡ first_overload (plan_in self.now.plan.now) loads.now }
@@ -89,8 +85,36 @@ impl State<'_> {
         None
     }
 
+    // Of the hours from one to before another, those that can be passed over, up to the one that is answered: task i has no excess in them.
+    fn pass_hours(&self, w: Window, i: usize, loads: &[u16], from: Hour, end: Hour) -> Hour
+        requires loaded { let P = plan_in self.now.plan.now in
+            Loaded P.shifts.hours (room_count P) (task_count P) loads.now self.now.fits.now P.heights }
+        requires inside { let P = plan_in self.now.plan.now in (i < task_count P) × (end.0 ≤ P.shifts.hours) }
+        ensures { let P = plan_in self.now.plan.now in (from.0 ≤ result.0)
+            × ((t : ℕ) → from.0 ≤ t → t < result.0 → (t < end.0) × (excess_by P self.now.fits.now w i t ≡ false)) }
+    {
+        if end <= from {
+            return from;
+        }
+        let hours = self.plan.shifts.hours.0 as usize;
+        let mut passed = end.0 as usize;
+        for (room, capacity) in self.plan.capacities.iter().enumerate() {
+            let height = plan::height_at(self.plan.heights_of(room), i);
+            let in_room = plan::room_part(loads, hours, room);
+            passed = scan::pass_room(
+                in_room,
+                w,
+                height,
+                Height(*capacity),
+                from.0 as usize,
+                passed,
+            );
+        }
+        Hour(passed as u16)
+    }
+
     // The first L, or the first U, by task, then hour, by the loads. A task with no valid triple is skipped, and so are the hours in which none of its
-    // steps can be admitted.
+    // steps can be admitted; of the others the first are passed over, as far as no room has an excess.
     fn first_excess(&self, side: Side, loads: &[u16]) -> Option<Step>
         requires { let P = plan_in self.now.plan.now in Loaded P.shifts.hours (room_count P) (task_count P) loads.now self.now.fits.now P.heights }
         ensures { result ≡ first_excess (plan_in self.now.plan.now) self.now.boxes.now self.now.fits.now (is_lower side) }
@@ -104,7 +128,8 @@ impl State<'_> {
             };
             let b = plan::bounds_at(self.boxes, i);
             let end = side.end_hour(w, b).0.min(self.plan.shifts.hours.0);
-            for t in side.first_hour(w, b).0..end {
+            let from = self.pass_hours(w, i, loads, side.first_hour(w, b), Hour(end));
+            for t in from.0..end {
                 let at = Hour(t);
                 let load_in = |room| plan::height_at(loads, room * hours + at.0 as usize);
                 if self.has_excess(w, i, at, load_in) {

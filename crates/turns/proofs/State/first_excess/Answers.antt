@@ -8,7 +8,7 @@ use Rattle.units.proofs.Multiples.{part-within}
 use Rattle.units.proofs.Searching.{unfound-first, unfound-next, unfound-hit, unfound-end}
 use Rattle.plan.specs.Plan.{heights_of}
 use Rattle.turns.specs.Inner.Finding.{first_excess}
-use Rattle.turns.proofs.Searching.{never, early, late, test-hour}
+use Rattle.turns.proofs.Searching.{never, passed, late, test-hour}
 use Rattle.turns.proofs.State.first_excess.Goals as goal
 
 pub outer-init : goal.outer-init
@@ -20,15 +20,20 @@ outer-preserved-in_default c =
     (inv.0, unfound-next inv.1 (rw c.tasks-i-end.ensures at c.outer-test.true) (never _ _ _ _ _ c.in_default.is))
 
 pub loop-t-init : goal.loop-t-init
-loop-t-init c = (c.outer.invariant.0, early _ _ _ _ _ _ _ c.in-Some.is c.bounds_at-b.ensures _ c.first_hour-t.ensures)
+loop-t-init c =
+    let there = rw c.tasks-i-end.ensures at c.outer-test.true in (
+      c.outer.invariant.0,
+      passed _ _ _ _ _ _ _ c.in-Some.is c.bounds_at-b.ensures _ _ _ _ c.first_hour.ensures c.end_hour.ensures c.min-end.ensures there
+          c.pass_hours-from.ensures,
+    )
 
 pub loop-t-preserved : goal.loop-t-preserved
 loop-t-preserved c =
     let inv = c.loop-t.invariant in
     let there = rw c.tasks-i-end.ensures at c.outer-test.true in
     let tested =
-    test-hour _ _ _ _ _ _ _ c.in-Some.is c.bounds_at-b.ensures _ _ _ _ _ c.first_hour-t.ensures c.end_hour.ensures
-    c.min-end.ensures c.loop-t.auto.t c.loop-t-test.true there c.has_excess.ensures in
+    test-hour _ _ _ _ _ _ _ c.in-Some.is c.bounds_at-b.ensures _ _ _ _ _ c.first_hour.ensures c.end_hour.ensures
+    c.min-end.ensures (omega (arith, c.pass_hours-from.ensures.0, c.loop-t.auto.t)) c.loop-t-test.true there c.has_excess.ensures in
     (inv.0, first_next _ _ inv.1 ∙ tested ∙ none-if _ _ c.if-has_excess.false)
 
 pub outer-preserved : goal.outer-preserved
@@ -48,8 +53,8 @@ unfolding first_excess
 returns-then-has_excess c =
     let there = rw c.tasks-i-end.ensures at c.outer-test.true in
     let tested =
-    test-hour _ _ _ _ _ _ _ c.in-Some.is c.bounds_at-b.ensures _ _ _ _ _ c.first_hour-t.ensures c.end_hour.ensures
-    c.min-end.ensures c.loop-t.auto.t c.loop-t-test.true there c.has_excess.ensures in
+    test-hour _ _ _ _ _ _ _ c.in-Some.is c.bounds_at-b.ensures _ _ _ _ _ c.first_hour.ensures c.end_hour.ensures
+    c.min-end.ensures (omega (arith, c.pass_hours-from.ensures.0, c.loop-t.auto.t)) c.loop-t-test.true there c.has_excess.ensures in
     let below : c.loop-t.t < c.args.self.now.plan.now.shifts.hours.0 = omega (arith, c.loop-t-test.true, c.min-end.ensures) in
     rw c.letter.ensures
     (sym

@@ -1,21 +1,29 @@
-use Rattle.std.proofs.Common.{rules}
-use mathlib.Core.Path.{◌≡◌, sym, ◌∙◌}
-use mathlib.Core.Bool.{true, false}
+use mathlib.Core.Path.{sym, ◌∙◌}
+use native.Mathlib.Omega.{arith}
 use lib.Dec.{ltb}
-use Rattle.std.specs.Option.{option_map}
-use Rattle.std.proofs.lemmas.Iterator.{YieldsList-from_slice, IsFirst-from_position}
-use Rattle.units.proofs.Hours.{gt-cmp}
+use lib.ListN.{get_or}
 use Rattle.steps.specs.Steps.{step, letter_o}
 use Rattle.turns.specs.Inner.Finding.{room_overload}
-use Rattle.turns.proofs.Searching.{first-position}
+use Rattle.turns.proofs.Scanning.{first-passes, made-none, made-of}
 use Rattle.turns.proofs.search.room_overload.Goals as goal
+
+pub returns-in_err-hour : goal.returns-in_err-hour
+unfolding room_overload
+returns-in_err-hour c =
+    c.from_residual.ensures
+    ∙ sym
+    (made-none (step letter_o c.args.room) (λ t. ltb c.args.capacity.0 (get_or c.args.loads.now t 0)) _
+    (sym c.first_above.ensures ∙ c.in_err-hour.was))
+
+pub overflow_cast-result : goal.overflow_cast-result
+overflow_cast-result c =
+    let found = first-passes (λ t. ltb c.args.capacity.0 (get_or c.args.loads.now t 0)) _ _ (sym c.first_above.ensures ∙ c.in_ok-hour.was) in
+    omega (arith, found.0, c.requires)
 
 pub returns : goal.returns
 unfolding room_overload
 returns c =
-    let capacity = c.args.capacity.0 in
-    let found = IsFirst-from_position _ _ c.position.result (λ x. ltb capacity x ≡ true) (λ x. ltb capacity x ≡ false) c.position.ensures.ran
-    (YieldsList-from_slice c.args.loads.now c.iter.ensures.rest)
-    (λ x q k. sym (gt-cmp _ _) ∙ search rules) (λ x q k. (search rules, sym (gt-cmp _ _) ∙ search rules)) in
-    let made : c.map.result ≡ option_map (step letter_o c.args.room) c.position.result = search rules in
-    made ∙ sym (first-position (ltb capacity) (step letter_o c.args.room) _ _ found)
+    rw c.letter.ensures
+    (sym
+    (made-of (step letter_o c.args.room) (λ t. ltb c.args.capacity.0 (get_or c.args.loads.now t 0)) _ _
+    (sym c.first_above.ensures ∙ c.in_ok-hour.was)))
