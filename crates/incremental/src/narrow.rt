@@ -1,7 +1,8 @@
 // The answer for a box with fewer starts. Each of its bounds either stands, since a triple that attains it still lies in the box, or is found in a part
 // of the box; where it is not found there, the answer is not found here.
 ghost use Rattle.std.specs.Prelude.{◌≡◌, true, ◌≤◌, Option, Some, None, if◌then◌else◌};
-ghost use Rattle.units.specs.Limits.{within};
+ghost use Rattle.units.specs.Limits.{hour, within};
+ghost use Rattle.calendar.specs.declared.Witnessed.{Witnessed};
 ghost use Rattle.calendar.specs.Rule.{witnessed_rule};
 ghost use Rattle.calendar.specs.Inner.Ready.{RuleReady};
 ghost use Rattle.incremental.specs.Inner.Keeps.{Keeps, StartsKept, FewerStarts, Had, HasFirst, HasLast, starting_in};
@@ -11,8 +12,10 @@ use calendar::{Window, Witnessed};
 use stretches::Task;
 use units::{Bounds, Hour};
 
-// How many hours beside a bound that has moved, and from the middle of the box on, are looked at.
+// How many hours beside a bound that has moved, and from the middle of the box on, are looked at; and from how many on a box is worth it.
 const NEAR: u16 = 24;
+
+const WIDE: u16 = 96;
 
 // Whether a box has no starts but some of the larger one's, and its bounds of elapsed time and overtime.
 pub fn has_fewer_starts(small: Bounds, large: Bounds) -> bool
@@ -52,7 +55,21 @@ fn rule_in(task: &Task, first: Hour, last: Hour) -> Option<Witnessed>
     })
 }
 
-// A window with the least start and the least end: the one before, where its first start is one of the box, or the one of the box's first hours.
+// The same where the box is wide: else the whole of it is asked almost as soon, and has to be where the part does not do.
+fn part_rule(task: &Task, first: u16, last: u16) -> Option<Witnessed>
+    requires { RuleReady task.now.calendar.now task.now.bounds × (last ≤ task.now.bounds.latest.0)
+        × (task.now.bounds.earliest.0 ≤ task.now.bounds.latest.0) }
+    ensures { (found : Witnessed) → result ≡ Some found
+        → witnessed_rule task.now.calendar.now task.now.work_time.0 (starting_in task.now.bounds (hour first) (hour last)) ≡ Some found }
+{
+    if task.bounds.latest.0 - task.bounds.earliest.0 < WIDE {
+        return None;
+    }
+    rule_in(task, Hour(first), Hour(last))
+}
+
+// A window with the least start and the least end: the one before, where its first start is one of the box, or the one of the box's first hour, which
+// mostly has a valid triple, or of its first hours.
 fn with_first(task: &Task, w: Window) -> Option<Window>
     requires ready { RuleReady task.now.calendar.now task.now.bounds }
     requires had { Had task.now.calendar.now task.now.work_time.0 task.now.bounds w }
@@ -62,12 +79,14 @@ fn with_first(task: &Task, w: Window) -> Option<Window>
     if is_start(b, w.bounds.earliest) {
         return Some(w);
     }
-    let last = Hour((b.earliest.0 + NEAR).min(b.latest.0));
-    let near = rule_in(task, b.earliest, last)?;
+    if let Some(near) = rule_in(task, b.earliest, b.earliest) {
+        return Some(near.window);
+    }
+    let near = part_rule(task, b.earliest.0, (b.earliest.0 + NEAR).min(b.latest.0))?;
     Some(near.window)
 }
 
-// A window with the greatest start and the greatest end, likewise from the box's last hours.
+// A window with the greatest start and the greatest end, likewise from the box's last hour, or its last hours.
 fn with_last(task: &Task, w: Window) -> Option<Window>
     requires ready { RuleReady task.now.calendar.now task.now.bounds }
     requires had { Had task.now.calendar.now task.now.work_time.0 task.now.bounds w }
@@ -77,8 +96,11 @@ fn with_last(task: &Task, w: Window) -> Option<Window>
     if is_start(b, w.bounds.latest) {
         return Some(w);
     }
-    let first = Hour(b.latest.0.saturating_sub(NEAR).max(b.earliest.0));
-    let near = rule_in(task, first, b.latest)?;
+    if let Some(near) = rule_in(task, b.latest, b.latest) {
+        return Some(near.window);
+    }
+    let first = b.latest.0.saturating_sub(NEAR).max(b.earliest.0);
+    let near = part_rule(task, first, b.latest.0)?;
     Some(near.window)
 }
 
@@ -111,7 +133,7 @@ fn starts_of(task: &Task, w: Window, starts: Starts) -> Option<Starts>
     }
     let middle = b.earliest.0 + (b.latest.0 - b.earliest.0) / 2;
     let last = (middle + NEAR).min(b.latest.0);
-    let near = rule_in(task, Hour(middle), Hour(last))?;
+    let near = part_rule(task, middle, last)?;
     let found = near.window.bounds;
     let shortest = start_or(
         b,
@@ -152,10 +174,6 @@ pub fn narrowed(task: &Task, w: Window, starts: Starts) -> Option<Kept>
         × StartsKept task.now.calendar.now task.now.work_time.0 h.large w starts }
     ensures { (kept : Kept) → result ≡ Some kept → Keeps task.now.calendar.now task.now.work_time.0 task.now.bounds kept }
 {
-    // A part of so small a box is the box.
-    if task.bounds.latest.0 - task.bounds.earliest.0 <= NEAR {
-        return None;
-    }
     let first = with_first(task, w)?;
     let last = with_last(task, w)?;
     let starts = starts_of(task, w, starts)?;

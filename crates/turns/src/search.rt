@@ -42,6 +42,9 @@ fn room_overload(room: u16, loads: &[u16], capacity: Height) -> Option<Step>
     })
 }
 
+// So few hours are sooner asked one by one than passed over.
+const FEW: u16 = 16;
+
 // The kinds in the filter's order.
 const ORDER: [StepKind; 6] = [
     StepKind::Overload,
@@ -93,7 +96,7 @@ impl State<'_> {
         ensures { let P = plan_in self.now.plan.now in (from.0 ≤ result.0)
             × ((t : ℕ) → from.0 ≤ t → t < result.0 → (t < end.0) × (excess_by P self.now.fits.now w i t ≡ false)) }
     {
-        if end <= from {
+        if end.0.saturating_sub(from.0) < FEW {
             return from;
         }
         let hours = self.plan.shifts.hours.0 as usize;

@@ -4,7 +4,6 @@ use native.Mathlib.Omega.{arith}
 use lib.ListN.{length, get_or}
 use Rattle.units.specs.Choice.{some_of}
 use Rattle.units.proofs.Choices.{some_next}
-use Rattle.units.proofs.Hours.{le-cmp, not-at-most}
 use Rattle.plan.specs.Plan.{heights_of, height_of}
 use Rattle.plan.proofs.Passed.{room-length, room_at}
 use Rattle.turns.specs.Inner.Kept.{excess_by}
@@ -14,8 +13,7 @@ use Rattle.turns.proofs.State.pass_hours.Goals as goal
 pub loop-room-init : goal.loop-room-init
 unfolding some_of
 loop-room-init c =
-    let begun = not-at-most c.args.end.0 c.args.from.0 (c.le.ensures ∙ le-cmp _ _) c.if-le.false in
-    (omega (arith, begun), omega arith, λ t l m. refl)
+    (omega (arith, c.if-saturating_sub-lt-FEW.false, c.saturating_sub.ensures), omega arith, λ t l m. refl)
 
 pub height_at-height-requires : goal.height_at-height-requires
 unfolding heights_of
