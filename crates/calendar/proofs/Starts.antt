@@ -5,7 +5,7 @@ use Rattle.std.specs.Prelude.{if◌then◌else◌}
 use mathlib.Core.Path.{◌≡◌, refl, sym, ap, ◌∙◌}
 use mathlib.Core.Bool.{Bool, true, false, not}
 use mathlib.Core.List.{List, []}
-use Prim.Native.Nat.{ℕ, ◌+◌, ◌-◌, ◌≤◌, ◌<◌, min, max}
+use Prim.Native.Nat.{ℕ, zero, suc, ◌+◌, ◌-◌, ◌≤◌, ◌<◌, min, max}
 use native.Mathlib.Decide.{dec_le}
 use native.Mathlib.Omega.{arith}
 use lib.Dec.{eqb}
@@ -29,7 +29,7 @@ use Rattle.stretches.proofs.Stretches.{long-inside, long-none, long-holds, end-n
 use Rattle.stretches.proofs.Stretches.{last-next}
 use Rattle.calendar.specs.declared.Triple.{Triple}
 use Rattle.calendar.specs.Valid.{overtime_ends}
-use Rattle.calendar.specs.Triples.{triple, elapsed_of, overtime_of, starting}
+use Rattle.calendar.specs.Triples.{triple, elapsed_of, overtime_of, each, over, starting}
 use Rattle.calendar.specs.Rule.{witnessed_of, witnessed}
 use Rattle.calendar.specs.Witnesses.{Earlier, starts_earlier, is_shorter}
 use Rattle.calendar.specs.Inner.Ready.{AllSymbols, RuleReady, Reaches}
@@ -186,19 +186,8 @@ module _ {cal : List ℕ} {p : ℕ} {b : Bounds} {s : ℕ} {shortest longest : S
   pub none_between : longest.last.0 < shortest.hours.0 → starting cal p b s ≡ []
   none_between l = no-members _ (λ t m. let h = only-starting cal p b s t m in omega (arith, from-shortest t h, to-longest t h))
 
-  -- where the shortest is no end, the calendar ends with it, so that none lasts longer
-  pub none-ends : may_end p b shortest ≡ false → starting cal p b s ≡ []
-  none-ends n = no-members _ (λ t m. go t (only-starting cal p b s t m))
-    where
-      go : (t : Triple) → Starting cal p b s t → ⊥
-      go t h =
-          let v = valid-start cal p b s t h in
-          let q : elapsed_of t ≡ shortest.hours.0 = omega (arith, from-shortest t h, v.ends, R.at_the_end n) in
-          let ends = ends-may p b (stretch_of cal s (elapsed_of t)) (valid-ends cal p b s symbols t h v) in
-          true≢false (ap (may_end p b) (R.is_shortest.is ∙ ap (stretch_of cal s) (sym q)) ∙ ends) n
-
   -- else both are valid, and the window is theirs
-  module _ (open-start : is_kind closed cal s ≡ false) (ends : may_end p b shortest ≡ true) (between : shortest.hours.0 ≤ longest.last.0) where
+  module _ (open-start : is_kind closed cal s ≡ false) (between : shortest.hours.0 ≤ longest.last.0) where
     is_last : longest.last.0 ≡ open_length cal s longest.hours.0
     is_last = last-is R.is_longest
 
@@ -206,7 +195,7 @@ module _ {cal : List ℕ} {p : ℕ} {b : Bounds} {s : ℕ} {shortest longest : S
     longest-in = omega (arith, is_last, open-le cal s longest.hours.0)
 
     shortest-ends : MayEnd p b (stretch_of cal s shortest.hours.0)
-    shortest-ends = may-end p b _ (ap (may_end p b) (sym R.is_shortest.is) ∙ ends)
+    shortest-ends = may-end p b _ (ap (may_end p b) (sym R.is_shortest.is) ∙ R.ends)
 
     some_hours : 1 ≤ shortest.hours.0
     some_hours = omega (arith, shortest-ends.shortest, R.ready.shortest)
@@ -398,6 +387,28 @@ carried_first {cal} {s = s} shortest longest short long =
       lasts = λ e l u. absurd (omega arith);
     })
 
+-- ---- where a task that starts at s may end at no hour
+
+module _ (cal : List ℕ) (p : ℕ) (b : Bounds) where
+  abbrev NoEnd : ℕ → Type 0
+  NoEnd s = (e : ℕ) → s + e ≤ length cal → may_end p b (stretch_of cal s e) ≡ false
+
+  module _ (ready : RuleReady cal b) where
+    no-end-none : (s : ℕ) → NoEnd s → starting cal p b s ≡ []
+    no-end-none s h = no-members _ (λ t m. go t (only-starting cal p b s t m))
+      where
+        go : (t : Triple) → Starting cal p b s t → ⊥
+        go t g =
+            let v = valid-start cal p b s t g in
+            true≢false (ends-may p b (stretch_of cal s (elapsed_of t)) (valid-ends cal p b s ready.symbols t g v)) (h (elapsed_of t) v.ends)
+
+    -- nor may one that starts later
+    each-none : (n s : ℕ) → NoEnd s → each s n (starting cal p b) ≡ []
+    unfolding each
+    each-none zero s h = refl
+    each-none (suc n) s h =
+        rw (no-end-none s h) (each-none n (s + 1) (λ e l. end-next cal p b s e ready.shortest (h (e + 1) (omega arith))))
+
 -- the rule's loop at a start within the box
 module _ {cal : List ℕ} {p : ℕ} {b : Bounds} {s : ℕ} {shortest longest : Stretch} (ready : RuleReady cal b) (start : s ≤ b.latest.0)
     (c : Carried cal p b s shortest longest) where
@@ -411,68 +422,82 @@ module _ {cal : List ℕ} {p : ℕ} {b : Bounds} {s : ℕ} {shortest longest : S
   longest-stretch = record { hours = record { inside = omega (arith, c.longest_inside, inside); short = ready.short }; is = c.is_longest }
 
   -- lengthened, the one is the shortest end and the other the longest time
-  module _ (short long : Stretch)
-      (is-short : short ≡ stretch_of cal s (lengthened cal s (shortest_at cal p b s) shortest.hours.0))
-      (is-long : long ≡ stretch_of cal s (lengthened cal s (longest_at cal p b s) longest.hours.0)) where
+  module _ (short : Stretch) (is-short : short ≡ stretch_of cal s (lengthened cal s (shortest_at cal p b s) shortest.hours.0)) where
     short-hours : short.hours.0 ≡ lengthened cal s (shortest_at cal p b s) shortest.hours.0
     short-hours = own-hours cal s _ short is-short
-
-    long-hours : long.hours.0 ≡ lengthened cal s (longest_at cal p b s) longest.hours.0
-    long-hours = own-hours cal s _ long is-long
 
     before : (e : ℕ) → e < short.hours.0 → Dec (shortest.hours.0 ≤ e) → may_end p b (stretch_of cal s e) ≡ false
     before e l (yes h) =
         long-none cal s (shortest_at cal p b s) shortest.hours.0 e h (omega (arith, short-hours))
     before e l (no h) = c.none_before e (omega arith)
 
+    -- where the shortest is no end, the calendar ends with it
     at_end : may_end p b short ≡ false → Dec (length cal ≤ s + short.hours.0) → length cal ≤ s + short.hours.0
     at_end n (yes h) = h
     at_end n (no h) =
         let stop = long-holds cal s (shortest_at cal p b s) shortest.hours.0 (omega (arith, short-hours)) in
         true≢false (ap (may_end p b) is-short ∙ stop) n
 
-    up_to : (e : ℕ) → 1 ≤ e → e ≤ long.hours.0 → Dec (e ≤ longest.hours.0) → may_last cal p b s e ≡ true
-    up_to e l u (yes h) = c.lasts e l h
-    up_to e l u (no h) =
-        let q : e - 1 + 1 ≡ e = omega arith in
-        let None = long-none cal s (longest_at cal p b s) longest.hours.0 (e - 1) (omega arith) (omega (arith, long-hours)) in
-        rw q at (at-stop-longest cal p b s (e - 1) false None)
+    none-at : may_end p b short ≡ false → NoEnd cal p b s
+    none-at n e l = go (dec_le short.hours.0 e)
+      where
+        go : Dec (short.hours.0 ≤ e) → may_end p b (stretch_of cal s e) ≡ false
+        go (yes h) =
+            let q : e ≡ short.hours.0 = omega (arith, at_end n (dec_le (length cal) (s + short.hours.0))) in
+            ap (λ (k : ℕ). may_end p b (stretch_of cal s k)) (q ∙ short-hours) ∙ ap (may_end p b) (sym is-short) ∙ n
+        go (no h) = before e (omega arith) (dec_le shortest.hours.0 e)
 
-    past : (e : ℕ) → long.hours.0 < e → s + e ≤ length cal → may_last cal p b s e ≡ false
-    past e l u =
-        let stop = long-holds cal s (longest_at cal p b s) longest.hours.0 (omega (arith, long-hours)) in
-        let next : may_last cal p b s (long.hours.0 + 1) ≡ false = rw (← long-hours) at (at-stop-longest cal p b s _ true stop) in
-        let shorter = last-shorter cal p b s e (long.hours.0 + 1) (omega arith) in
-        untrue _ _ (λ h. lasts-may cal p b s (long.hours.0 + 1) (shorter (may-last cal p b s e h))) next
+    -- and no start from here on has a valid triple
+    pub none-left : may_end p b short ≡ false → over s b.latest.0 (starting cal p b) ≡ []
+    unfolding over
+    none-left n = each-none cal p b ready _ s (none-at n)
 
-    pub carried_on : Reaches cal p b s short long
-    carried_on =
-        record {
-          ready = ready;
-          start = inside;
-          is_shortest =
-              record {
-                hours =
-                    record {
-                      inside = omega (arith, short-hours, long-inside cal s (shortest_at cal p b s) shortest.hours.0 shortest-stretch.hours.inside);
-                      short = ready.short;
-                    };
-                is = own-stretch cal s _ short is-short;
-              };
-          is_longest =
-              record {
-                hours =
-                    record {
-                      inside = omega (arith, long-hours, long-inside cal s (longest_at cal p b s) longest.hours.0 longest-stretch.hours.inside);
-                      short = ready.short;
-                    };
-                is = own-stretch cal s _ long is-long;
-              };
-          none_before = λ e l. before e l (dec_le shortest.hours.0 e);
-          at_the_end = λ n. at_end n (dec_le (length cal) (s + short.hours.0));
-          lasts = λ e l u. up_to e l u (dec_le e longest.hours.0);
-          none_after = past;
-        }
+    module _ (long : Stretch) (is-long : long ≡ stretch_of cal s (lengthened cal s (longest_at cal p b s) longest.hours.0)) where
+      long-hours : long.hours.0 ≡ lengthened cal s (longest_at cal p b s) longest.hours.0
+      long-hours = own-hours cal s _ long is-long
+
+      up_to : (e : ℕ) → 1 ≤ e → e ≤ long.hours.0 → Dec (e ≤ longest.hours.0) → may_last cal p b s e ≡ true
+      up_to e l u (yes h) = c.lasts e l h
+      up_to e l u (no h) =
+          let q : e - 1 + 1 ≡ e = omega arith in
+          let None = long-none cal s (longest_at cal p b s) longest.hours.0 (e - 1) (omega arith) (omega (arith, long-hours)) in
+          rw q at (at-stop-longest cal p b s (e - 1) false None)
+
+      past : (e : ℕ) → long.hours.0 < e → s + e ≤ length cal → may_last cal p b s e ≡ false
+      past e l u =
+          let stop = long-holds cal s (longest_at cal p b s) longest.hours.0 (omega (arith, long-hours)) in
+          let next : may_last cal p b s (long.hours.0 + 1) ≡ false = rw (← long-hours) at (at-stop-longest cal p b s _ true stop) in
+          let shorter = last-shorter cal p b s e (long.hours.0 + 1) (omega arith) in
+          untrue _ _ (λ h. lasts-may cal p b s (long.hours.0 + 1) (shorter (may-last cal p b s e h))) next
+
+      pub carried_on : may_end p b short ≡ true → Reaches cal p b s short long
+      carried_on ends =
+          record {
+            ready = ready;
+            start = inside;
+            is_shortest =
+                record {
+                  hours =
+                      record {
+                        inside = omega (arith, short-hours, long-inside cal s (shortest_at cal p b s) shortest.hours.0 shortest-stretch.hours.inside);
+                        short = ready.short;
+                      };
+                  is = own-stretch cal s _ short is-short;
+                };
+            is_longest =
+                record {
+                  hours =
+                      record {
+                        inside = omega (arith, long-hours, long-inside cal s (longest_at cal p b s) longest.hours.0 longest-stretch.hours.inside);
+                        short = ready.short;
+                      };
+                  is = own-stretch cal s _ long is-long;
+                };
+            none_before = λ e l. before e l (dec_le shortest.hours.0 e);
+            ends = ends;
+            lasts = λ e l u. up_to e l u (dec_le e longest.hours.0);
+            none_after = past;
+          }
 
 -- and without their first hour they hold the same of the next start
 pub carried-next : {cal : List ℕ} {p : ℕ} {b : Bounds} {s : ℕ} {shortest longest : Stretch} → Reaches cal p b s shortest longest
