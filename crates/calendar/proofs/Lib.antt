@@ -4,6 +4,4 @@ pub mod Triples
 pub mod Ordering
 pub mod Witnessing
 pub mod Starts
-pub mod Tied
-pub mod Adding
 pub mod Entry

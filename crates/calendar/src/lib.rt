@@ -3,7 +3,7 @@
 
 mod widen;
 
-ghost use Rattle.std.specs.Prelude.{◌≡◌, ◌+◌, ◌≤◌, ◌<◌, length, IfSome};
+ghost use Rattle.std.specs.Prelude.{◌≡◌, ◌+◌, ◌≤◌, ◌<◌, length};
 ghost use Rattle.units.specs.Limits.{most_hours};
 ghost use Rattle.calendar.specs.Valid.{overtime_ends};
 ghost use Rattle.calendar.specs.Triples.{valid_triple, starting};
@@ -11,7 +11,7 @@ ghost use Rattle.calendar.specs.Rule.{witnessed_rule, without_witnesses};
 ghost use Rattle.plan.specs.Refusals.{answer_of};
 ghost use Rattle.calendar.specs.Entry.{calendar_rule};
 ghost use Rattle.calendar.specs.Inner.Ready.{HasCounts, RuleReady, Reaches};
-ghost use Rattle.calendar.specs.Inner.Windows.{WindowReady, window_from, witnesses_from, with_window, with_triples, Tied};
+ghost use Rattle.calendar.specs.Inner.Windows.{with_triples};
 
 use plan::{HourKind, Plan, Refusal};
 use stretches::{Counts, Stretch, Task, count_hours, reach};
@@ -104,53 +104,25 @@ pub fn is_valid(calendar: &[u8], work_time: Duration, t: Triple) -> bool
     is_valid_by(calendar, work_time, t, n)
 }
 
-// The answer with the window of the start. Apart from the rule's loop, where it is seldom asked for, so that what it works with takes none of the loop's
-// registers.
-#[inline(never)]
-fn add_window(
-    work_time: Duration,
-    s: Hour,
-    shortest: Stretch,
-    longest: Stretch,
-    found: &mut Option<Witnessed>,
-)
-    requires { WindowReady work_time.0 s.0 shortest longest }
-    ensures { found.new
-        ≡ with_window found.old (window_from work_time.0 s.0 shortest longest) (witnesses_from work_time.0 s.0 shortest longest) }
-{
-    *found = widen::with_window(
-        *found,
-        widen::witnessed_from(work_time, s, shortest, longest),
-    );
-}
-
-// The answer with the valid triples in the box that start at s. They end at the open hours from the shortest stretch to the longest. Mostly they only
-// start and end later than those before.
-fn add_start(
+// The answer with the valid triples in the box that start at s. They end at the open hours from the shortest stretch to the longest.
+fn with_start(
     task: &Task,
     s: Hour,
     shortest: Stretch,
     longest: Stretch,
-    found: &mut Option<Witnessed>,
-)
-    requires { Reaches task.now.calendar.now task.now.work_time.0 task.now.bounds s.0 shortest longest × IfSome found.old Tied }
-    ensures answer { found.new ≡ with_triples found.old (starting task.now.calendar.now task.now.work_time.0 task.now.bounds s.0) }
-    ensures tied { IfSome found.new Tied }
+    found: Option<Witnessed>,
+) -> Option<Witnessed>
+    requires { Reaches task.now.calendar.now task.now.work_time.0 task.now.bounds s.0 shortest longest }
+    ensures { result ≡ with_triples found (starting task.now.calendar.now task.now.work_time.0 task.now.bounds s.0) }
 {
     if HourKind::Closed.is_at(task.calendar, s.0 as usize) {
-        return;
+        return found;
     }
     if longest.last < shortest.hours {
-        return;
+        return found;
     }
     let later = widen::witnessed_from(task.work_time, s, shortest, longest);
-    if let Some(before) = found {
-        if widen::only_later(before.window, later.window) {
-            widen::move_on(before, later);
-            return;
-        }
-    }
-    add_window(task.work_time, s, shortest, longest, found);
+    widen::with_window(found, later)
 }
 
 // The calendar rule for input that is tested. A later start ends no earlier, so both stretches only go forward; and where a start has no end, nor has any
@@ -170,7 +142,7 @@ pub fn rule(task: &Task) -> Option<Witnessed>
             return best;
         }
         longest = task.longest_from(start, longest);
-        add_start(task, start, shortest, longest, &mut best);
+        best = with_start(task, start, shortest, longest, best);
         shortest = reach::without_first(task.calendar, start, shortest);
         longest = reach::without_first(task.calendar, start, longest);
     }

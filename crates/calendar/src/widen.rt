@@ -1,7 +1,7 @@
 // Windows and their witnesses: of the valid triples from one start, and of those from several.
-ghost use Rattle.std.specs.Prelude.{◌≡◌, true, min, max, if◌then◌else◌};
+ghost use Rattle.std.specs.Prelude.{◌≡◌, min, max, if◌then◌else◌};
 ghost use Rattle.calendar.specs.Rule.{witnessed};
-ghost use Rattle.calendar.specs.Inner.Windows.{WindowReady, window_from, witnesses_from, wider, first_of_both, Tied, keeps, only_later, with_window};
+ghost use Rattle.calendar.specs.Inner.Windows.{WindowReady, window_from, witnesses_from, wider, first_of_both, with_window};
 
 use crate::{Triple, Window, Witnessed, Witnesses};
 use stretches::Stretch;
@@ -98,36 +98,6 @@ fn first_of(a: Witnesses, b: Witnesses) -> Witnesses
         fewest: either(a.fewest, b.fewest, b.fewest.overtime < a.fewest.overtime),
         most: either(a.most, b.most, a.most.overtime < b.most.overtime),
     }
-}
-
-// Whether the first bounds of elapsed time and of overtime hold the second's.
-#[tactic(auto, unfolding(crate::specs::Inner::Windows::keeps))]
-fn keeps(a: Bounds, b: Bounds) -> bool
-    ensures { result ≡ keeps a b }
-{
-    a.shortest <= b.shortest && b.longest <= a.longest && a.fewest <= b.fewest && b.most <= a.most
-}
-
-// Whether with the second window's triples the first starts and ends later, and keeps all else.
-#[tactic(auto, unfolding(crate::specs::Inner::Windows::only_later))]
-pub fn only_later(w: Window, v: Window) -> bool
-    ensures { result ≡ only_later w v }
-{
-    w.bounds.earliest <= v.bounds.earliest
-        && w.bounds.latest < v.bounds.latest
-        && w.ect <= v.ect
-        && w.lct <= v.lct
-        && keeps(w.bounds, v.bounds)
-}
-
-// The answer with a later one's triples, which only start and end later.
-pub fn move_on(found: &mut Witnessed, later: Witnessed)
-    requires { Tied found.old × Tied later × (only_later found.old.window later.window ≡ true) }
-    ensures { found.new ≡ witnessed (wider found.old.window later.window) (first_of_both found.old.by later.by) }
-{
-    found.window.bounds.latest = later.window.bounds.latest;
-    found.window.lct = later.window.lct;
-    found.by.latest = later.by.latest;
 }
 
 // The answer with one window's triples more, all after those before.

@@ -9,7 +9,7 @@ use Rattle.calendar.proofs.rule.Goals as goal
 
 pub loop-s-init : goal.loop-s-init
 unfolding with_triples witnessed_rule valid_triples
-loop-s-init c = (carried_first _ _ refl refl, refl, search)
+loop-s-init c = (carried_first _ _ refl refl, refl)
 
 pub shortest_from-shortest-requires : goal.shortest_from-shortest-requires
 shortest_from-shortest-requires c = shortest-stretch c.requires c.loop-s-test.true c.loop-s.invariant.0
@@ -17,19 +17,16 @@ shortest_from-shortest-requires c = shortest-stretch c.requires c.loop-s-test.tr
 -- none that starts at s or later is valid
 pub returns-then-not-may_end : goal.returns-then-not-may_end
 returns-then-not-may_end c =
-    let (carried, is, tied) = c.loop-s.invariant in
+    let (carried, is) = c.loop-s.invariant in
     unmoved _ (none-left c.requires c.loop-s-test.true carried _ c.shortest_from-shortest.ensures (sym c.if-not-may_end.ensures)) ∙ is
 
 pub longest_from-longest-requires : goal.longest_from-longest-requires
-longest_from-longest-requires c =
-    longest-stretch c.requires c.loop-s-test.true c.loop-s.invariant.0
+longest_from-longest-requires c = longest-stretch c.requires c.loop-s-test.true c.loop-s.invariant.0
 
-pub add_start-requires : goal.add_start-requires
-add_start-requires c = (
-  carried_on c.requires c.loop-s-test.true c.loop-s.invariant.0 _ c.shortest_from-shortest.ensures _ c.longest_from-longest.ensures
-      (sym c.may_end.ensures ∙ c.if-not-may_end.false),
-  c.loop-s.invariant.2,
-)
+pub with_start-best-requires : goal.with_start-best-requires
+with_start-best-requires c =
+    carried_on c.requires c.loop-s-test.true c.loop-s.invariant.0 _ c.shortest_from-shortest.ensures _ c.longest_from-longest.ensures
+    (sym c.may_end.ensures ∙ c.if-not-may_end.false)
 
 pub without_first-shortest-requires : goal.without_first-shortest-requires
 without_first-shortest-requires c =
@@ -45,8 +42,7 @@ pub loop-s-preserved : goal.loop-s-preserved
 loop-s-preserved c = (
   carried-next (carried_on c.requires c.loop-s-test.true c.loop-s.invariant.0 _ c.shortest_from-shortest.ensures _ c.longest_from-longest.ensures
       (sym c.may_end.ensures ∙ c.if-not-may_end.false)) _ _ c.without_first-shortest.ensures c.without_first-longest.ensures,
-  rw c.add_start.ensures.answer (sym (with-step _ _ _ _ c.loop-s-test.true) ∙ c.loop-s.invariant.1),
-  c.add_start.ensures.tied,
+  rw c.with_start-best.ensures (sym (with-step _ _ _ _ c.loop-s-test.true) ∙ c.loop-s.invariant.1),
 )
 
 pub returns : goal.returns
@@ -55,4 +51,4 @@ returns c = unmoved _ (over_none _ _ _ (omega arith)) ∙ c.loop-s.invariant.1
 -- after the last start
 pub returns-else-not-may_end : goal.returns-else-not-may_end
 returns-else-not-may_end c =
-    c.add_start.ensures.answer ∙ with-last _ _ _ _ c.loop-s-test.true (omega arith) ∙ c.loop-s.invariant.1
+    c.with_start-best.ensures ∙ with-last _ _ _ _ c.loop-s-test.true (omega arith) ∙ c.loop-s.invariant.1

@@ -1,8 +1,7 @@
 use mathlib.Core.Path.{◌≡◌}
 use Rattle.calendar.specs.Triples.{over, starting}
 use Rattle.calendar.specs.Rule.{witnessed_rule}
-use Rattle.std.specs.Prelude.{IfSome}
-use Rattle.calendar.specs.Inner.Windows.{with_triples, Tied}
+use Rattle.calendar.specs.Inner.Windows.{with_triples}
 use Rattle.calendar.proofs.Starts.{Carried}
 use Rattle.calendar.proofs.rule.Given as goal
 
@@ -13,6 +12,4 @@ invariant-loop-s l =
     let cal = l.task.calendar.now in
     let p = l.task.work_time.0 in
     let b = l.task.bounds in
-    Carried cal p b l.s l.shortest l.longest
-    × (with_triples l.best (over l.s b.latest.0 (starting cal p b)) ≡ witnessed_rule cal p b)
-    × IfSome l.best Tied
+    Carried cal p b l.s l.shortest l.longest × (with_triples l.best (over l.s b.latest.0 (starting cal p b)) ≡ witnessed_rule cal p b)

@@ -1,9 +1,7 @@
 -- Windows and their witnesses: of the valid triples from one start, and of those from several.
-use Rattle.std.specs.Prelude.{Bool, leb, ltb, ◌≡◌, List, ℕ, ◌+◌, ◌-◌, ◌≤◌, min, max, Option, None, Some}
-use Rattle.units.specs.Choice.{◌and◌}
+use Rattle.std.specs.Prelude.{List, ℕ, ◌+◌, ◌-◌, ◌≤◌, min, max, Option, None, Some}
 use Rattle.units.specs.Extremes.{less, more, better_of}
 use Rattle.units.specs.Limits.{most_hours, hour, duration}
-use Rattle.units.specs.declared.Bounds.{Bounds}
 use Rattle.stretches.specs.declared.Stretch.{Stretch}
 use Rattle.calendar.specs.declared.Triple.{Triple}
 use Rattle.calendar.specs.declared.Window.{Window}
@@ -87,29 +85,6 @@ first_of_both a b =
       fewest = better_of less overtime_of a.fewest b.fewest;
       most = better_of more overtime_of a.most b.most;
     }
-
--- each bound of an answer is its own witness's number
-pub record Tied (found : Witnessed) : Type 0 where
-  pub earliest : start_of found.by.earliest ≡ found.window.bounds.earliest.0
-  pub latest : start_of found.by.latest ≡ found.window.bounds.latest.0
-  pub shortest : elapsed_of found.by.shortest ≡ found.window.bounds.shortest.0
-  pub longest : elapsed_of found.by.longest ≡ found.window.bounds.longest.0
-  pub fewest : overtime_of found.by.fewest ≡ found.window.bounds.fewest.0
-  pub most : overtime_of found.by.most ≡ found.window.bounds.most.0
-
--- the first bounds of elapsed time and of overtime hold the second's
-unfoldable pub keeps : Bounds → Bounds → Bool
-keeps a b =
-    leb a.shortest.0 b.shortest.0 and leb b.longest.0 a.longest.0 and leb a.fewest.0 b.fewest.0 and leb b.most.0 a.most.0
-
--- with the second window's triples the first starts and ends later, and keeps all else
-unfoldable pub only_later : Window → Window → Bool
-only_later w v =
-    leb w.bounds.earliest.0 v.bounds.earliest.0
-    and ltb w.bounds.latest.0 v.bounds.latest.0
-    and leb w.ect.0 v.ect.0
-    and leb w.lct.0 v.lct.0
-    and keeps w.bounds v.bounds
 
 abbrev pub with_window : Option Witnessed → Window → Witnesses → Option Witnessed
 with_window None v later = Some (witnessed v later)
