@@ -27,16 +27,13 @@ pub struct Kept {
     pub starts: Starts,
 }
 
-impl Kept {
-    // Of a box without a valid triple.
-    pub const NONE: Kept = Kept {
-        fit: None,
-        starts: Starts {
-            shortest: Hour(0),
-            longest: Hour(0),
-            fewest: Hour(0),
-            most: Hour(0),
-        },
+impl Starts {
+    // Where there is no answer.
+    pub const NONE: Starts = Starts {
+        shortest: Hour(0),
+        longest: Hour(0),
+        fewest: Hour(0),
+        most: Hour(0),
     };
 }
 
@@ -46,7 +43,10 @@ pub fn answer(task: &Task) -> Kept
     ensures { Keeps task.now.calendar.now task.now.work_time.0 task.now.bounds result }
 {
     let Some(found) = calendar::rule(task) else {
-        return Kept::NONE;
+        return Kept {
+            fit: None,
+            starts: Starts::NONE,
+        };
     };
     Kept {
         fit: Some(found.window),

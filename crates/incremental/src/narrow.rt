@@ -174,9 +174,9 @@ pub fn narrowed(task: &Task, w: Window, starts: Starts) -> Option<Kept>
         × StartsKept task.now.calendar.now task.now.work_time.0 h.large w starts }
     ensures { (kept : Kept) → result ≡ Some kept → Keeps task.now.calendar.now task.now.work_time.0 task.now.bounds kept }
 {
+    let starts = starts_of(task, w, starts)?;
     let first = with_first(task, w)?;
     let last = with_last(task, w)?;
-    let starts = starts_of(task, w, starts)?;
     let bounds = Bounds {
         earliest: first.bounds.earliest,
         latest: last.bounds.latest,

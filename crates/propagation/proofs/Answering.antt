@@ -16,7 +16,7 @@ use Rattle.plan.specs.Boxes.{bounds_at, with_bounds}
 use Rattle.plan.proofs.Boxes.{bounds-other}
 use Rattle.steps.specs.Load.{fit_at}
 use Rattle.incremental.specs.declared.Kept.{Kept}
-use Rattle.incremental.specs.declared.TheConstants.Kept.{NONE}
+use Rattle.incremental.specs.declared.TheConstants.Starts.{NONE}
 use Rattle.incremental.specs.Inner.Keeps.{Keeps}
 use Rattle.propagation.specs.declared.kept.Answers.{Answers}
 use Rattle.propagation.specs.Inner.Fitting.{KeepsAt, Answered}
@@ -42,14 +42,14 @@ module _ {S : Shifts} {boxes : List ℕ} {a : Answers} where
     fit-same : get_or a'.fits i None ≡ kept.fit
     fit-same = rw stored.0 (get_or-set_same a.fits i kept.fit None (omega (arith, there, h.fits)))
 
-    start-same : get_or a'.starts i NONE.starts ≡ kept.starts
-    start-same = rw stored.1 (get_or-set_same a.starts i kept.starts NONE.starts (omega (arith, there, h.starts)))
+    start-same : get_or a'.starts i NONE ≡ kept.starts
+    start-same = rw stored.1 (get_or-set_same a.starts i kept.starts NONE (omega (arith, there, h.starts)))
 
     fit-other : (j : ℕ) → j ≢ i → get_or a'.fits j None ≡ get_or a.fits j None
     fit-other j ne = rw stored.0 (get_or-set_other a.fits i j kept.fit None ne)
 
-    start-other : (j : ℕ) → j ≢ i → get_or a'.starts j NONE.starts ≡ get_or a.starts j NONE.starts
-    start-other j ne = rw stored.1 (get_or-set_other a.starts i j kept.starts NONE.starts ne)
+    start-other : (j : ℕ) → j ≢ i → get_or a'.starts j NONE ≡ get_or a.starts j NONE
+    start-other j ne = rw stored.1 (get_or-set_other a.starts i j kept.starts NONE ne)
 
     stored-answered : (left : List ℕ) (m : ℕ) → Keeps (calendar_of S i) (work_time_of S i) (bounds_at left i) kept
         → ((j : ℕ) → j < m → j ≢ i → (j < n) × (bounds_at left j ≡ bounds_at boxes j)) → Answered S m left a'

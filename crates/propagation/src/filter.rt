@@ -37,7 +37,8 @@ fn run_filter(
         filter_end (filter_answer (Ok result)) boxes.new log_kinds.new log_tasks.new log_hours.new
         ≡ logged_from taken run log_kinds.old log_tasks.old log_hours.old }
 {
-    let mut answers = kept::all_answers(&plan.shifts, boxes);
+    let mut answers = kept::Answers::NONE;
+    kept::put_answers(&plan.shifts, boxes, &mut answers);
     load::fill_loads(plan, &answers.fits, loads);
     // Where the next step goes in each of the three slices, and how many steps the answer counts.
     let mut count: usize = 0;

@@ -20,6 +20,12 @@ pub struct Answers {
 }
 
 impl Answers {
+    // Of no task.
+    pub const NONE: Answers = Answers {
+        fits: [None; Bounds::MOST],
+        starts: [Starts::NONE; Bounds::MOST],
+    };
+
     // Stores what is kept of task i.
     fn keep(&mut self, i: usize, kept: Kept)
         requires { i < most_tasks }
@@ -30,20 +36,15 @@ impl Answers {
     }
 }
 
-// The answers for all tasks; past the last, none.
-pub fn all_answers(shifts: &Shifts, boxes: &[u16]) -> Answers
+// Works out the answers for all tasks, into memory that the caller has: handed over by value they would be copied.
+pub fn put_answers(shifts: &Shifts, boxes: &[u16], answers: &mut Answers)
     requires { let S = shifts_in shifts.now in
         (length S.task_calendars ≤ most_tasks) × ((i : ℕ) → i < length S.task_calendars → Fitting S boxes.now i) }
-    ensures { Answered (shifts_in shifts.now) (length (shifts_in shifts.now).task_calendars) boxes.now result }
+    ensures { Answered (shifts_in shifts.now) (length (shifts_in shifts.now).task_calendars) boxes.now answers.new }
 {
-    let mut answers = Answers {
-        fits: [None; Bounds::MOST],
-        starts: [Kept::NONE.starts; Bounds::MOST],
-    };
     for i in 0..shifts.tasks() {
         answers.keep(i, incremental::answer(&Task::of_plan(shifts, boxes, i)));
     }
-    answers
 }
 
 // Stores the bounds that a task has now, and works its answer out from the one for those that it had.

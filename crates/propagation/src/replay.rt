@@ -30,7 +30,8 @@ fn replay_log(
         let e = replay_from P after.steps after.impossible boxes.old (steps_in log_kinds.now log_tasks.now log_hours.now) in
         (answer_of result ≡ check_answer e) × (boxes.new ≡ e.boxes) }
 {
-    let mut answers = kept::all_answers(&plan.shifts, boxes);
+    let mut answers = kept::Answers::NONE;
+    kept::put_answers(&plan.shifts, boxes, &mut answers);
     let mut impossible = after.impossible;
     // By number: a step lies in three slices, which zips would nest, and its number is the place that a refusal names.
     for k in 0..log_kinds.len() {

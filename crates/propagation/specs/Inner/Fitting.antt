@@ -5,7 +5,7 @@ use Rattle.units.specs.Limits.{most_hours, most_tasks, box_numbers}
 use Rattle.plan.specs.Plan.{Shifts, first_symbol, calendar_of, work_time_of}
 use Rattle.plan.specs.HourKinds.{is_symbol}
 use Rattle.plan.specs.Boxes.{bounds_at}
-use Rattle.incremental.specs.declared.TheConstants.Kept.{NONE}
+use Rattle.incremental.specs.declared.TheConstants.Starts.{NONE}
 use Rattle.incremental.specs.Inner.Keeps.{Keeps}
 use Rattle.propagation.specs.declared.kept.Answers.{Answers}
 
@@ -22,7 +22,7 @@ pub record Fitting (S : Shifts) (boxes : List ℕ) (i : ℕ) : Type 0 where
 -- task i's answer and starts are those of its box
 abbrev pub KeepsAt : Shifts → List ℕ → Answers → ℕ → Type 0
 KeepsAt S boxes a i =
-    Keeps (calendar_of S i) (work_time_of S i) (bounds_at boxes i) (record { fit = get_or a.fits i None; starts = get_or a.starts i NONE.starts })
+    Keeps (calendar_of S i) (work_time_of S i) (bounds_at boxes i) (record { fit = get_or a.fits i None; starts = get_or a.starts i NONE })
 
 -- so are those of the first n tasks
 pub record Answered (S : Shifts) (n : ℕ) (boxes : List ℕ) (a : Answers) : Type 0 where

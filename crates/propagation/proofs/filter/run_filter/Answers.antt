@@ -5,15 +5,15 @@ use Rattle.propagation.proofs.Keeping.{ready, pairs_ready}
 use Rattle.propagation.proofs.Filtering.{filter-opens, settles, fills, stops_at, filter-may-move, moved_task, put-back, goes_on}
 use Rattle.propagation.proofs.filter.run_filter.Goals as goal
 
-pub all_answers-answers-requires : goal.all_answers-answers-requires
-all_answers-answers-requires c = all-fitting _ _ c.requires.passed.0
+pub put_answers-requires : goal.put_answers-requires
+put_answers-requires c = all-fitting _ _ c.requires.passed.0
 
 pub fill_loads-requires-clause-ready : goal.fill_loads-requires-clause-ready
 fill_loads-requires-clause-ready c = (ready _ _ c.requires.passed.0).rooms_ready
 
 pub loop-next-init : goal.loop-next-init
 loop-next-init c =
-    let answered = c.all_answers-answers.ensures in
+    let answered = c.put_answers.ensures in
     (filter-opens c.requires.passed (answers-are answered) answered.fits, answered, c.fill_loads.ensures)
 
 pub invariant_of-state : goal.invariant_of-state

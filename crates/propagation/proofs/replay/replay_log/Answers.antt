@@ -6,12 +6,12 @@ use Rattle.propagation.proofs.Keeping.{ready, pairs_ready}
 use Rattle.propagation.proofs.Replaying.{replay-opens, replay-done, replay-13, replay-11, replay-12, replay-stops, replay-may-move, replay-moves}
 use Rattle.propagation.proofs.replay.replay_log.Goals as goal
 
-pub all_answers-answers-requires : goal.all_answers-answers-requires
-all_answers-answers-requires c = all-fitting _ _ c.requires.passed.0
+pub put_answers-requires : goal.put_answers-requires
+put_answers-requires c = all-fitting _ _ c.requires.passed.0
 
 pub loop-k-init : goal.loop-k-init
 loop-k-init c =
-    let answered = c.all_answers-answers.ensures in
+    let answered = c.put_answers.ensures in
     (replay-opens c.requires.passed (answers-are answered) answered.fits, answered)
 
 pub returns-then-impossible : goal.returns-then-impossible

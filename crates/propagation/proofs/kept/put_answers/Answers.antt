@@ -2,7 +2,7 @@ use mathlib.Core.Path.{refl}
 use native.Mathlib.Omega.{arith}
 use Rattle.propagation.proofs.Fits.{core-asks}
 use Rattle.propagation.proofs.Answering.{keeps-task, next-answered}
-use Rattle.propagation.proofs.kept.all_answers.Goals as goal
+use Rattle.propagation.proofs.kept.put_answers.Goals as goal
 
 pub answer-requires : goal.answer-requires
 answer-requires c =
