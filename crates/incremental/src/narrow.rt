@@ -12,9 +12,10 @@ use calendar::{Window, Witnessed};
 use stretches::Task;
 use units::{Bounds, Hour};
 
-// How many hours beside a bound that has moved, and from the middle of the box on, are looked at; and from how many on a box is worth it.
+// How many hours after a bound that has moved, before it, or after the middle of the box a part reaches.
 const NEAR: u16 = 24;
 
+// How many hours a box reaches for a part of it to be worth asking.
 const WIDE: u16 = 96;
 
 // Whether a box has no starts but some of the larger one's, and its bounds of elapsed time and overtime.
