@@ -294,7 +294,7 @@ static double lesser(double a, double b) {
 }
 
 static void print_times(const char *name, double library, double plain) {
-    printf("%-54s library %9.4f ms   plain C %9.4f ms   ratio %6.2f\n", name, 1e3 * library, 1e3 * plain, library / plain);
+    printf("%-54s library %9.4f ms   plain C %9.4f ms   ratio %7.4f\n", name, 1e3 * library, 1e3 * plain, library / plain);
 }
 
 /* The two take turns, and the least time of each counts. */
