@@ -198,7 +198,7 @@ module _ (cal : List ℕ) (p : ℕ) where
 
     module _ (w : Window) (h : Had cal p b w) where
       -- a valid triple of the box is one of the box before
-      pub before : (t : Triple) → ValidIn cal p b t → ValidIn cal p h.large t
+      before : (t : Triple) → ValidIn cal p b t → ValidIn cal p h.large t
       before t v = same-in (fewer-same h.fewer) v (omega (arith, h.fewer.earliest, v.inside.earliest)) (omega (arith, h.fewer.latest, v.inside.latest))
 
       pub first-stands : within b.earliest.0 b.latest.0 w.bounds.earliest.0 ≡ true → HasFirst cal p b w

@@ -1,4 +1,4 @@
-// The calendar rule's answer for a box of which a bound of S has moved, from the answer for the box as it was.
+// The calendar rule's answer for a box whose bounds have moved, from the answer for the box as it was.
 #![tactic(auto)]
 
 mod narrow;
@@ -59,8 +59,8 @@ pub fn answer(task: &Task) -> Kept
     }
 }
 
-// The answer for a box, from what was kept for another, which it mostly is a part of: where it is that answer's own bounds, the answer stands; where it
-// only has fewer starts, what may have moved is found from the new ends on; else all is worked out anew.
+// The answer for a box, from what was kept for the box before, which mostly holds it. Where the box is that answer's own bounds, the answer stands; where
+// it only has fewer starts, what may have moved is found from its ends and its middle; else all is worked out anew.
 pub fn answer_after(task: &Task, before: Bounds, kept: Kept) -> Kept
     requires ready { RuleReady task.now.calendar.now task.now.bounds }
     requires keeps { Keeps task.now.calendar.now task.now.work_time.0 before kept }

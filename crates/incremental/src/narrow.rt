@@ -12,13 +12,13 @@ use calendar::{Window, Witnessed};
 use stretches::Task;
 use units::{Bounds, Hour};
 
-// How many hours after a bound that has moved, before it, or after the middle of the box a part reaches.
+// How many hours a part reaches on from its first hour: at the start of the box, at its end, or from its middle on.
 const NEAR: u16 = 24;
 
-// How many hours a box reaches for a part of it to be worth asking.
+// The least distance from a box's earliest start to its latest for which a part of it is asked.
 const WIDE: u16 = 96;
 
-// Whether a box has no starts but some of the larger one's, and its bounds of elapsed time and overtime.
+// Whether the small box's starts, at least one, are some or all of the large one's, and its bounds of elapsed time and overtime are the same.
 pub fn has_fewer_starts(small: Bounds, large: Bounds) -> bool
     ensures holds { result ≡ true → FewerStarts small large }
     ensures told { FewerStarts small large → result ≡ true }
@@ -56,7 +56,8 @@ fn rule_in(task: &Task, first: Hour, last: Hour) -> Option<Witnessed>
     })
 }
 
-// The same where the box is wide: else the whole of it is asked almost as soon, and has to be where the part does not do.
+// The same for a part of a wide box. A narrow one is not asked in part: the whole takes little longer, and would have to be asked too where the part does
+// not do.
 fn part_rule(task: &Task, first: u16, last: u16) -> Option<Witnessed>
     requires { RuleReady task.now.calendar.now task.now.bounds × (last ≤ task.now.bounds.latest.0)
         × (task.now.bounds.earliest.0 ≤ task.now.bounds.latest.0) }
@@ -115,8 +116,8 @@ fn start_or(b: Bounds, s: Hour, other: Hour, attains: bool) -> Option<Hour>
     attains.then_some(other)
 }
 
-// Starts from which the window's bounds of elapsed time and overtime are attained in the box: those of before, or from the middle of the box on, which
-// is where the fewest steps put them out of it again.
+// Starts from which the window's bounds of elapsed time and overtime are attained in the box: those of before, or starts from the middle of the box on,
+// which stay in it longest as starts are lost at either end.
 fn starts_of(task: &Task, w: Window, starts: Starts) -> Option<Starts>
     requires ready { RuleReady task.now.calendar.now task.now.bounds }
     requires had { (h : Had task.now.calendar.now task.now.work_time.0 task.now.bounds w)

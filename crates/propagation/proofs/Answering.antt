@@ -33,9 +33,6 @@ module _ {S : Shifts} {boxes : List ℕ} {a : Answers} where
   unfolding fit_at
   answers-are h i l = (h.keeps i l).is
 
-  pub none-answered : length a.fits ≡ most_tasks → length a.starts ≡ most_tasks → Answered S 0 boxes a
-  none-answered f s = record { fits = f; starts = s; keeps = λ i l. absurd (omega arith) }
-
   -- what is kept of task i is stored
   module _ {n : ℕ} (h : Answered S n boxes a) {i : ℕ} (kept : Kept) (there : i < most_tasks) {a' : Answers}
       (stored : (a'.fits ≡ set a.fits i kept.fit) × (a'.starts ≡ set a.starts i kept.starts)) where

@@ -15,7 +15,7 @@ use steps::{Ending, Filtered, Judged};
 use turns::{State, load};
 use units::{Duration, MOST_ROOMS};
 
-// The run on a plan that passed its tests, after so many steps taken before, with memory for the loads of the hours, which is 0. The answers of the
+// The run on a plan that passed its tests, after so many steps taken before, with memory for the loads of the hours, all numbers 0. The answers of the
 // calendar rule are kept, and of the moved task's only what the step changed is worked out; the loads are kept too, and mended by its old and its new
 // compulsory part.
 fn run_filter(
@@ -88,8 +88,8 @@ fn load_count(plan: &Plan) -> usize
     plan.rooms() * plan.shifts.hours.0 as usize
 }
 
-// The filter from a count on: after so many steps taken before, on the boxes that they left. The answer counts from the run's first step. Memory is
-// fixed, so that the loads have one of two sizes: a short plan, or one of few rooms, needs little, and it is set to 0.
+// The filter from a count on: after so many steps taken before, on the boxes that they left. The answer counts from the run's first step. Arrays have
+// fixed sizes and are set to 0 whole, so the loads get one of two: a short plan, or one of few rooms, needs little.
 pub fn filter_from(
     plan: &Plan,
     boxes: &mut [u16],

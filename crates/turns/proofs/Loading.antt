@@ -44,7 +44,7 @@ module _ (fits : List (Option Window)) (heights : List ℕ) (t : ℕ) where
   unfolding load_to sum_where sum_to
   load-none = refl
 
-  pub load-next : (n : ℕ) (fit : Option Window) → get_or fits n None ≡ fit → load_to (n + 1) ≡ load_to n + part_at fit (get_or heights n 0) t
+  load-next : (n : ℕ) (fit : Option Window) → get_or fits n None ≡ fit → load_to (n + 1) ≡ load_to n + part_at fit (get_or heights n 0) t
   unfolding load_to sum_where sum_to part_at
   load-next n fit e = rw (add-one, e)
 
@@ -318,7 +318,7 @@ module _ (fits : List (Option Window)) (heights : List ℕ) (i : ℕ) (was : Opt
       ∙ own-share (set fits i was) t
 
   -- where its answer was another, the load is another by its shares
-  pub load-changed : (t : ℕ)
+  load-changed : (t : ℕ)
       → load_of fits heights t + part_at was (get_or heights i 0) t
       ≡ load_of (set fits i was) heights t + part_at (get_or fits i None) (get_or heights i 0) t
   load-changed t = omega (arith, own-share fits t, own-was t, others-same t)
@@ -332,7 +332,7 @@ module _ (fits : List (Option Window)) (heights : List ℕ) (i : ℕ) (was : Opt
     second t = is-q own t ∙ ap (λ (height : ℕ). part_at (get_or fits i None) height t) is-own
 
     -- a load of before has the room for the change, and is the load of now once it is made
-    pub mend-within : RoomReady heights → {load : ℕ} (t : ℕ) → load ≡ load_of (set fits i was) heights t
+    mend-within : RoomReady heights → {load : ℕ} (t : ℕ) → load ≡ load_of (set fits i was) heights t
         → (share_in p own t ≤ load) × (load + share_in q own t < 65536 + share_in p own t)
     mend-within ready {load} t e = (
       omega (arith, e, first t, own-was t),
@@ -348,7 +348,7 @@ module _ (fits : List (Option Window)) (heights : List ℕ) (i : ℕ) (was : Opt
       ),
     )
 
-    pub mended : {load next : ℕ} (t : ℕ) → load ≡ load_of (set fits i was) heights t → next + share_in p own t ≡ load + share_in q own t
+    mended : {load next : ℕ} (t : ℕ) → load ≡ load_of (set fits i was) heights t → next + share_in p own t ≡ load + share_in q own t
         → next ≡ load_of fits heights t
     mended t e f = omega (arith, e, f, first t, second t, load-changed t)
 
@@ -363,7 +363,7 @@ pub record RoomsFilled (hours tasks : ℕ) (fits : List (Option Window)) (height
 module _ {hours tasks rooms : ℕ} {fits : List (Option Window)} {heights old new : List ℕ} {n : ℕ} (r : RoomsFilled hours tasks fits heights old new n)
     (each : length old ≡ rooms * hours) (there : n < rooms) where
   -- the next room's numbers lie among them, and are as they were
-  pub room-there : n * hours + hours ≤ length new
+  room-there : n * hours + hours ≤ length new
   room-there = omega (arith, r.same, part-within hours rooms n there)
 
   pub room-within : (t : ℕ) → t < hours → n * hours + t < length old

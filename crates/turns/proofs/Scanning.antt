@@ -62,7 +62,7 @@ none-above xs limit most e l =
 
 module _ (test : ℕ → Bool) where
   -- none passes, and none before the first that does
-  pub none-passes : (n : ℕ) → first_of (λ t. some_if (test t) t) n ≡ None → (t : ℕ) → t < n → test t ≡ false
+  none-passes : (n : ℕ) → first_of (λ t. some_if (test t) t) n ≡ None → (t : ℕ) → t < n → test t ≡ false
   none-passes n e t l = if_none _ _ (first-none _ n e t l)
 
   pub first-passes : (n i : ℕ) → first_of (λ t. some_if (test t) t) n ≡ Some i

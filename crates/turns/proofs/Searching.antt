@@ -200,7 +200,7 @@ module _ (P : Plan) (boxes : List ℕ) (fits : List (Option Window)) where
 
     module _ (i : ℕ) (w : Window) (b : Bounds) (e : get_or fits i None ≡ Some w) (f : b ≡ bounds_at boxes i) where
       -- the hours before the first, and those from the end on
-      pub early : (t : ℕ) → t ≡ first_hour lower w b → first_of (at_hour i) t ≡ None
+      early : (t : ℕ) → t ≡ first_hour lower w b → first_of (at_hour i) t ≡ None
       early t q = first-all-none (at_hour i) t (λ u l. none_before i u w b e f lower (omega arith))
 
       pub late : (end clip t : ℕ) → end ≡ end_hour lower w b → clip ≡ min end P.shifts.hours → clip ≤ t → first_of (at_hour i) t ≡ None

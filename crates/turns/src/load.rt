@@ -1,4 +1,5 @@
-// The load of each hour, from the answers of the calendar rule that are kept: made once, and mended where a task's answer becomes another.
+// The load of an hour, from the answers of the calendar rule that are kept: added up for one hour, or made for all once and mended where a task's answer
+// becomes another.
 ghost use Rattle.std.specs.Prelude.{◌≡◌, ℕ, ◌+◌, ◌*◌, ◌≤◌, ◌<◌, length, get_or, set, Some};
 ghost use Rattle.plan.specs.Plan.{room_count, task_count, heights_of};
 ghost use Rattle.plan.specs.Lent.{plan_in};

@@ -39,8 +39,8 @@ fn pass_stretch(loads: &[u16], from: usize, end: usize, limit: Height) -> usize
     }
 }
 
-// Of the hours from one to before another, those that can be passed over, up to the one that is answered: a task of the height with the window does
-// not exceed the room's capacity in them. In the hours of its compulsory part it is in the load already.
+// The hour up to which the hours from one to before another can be passed over: a task of the height with the window does not exceed the room's
+// capacity in them. In the hours of its compulsory part it is in the load already.
 pub fn pass_room(
     loads: &[u16],
     w: Window,

@@ -88,7 +88,7 @@ impl State<'_> {
         None
     }
 
-    // Of the hours from one to before another, those that can be passed over, up to the one that is answered: task i has no excess in them.
+    // The hour up to which the hours from one to before another can be passed over: task i has no excess in them.
     fn pass_hours(&self, w: Window, i: usize, loads: &[u16], from: Hour, end: Hour) -> Hour
         requires loaded { let P = plan_in self.now.plan.now in
             Loaded P.shifts.hours (room_count P) (task_count P) loads.now self.now.fits.now P.heights }

@@ -37,7 +37,7 @@ end_hour lower w b = if lower then ect w else b.latest.0 + b.shortest.0
 unfoldable pub part_at : Option Window → ℕ → ℕ → ℕ
 part_at fit height t = if must_run fit t then height else 0
 
--- and what one does that has these hours
+-- what a task of the height adds to the load of hour t, if these hours are its compulsory part
 unfoldable pub share_in : Part → ℕ → ℕ → ℕ
 share_in part height t = if leb part.from.0 t and ltb t part.end.0 then height else 0
 
