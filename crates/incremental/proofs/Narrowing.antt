@@ -201,19 +201,18 @@ module _ (cal : List ℕ) (p : ℕ) where
       before : (t : Triple) → ValidIn cal p b t → ValidIn cal p h.large t
       before t v = same-in (fewer-same h.fewer) v (omega (arith, h.fewer.earliest, v.inside.earliest)) (omega (arith, h.fewer.latest, v.inside.latest))
 
+      -- the bound of before stands where it is a start of the box
+      stands : {no_worse : ℕ → ℕ → Type 0} {start end : Window → ℕ} → Sided no_worse start end → within b.earliest.0 b.latest.0 (start w) ≡ true
+          → (u : Window) × (rule_of cal p b ≡ Some u) × (start w ≡ start u) × (end w ≡ end u)
+      stands side e =
+          common side b h.large ready.shortest (same-times (fewer-same h.fewer)) w h.is (from-least _ _ _ e) (to-most _ _ _ e)
+          (λ t v. side.start_held h.large w h.is t (before t v))
+
       pub first-stands : within b.earliest.0 b.latest.0 w.bounds.earliest.0 ≡ true → HasFirst cal p b w
-      first-stands e =
-          let side = first-sided ready.symbols in
-          from-first w
-          (common side b h.large ready.shortest (same-times (fewer-same h.fewer)) w h.is (from-least _ _ _ e) (to-most _ _ _ e)
-          (λ t v. side.start_held h.large w h.is t (before t v)))
+      first-stands e = from-first w (stands (first-sided ready.symbols) e)
 
       pub last-stands : within b.earliest.0 b.latest.0 w.bounds.latest.0 ≡ true → HasLast cal p b w
-      last-stands e =
-          let side = last-sided ready.symbols in
-          from-last w
-          (common side b h.large ready.shortest (same-times (fewer-same h.fewer)) w h.is (from-least _ _ _ e) (to-most _ _ _ e)
-          (λ t v. side.start_held h.large w h.is t (before t v)))
+      last-stands e = from-last w (stands (last-sided ready.symbols) e)
 
     -- the rule's answer for the first hours of the box, and for the last
     module _ (s : Hour) (v : Window) where

@@ -1,6 +1,6 @@
 // The answer for a box with fewer starts. Each of its bounds either stands, since a triple that attains it still lies in the box, or is found in a part
 // of the box; where it is not found there, the answer is not found here.
-ghost use Rattle.std.specs.Prelude.{◌≡◌, true, ◌≤◌, Option, Some, None, if◌then◌else◌};
+ghost use Rattle.std.specs.Prelude.{◌≡◌, ◌⊎◌, true, ◌≤◌, Option, Some, None, if◌then◌else◌};
 ghost use Rattle.units.specs.Limits.{hour, within};
 ghost use Rattle.calendar.specs.declared.Witnessed.{Witnessed};
 ghost use Rattle.calendar.specs.Rule.{witnessed_rule};
@@ -70,8 +70,21 @@ fn part_rule(task: &Task, first: u16, last: u16) -> Option<Witnessed>
     rule_in(task, Hour(first), Hour(last))
 }
 
-// A window with the least start and the least end: the one before, where its first start is one of the box, or the one of the box's first hour, which
-// mostly has a valid triple, or of its first hours.
+// The calendar rule for the start at an edge of the box alone, which mostly has a valid triple, or for a part of the box.
+fn rule_at(task: &Task, edge: Hour, first: u16, last: u16) -> Option<Witnessed>
+    requires ready { RuleReady task.now.calendar.now task.now.bounds × (task.now.bounds.earliest.0 ≤ task.now.bounds.latest.0) }
+    requires inside { (edge.0 ≤ task.now.bounds.latest.0) × (last ≤ task.now.bounds.latest.0) }
+    ensures { let T = task.now in (found : Witnessed) → result ≡ Some found
+        → (witnessed_rule T.calendar.now T.work_time.0 (starting_in T.bounds edge edge) ≡ Some found)
+        ⊎ (witnessed_rule T.calendar.now T.work_time.0 (starting_in T.bounds (hour first) (hour last)) ≡ Some found) }
+{
+    if let Some(found) = rule_in(task, edge, edge) {
+        return Some(found);
+    }
+    part_rule(task, first, last)
+}
+
+// A window with the least start and the least end: the one before, where its first start is one of the box, or the one of the box's first hours.
 fn with_first(task: &Task, w: Window) -> Option<Window>
     requires ready { RuleReady task.now.calendar.now task.now.bounds }
     requires had { Had task.now.calendar.now task.now.work_time.0 task.now.bounds w }
@@ -81,14 +94,12 @@ fn with_first(task: &Task, w: Window) -> Option<Window>
     if is_start(b, w.bounds.earliest) {
         return Some(w);
     }
-    if let Some(near) = rule_in(task, b.earliest, b.earliest) {
-        return Some(near.window);
-    }
-    let near = part_rule(task, b.earliest.0, (b.earliest.0 + NEAR).min(b.latest.0))?;
+    let last = (b.earliest.0 + NEAR).min(b.latest.0);
+    let near = rule_at(task, b.earliest, b.earliest.0, last)?;
     Some(near.window)
 }
 
-// A window with the greatest start and the greatest end, likewise from the box's last hour, or its last hours.
+// A window with the greatest start and the greatest end, likewise from the box's last hours.
 fn with_last(task: &Task, w: Window) -> Option<Window>
     requires ready { RuleReady task.now.calendar.now task.now.bounds }
     requires had { Had task.now.calendar.now task.now.work_time.0 task.now.bounds w }
@@ -98,11 +109,8 @@ fn with_last(task: &Task, w: Window) -> Option<Window>
     if is_start(b, w.bounds.latest) {
         return Some(w);
     }
-    if let Some(near) = rule_in(task, b.latest, b.latest) {
-        return Some(near.window);
-    }
     let first = b.latest.0.saturating_sub(NEAR).max(b.earliest.0);
-    let near = part_rule(task, first, b.latest.0)?;
+    let near = rule_at(task, b.latest, first, b.latest.0)?;
     Some(near.window)
 }
 
