@@ -18,13 +18,12 @@ use Rattle.plan.specs.HourKinds.{is_kind, regular, closed, overtime, hours_of}
 use Rattle.plan.proofs.HourKinds.{open-works}
 use Rattle.stretches.specs.declared.Stretch.{Stretch}
 use Rattle.stretches.specs.Inner.Stretches.{IsStretch}
-use Rattle.stretches.specs.declared.TheConstants.Stretch.{NO_HOURS}
 use Rattle.stretches.specs.Inner.Stretches.{open_length, regular_length, stretch_of, may_end, may_last, shortest_at, longest_at}
-use Rattle.stretches.specs.Inner.Stretches.{lengthened}
+use Rattle.stretches.specs.Inner.Stretches.{lengthened, stretch_from, nothing_at}
 use Rattle.stretches.proofs.Counting.{hours-more, hours-none, hours-first, hours-mono, regulars}
 use Rattle.stretches.proofs.Lasts.{last-le, last-regulars, last-holds, regular-open, open-le, open-regular, open-last, open-past, open-itself}
 use Rattle.stretches.proofs.Stretches.{last-is, regular-is, counts-are, MayEnd, may-end, ends-may, MayLast}
-use Rattle.stretches.proofs.Stretches.{may-last, lasts-may, last-shorter, no-stretch, own-hours, own-stretch}
+use Rattle.stretches.proofs.Stretches.{may-last, lasts-may, last-shorter, nothing-is, own-hours, own-stretch}
 use Rattle.stretches.proofs.Stretches.{long-inside, long-none, long-holds, end-next}
 use Rattle.stretches.proofs.Stretches.{last-next}
 use Rattle.calendar.specs.declared.Triple.{Triple}
@@ -374,18 +373,17 @@ pub record Carried (cal : List ℕ) (p : ℕ) (b : Bounds) (s : ℕ) (shortest l
   pub none_before : (e : ℕ) → e < shortest.hours.0 → may_end p b (stretch_of cal s e) ≡ false
   pub lasts : (e : ℕ) → 1 ≤ e → e ≤ longest.hours.0 → may_last cal p b s e ≡ true
 
-pub carried_first : {cal : List ℕ} {p : ℕ} {b : Bounds} {s : ℕ} (shortest longest : Stretch) → shortest ≡ NO_HOURS → longest ≡ NO_HOURS
-    → Carried cal p b s shortest longest
-carried_first {cal} {s = s} shortest longest short long =
-    rw (short, long)
-    (record {
-      is_shortest = no-stretch cal s;
-      is_longest = no-stretch cal s;
+pub carried_first : {cal : List ℕ} {p : ℕ} {b : Bounds} (s : ℕ) → Carried cal p b s (stretch_from s (nothing_at s)) (stretch_from s (nothing_at s))
+carried_first {cal} s =
+    let None : s - s ≡ 0 = omega arith in
+    record {
+      is_shortest = nothing-is cal s ∙ ap (stretch_of cal s) (sym None);
+      is_longest = nothing-is cal s ∙ ap (stretch_of cal s) (sym None);
       shortest_inside = omega arith;
       longest_inside = omega arith;
       none_before = λ e l. absurd (omega arith);
       lasts = λ e l u. absurd (omega arith);
-    })
+    }
 
 -- ---- where a task that starts at s may end at no hour
 
@@ -499,18 +497,31 @@ module _ {cal : List ℕ} {p : ℕ} {b : Bounds} {s : ℕ} {shortest longest : S
             none_after = past;
           }
 
--- and without their first hour they hold the same of the next start
-pub carried-next : {cal : List ℕ} {p : ℕ} {b : Bounds} {s : ℕ} {shortest longest : Stretch} → Reaches cal p b s shortest longest
-    → (short long : Stretch) → short ≡ stretch_of cal (s + 1) (shortest.hours.0 - 1) → long ≡ stretch_of cal (s + 1) (longest.hours.0 - 1)
-    → Carried cal p b (s + 1) short long
-carried-next {cal} {p} {b} {s} R short long is-short is-long =
-    let short-hours = own-hours cal (s + 1) _ short is-short in
-    let long-hours = own-hours cal (s + 1) _ long is-long in
-    record {
-      is_shortest = own-stretch cal (s + 1) _ short is-short;
-      is_longest = own-stretch cal (s + 1) _ long is-long;
-      shortest_inside = omega (arith, short-hours, R.is_shortest.hours.inside);
-      longest_inside = omega (arith, long-hours, R.is_longest.hours.inside);
-      none_before = λ e l. end-next cal p b s e R.ready.shortest (R.none_before (e + 1) (omega (arith, short-hours)));
-      lasts = λ e l u. last-next cal p b s e (R.lasts (e + 1) (omega arith) (omega (arith, long-hours)));
-    }
+module _ {cal : List ℕ} {p : ℕ} {b : Bounds} {s : ℕ} {shortest longest : Stretch} where
+  -- what holds once they are lengthened holds before, too
+  pub carried : Reaches cal p b s shortest longest → Carried cal p b s shortest longest
+  carried R =
+      record {
+        is_shortest = R.is_shortest.is;
+        is_longest = R.is_longest.is;
+        shortest_inside = omega (arith, R.is_shortest.hours.inside);
+        longest_inside = omega (arith, R.is_longest.hours.inside);
+        none_before = R.none_before;
+        lasts = R.lasts;
+      }
+
+  -- and without their first hour they hold the same of the next start
+  pub carried-next : RuleReady cal b → Carried cal p b s shortest longest → (short long : Stretch)
+      → short ≡ stretch_of cal (s + 1) (shortest.hours.0 - 1) → long ≡ stretch_of cal (s + 1) (longest.hours.0 - 1)
+      → Carried cal p b (s + 1) short long
+  carried-next ready c short long is-short is-long =
+      let short-hours = own-hours cal (s + 1) _ short is-short in
+      let long-hours = own-hours cal (s + 1) _ long is-long in
+      record {
+        is_shortest = own-stretch cal (s + 1) _ short is-short;
+        is_longest = own-stretch cal (s + 1) _ long is-long;
+        shortest_inside = omega (arith, short-hours, c.shortest_inside);
+        longest_inside = omega (arith, long-hours, c.longest_inside);
+        none_before = λ e l. end-next cal p b s e ready.shortest (c.none_before (e + 1) (omega (arith, short-hours)));
+        lasts = λ e l u. last-next cal p b s e (c.lasts (e + 1) (omega arith) (omega (arith, long-hours)));
+      }

@@ -3,18 +3,19 @@
 
 mod widen;
 
-ghost use Rattle.std.specs.Prelude.{◌≡◌, ◌+◌, ◌≤◌, ◌<◌, length};
+ghost use Rattle.std.specs.Prelude.{None, false, ◌≡◌, ◌+◌, ◌≤◌, ◌<◌, length};
 ghost use Rattle.units.specs.Limits.{most_hours};
+ghost use Rattle.plan.specs.HourKinds.{is_kind, closed};
 ghost use Rattle.calendar.specs.Valid.{overtime_ends};
 ghost use Rattle.calendar.specs.Triples.{valid_triple, starting};
 ghost use Rattle.calendar.specs.Rule.{witnessed_rule, without_witnesses};
 ghost use Rattle.plan.specs.Refusals.{answer_of};
 ghost use Rattle.calendar.specs.Entry.{calendar_rule};
 ghost use Rattle.calendar.specs.Inner.Ready.{HasCounts, RuleReady, Reaches};
-ghost use Rattle.calendar.specs.Inner.Windows.{with_triples};
+ghost use Rattle.calendar.specs.Inner.Windows.{Before, with_triples};
 
 use plan::{HourKind, Plan, Refusal};
-use stretches::{Counts, Stretch, Task, count_hours, reach};
+use stretches::{Counts, Reach, Stretch, Task, count_hours};
 use units::{Bounds, Duration, Hour};
 
 // 01's (s, e, o): when a task starts, how long it lasts, and its overtime.
@@ -104,49 +105,68 @@ pub fn is_valid(calendar: &[u8], work_time: Duration, t: Triple) -> bool
     is_valid_by(calendar, work_time, t, n)
 }
 
-// The answer with the valid triples in the box that start at s. They end at the open hours from the shortest stretch to the longest.
-fn with_start(
+// The answer so far gets the valid triples in the box that start at the open hour s. They end at the open hours from the shortest stretch to the longest.
+// What the second clause promises, the next start asks for.
+fn add_start(
+    found: &mut Option<Witnessed>,
     task: &Task,
     s: Hour,
     shortest: Stretch,
     longest: Stretch,
-    found: Option<Witnessed>,
-) -> Option<Witnessed>
-    requires { Reaches task.now.calendar.now task.now.work_time.0 task.now.bounds s.0 shortest longest }
-    ensures { result ≡ with_triples found (starting task.now.calendar.now task.now.work_time.0 task.now.bounds s.0) }
+)
+    requires reaches { Reaches task.now.calendar.now task.now.work_time.0 task.now.bounds s.0 shortest longest }
+    requires open_start { is_kind closed task.now.calendar.now s.0 ≡ false }
+    requires before { Before s.0 (s.0 + shortest.hours.0) (s.0 + longest.last.0) found.old }
+    ensures is { found.new ≡ with_triples found.old (starting task.now.calendar.now task.now.work_time.0 task.now.bounds s.0) }
+    ensures after { Before (s.0 + 1) (s.0 + shortest.hours.0) (s.0 + longest.last.0) found.new }
 {
-    if HourKind::Closed.is_at(task.calendar, s.0 as usize) {
-        return found;
-    }
     if longest.last < shortest.hours {
-        return found;
+        return;
     }
-    let later = widen::witnessed_from(task.work_time, s, shortest, longest);
-    widen::with_window(found, later)
+    widen::add_window(found, task.work_time, s, shortest, longest);
 }
 
-// The calendar rule for input that is tested. A later start ends no earlier, so both stretches only go forward; and where a start has no end, nor has any
-// after it.
+// Puts the calendar rule's answer, for input that is tested, where there is none yet. A later start ends no earlier, so both reaches only go forward;
+// and where a start has no end, nor has any after it. Not inlined, so that the answer lies in memory: else it takes the registers that the reaches need.
+#[inline(never)]
+fn add_starts(found: &mut Option<Witnessed>, task: &Task)
+    requires ready { RuleReady task.now.calendar.now task.now.bounds }
+    requires nothing { found.old ≡ None }
+    ensures { found.new ≡ witnessed_rule task.now.calendar.now task.now.work_time.0 task.now.bounds }
+{
+    let first = task.bounds.earliest;
+    let mut shortest = Reach::nothing_at(first);
+    let mut longest = Reach::nothing_at(first);
+    // By start: each one's reaches are made of those of the one before. (`..=` would leave the loop at two places.)
+    for s in first.0..task.bounds.latest.0 + 1 {
+        let start = Hour(s);
+        if !HourKind::Closed.is_at(task.calendar, s as usize) {
+            let Some(at) = task.shortest_from(start, shortest) else {
+                return;
+            };
+            shortest = at;
+            longest = task.longest_from(start, longest);
+            add_start(
+                found,
+                task,
+                start,
+                shortest.stretch_from(start),
+                longest.stretch_from(start),
+            );
+        }
+        shortest = shortest.without_start(task.calendar, start);
+        longest = longest.without_start(task.calendar, start);
+    }
+}
+
+// The calendar rule for input that is tested.
 pub fn rule(task: &Task) -> Option<Witnessed>
     requires { RuleReady task.now.calendar.now task.now.bounds }
     ensures { result ≡ witnessed_rule task.now.calendar.now task.now.work_time.0 task.now.bounds }
 {
-    let mut shortest = Stretch::NO_HOURS;
-    let mut longest = Stretch::NO_HOURS;
-    let mut best = None;
-    // By start: each one's stretches are made of those of the one before.
-    for s in task.bounds.earliest.0..=task.bounds.latest.0 {
-        let start = Hour(s);
-        shortest = task.shortest_from(start, shortest);
-        if !task.may_end(shortest) {
-            return best;
-        }
-        longest = task.longest_from(start, longest);
-        best = with_start(task, start, shortest, longest, best);
-        shortest = reach::without_first(task.calendar, start, shortest);
-        longest = reach::without_first(task.calendar, start, longest);
-    }
-    best
+    let mut found = None;
+    add_starts(&mut found, task);
+    found
 }
 
 // The answer without its witnesses.

@@ -1,7 +1,7 @@
 // Stretches of a calendar: so many hours from one start on, and their counts.
 #![tactic(auto)]
 
-pub mod reach;
+mod ends;
 
 ghost use Rattle.std.specs.Prelude.{◌≡◌, ◌+◌, ◌*◌, ◌≤◌, ◌<◌, length};
 ghost use Rattle.units.specs.Limits.{box_numbers, most_hours, duration};
@@ -25,19 +25,31 @@ pub struct Task<'a> {
 }
 
 // The regular and the overtime hours of a stretch of a calendar.
-#[derive(Clone, Copy, PartialEq, Eq)]
+#[derive(Clone, Copy)]
 pub struct Counts {
     pub regular: u16,
     pub overtime: u16,
 }
 
 // So many hours from one start on, how many up to the last open one and up to the last regular one, and the counts.
-#[derive(Clone, Copy, PartialEq, Eq)]
+#[derive(Clone, Copy)]
 pub struct Stretch {
     pub hours: Duration,
     pub last: Duration,
     pub regular: Duration,
     pub counts: Counts,
+}
+
+// A stretch from some start, by hours of the plan, so that its ends stay as they are from the next start on: where it ends, where its last open hour
+// ends and where its last regular one, if any lie after the start, and how many of its hours are regular and overtime. The two counts are of two widths:
+// of one width both would be kept in one vector register, which is slower.
+#[derive(Clone, Copy)]
+pub struct Reach {
+    pub end: Hour,
+    pub open_end: Hour,
+    pub regular_end: Hour,
+    pub regular: u32,
+    pub overtime: u16,
 }
 
 impl<'a> Task<'a> {
@@ -63,16 +75,6 @@ impl Counts {
     pub const NO_HOURS: Counts = Counts {
         regular: 0,
         overtime: 0,
-    };
-}
-
-impl Stretch {
-    // Of no hours.
-    pub const NO_HOURS: Stretch = Stretch {
-        hours: Duration(0),
-        last: Duration(0),
-        regular: Duration(0),
-        counts: Counts::NO_HOURS,
     };
 }
 

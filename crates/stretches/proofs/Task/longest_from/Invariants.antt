@@ -1,0 +1,17 @@
+use mathlib.Core.Path.{◌≡◌}
+use Prim.Native.Nat.{◌-◌, ◌<◌}
+use lib.ListN.{length}
+use Rattle.stretches.specs.Inner.Stretches.{IsReach, longest_at, lengthened}
+use Rattle.stretches.proofs.Task.longest_from.Given as goal
+
+-- what is found has some hours, and is lengthened to where it was when the loop began
+
+abbrev pub invariant-loop-at : goal.invariant-loop-at
+invariant-loop-at l =
+    let cal = l.self.calendar.now in
+    let s = l.fn.s.0 in
+    let test = longest_at cal l.self.work_time.0 l.self.bounds s in
+    IsReach cal s l.at × (s < l.at.end.0) × (lengthened cal s test (l.at.end.0 - s) ≡ lengthened cal s test (l.initial.at.end.0 - s))
+
+abbrev pub decreases-loop-at : goal.decreases-loop-at
+decreases-loop-at l = length l.self.calendar.now - l.at.end.0
