@@ -1,6 +1,8 @@
 /* Times the library against a plain implementation of the same definitions in C: same plans, same memory, one run. Both must leave the same
    answer, boxes and log before a time is printed. The plain one keeps each task's answer of the calendar rule, works the moved task's out anew and
-   makes the load of each hour in each room once a turn; its calendar rule tries each start and each elapsed time with running counts. */
+   makes the load of each hour in each room once a turn; its calendar rule tries each start and each elapsed time with running counts. It has its
+   calendars as letters, the library packed, which they are before the clock runs. At last long plan texts are read by the library and by a plain
+   reader. */
 
 #include "../crates/capi/shimlantern.h"
 
@@ -9,13 +11,13 @@
 #include <string.h>
 #include <time.h>
 
-enum { HOURS = 1008, TASKS = 64, ROOM = 2048, MOST_ROOM = 16384, CALENDARS = 16, ROOMS = 8, PAIRS = 256 };
+enum { HOURS = 1008, YEAR = 8784, TASKS = 64, ROOM = 2048, MOST_ROOM = 16384, CALENDARS = 16, ROOMS = 8, PAIRS = 256 };
 
 /* Of TASKS tasks, so that room r's heights begin at cell r * TASKS. The log that a run of it is lent has `log_room` steps. */
 struct plan {
     uint16_t hours;
     size_t rooms, calendars, tasks, pairs, log_room;
-    uint8_t symbols[CALENDARS * HOURS];
+    uint8_t symbols[CALENDARS * YEAR], packed[SHIMLANTERN_MOST_PACKED];
     uint16_t capacities[ROOMS], task_calendars[TASKS], work_times[TASKS], heights[ROOMS * TASKS], pair_tasks[2 * PAIRS];
 };
 
@@ -25,6 +27,16 @@ struct memory {
     uint16_t tasks[MOST_ROOM], hours[MOST_ROOM];
     uint64_t answer[4];
 };
+
+/* A calendar of letters packed, from a new byte on. */
+static void pack(const uint8_t *symbols, size_t hours, uint8_t *packed) {
+    memset(packed, 0, SHIMLANTERN_CALENDAR_BYTES(hours));
+    for (size_t t = 0; t < hours; t++) packed[t / 4] |= (symbols[t] == 'r' ? 1 : symbols[t] == 'o' ? 2 : 0) << 2 * (t % 4);
+}
+
+static void pack_all(struct plan *p) {
+    for (size_t k = 0; k < p->calendars; k++) pack(p->symbols + k * p->hours, p->hours, p->packed + k * SHIMLANTERN_CALENDAR_BYTES(p->hours));
+}
 
 /* The plain implementation. */
 
@@ -86,13 +98,14 @@ struct found {
 
 /* The first admitted step, in the filter's order (02, W-207: O before C); kind 0 if there is none. */
 static struct found next_step(const struct plan *p, const uint16_t *boxes, const struct fit *fits) {
-    static unsigned load[ROOMS][HOURS];
-    memset(load, 0, p->rooms * sizeof *load);
-    for (size_t r = 0; r < p->rooms; r++)
+    static unsigned load[ROOMS][YEAR];
+    for (size_t r = 0; r < p->rooms; r++) {
+        memset(load[r], 0, p->hours * sizeof **load);
         for (size_t i = 0; i < p->tasks; i++) {
             if (!fits[i].any) continue;
             for (unsigned t = fits[i].box[1]; t < fits[i].ect; t++) load[r][t] += p->heights[r * TASKS + i];
         }
+    }
     for (size_t r = 0; r < p->rooms; r++)
         for (unsigned t = 0; t < p->hours; t++)
             if (load[r][t] > p->capacities[r]) return (struct found){'O', r, t};
@@ -153,9 +166,9 @@ static void plain_filter(const struct plan *p, struct memory *m) {
 /* The library. */
 
 static void library_filter(const struct plan *p, struct memory *m) {
-    shimlantern_filter(p->hours, p->capacities, p->rooms, p->symbols, p->calendars * p->hours, p->task_calendars, p->tasks, p->work_times,
-                       p->tasks, p->heights, p->rooms * p->tasks, p->pair_tasks, 2 * p->pairs, m->boxes, 6 * p->tasks, m->kinds, p->log_room,
-                       m->tasks, p->log_room, m->hours, p->log_room, m->answer);
+    shimlantern_filter(p->hours, p->capacities, p->rooms, p->packed, p->calendars * SHIMLANTERN_CALENDAR_BYTES(p->hours), p->task_calendars,
+                       p->tasks, p->work_times, p->tasks, p->heights, p->rooms * p->tasks, p->pair_tasks, 2 * p->pairs, m->boxes, 6 * p->tasks,
+                       m->kinds, p->log_room, m->tasks, p->log_room, m->hours, p->log_room, m->answer);
 }
 
 /* The plans. */
@@ -171,7 +184,7 @@ static void add_task(struct plan *p, uint16_t *boxes, uint16_t calendar, uint16_
 
 /* Days of the hours of one pattern, which begin at another hour in each of the plan's calendars. */
 static void fill_days(struct plan *p, const char *day) {
-    for (size_t k = 0; k < p->calendars * HOURS; k++) p->symbols[k] = day[(k % HOURS + 5 * (k / HOURS)) % 24];
+    for (size_t k = 0; k < p->calendars * p->hours; k++) p->symbols[k] = day[(k % p->hours + 5 * (k / p->hours)) % 24];
 }
 
 /* Four calendars of days with two closed and two overtime hours. Four tasks fill the capacity at the start of the plan and four near its end;
@@ -263,7 +276,7 @@ static void pushed_earlier(struct plan *p, uint16_t *boxes) {
     pushed_from(1, p, boxes);
 }
 
-/* The greatest sizes, and a run of more steps than a year has hours, of every kind but O, which would end it. Six tasks fill all rooms for a
+/* The greatest sizes but for H, and a run of more steps than a year has hours, of every kind but O, which would end it. Six tasks fill all rooms for a
    stretch each, the longest at the start and near the end. The others, of a few hours, may start at any and stand in two rooms each. L and U move
    them out of those stretches and C out of closed hours; F and B, since 256 pairs make them follow each other, move them into the next stretch. */
 static void greatest_sizes(struct plan *p, uint16_t *boxes) {
@@ -279,6 +292,28 @@ static void greatest_sizes(struct plan *p, uint16_t *boxes) {
         for (size_t r = 0; r < ROOMS; r++) p->heights[r * TASKS + i] = fixed ? 4 : (i + r) % ROOMS < 2 ? 1 + i % 3 : 0;
     }
     add_pairs(p, FIXED, 36);
+}
+
+/* Some thousand steps in eight rooms, for any number of hours: of the plan above the tasks that fill the capacity for a stretch, the other four
+   near the end of the plan, and those that start between; they settle. The stretches are as long in a year as in a ninth of it, and so is the run. */
+static void seasons_of(uint16_t hours, struct plan *p, uint16_t *boxes) {
+    *p = (struct plan){.hours = hours, .rooms = ROOMS, .calendars = 4, .log_room = MOST_ROOM};
+    fill_days(p, "rrrrrrrrrrrrrrrrrrrroocc");
+    for (size_t r = 0; r < ROOMS; r++) p->capacities[r] = r ? 4 * TASKS : 4;
+    for (uint16_t i = 0; i < TASKS; i++) {
+        uint16_t near_end = (hours / 24 - 5) * 24 + 2, first = i >= 4 && i < 8 ? near_end : 0, last = i < 8 ? first : near_end + 30;
+        uint16_t work = i < 8 ? 31 + i : 4 + 7 * i % 40;
+        add_task(p, boxes, i % 4, work, i < 8 ? 1 : 1 + i % 3, (uint16_t[]){first, last, 1, hours, 0, work});
+        for (size_t r = 1; r < ROOMS; r++) p->heights[r * TASKS + i] = 1 + (i + r) % 3;
+    }
+}
+
+static void a_year(struct plan *p, uint16_t *boxes) {
+    seasons_of(YEAR, p, boxes);
+}
+
+static void a_ninth(struct plan *p, uint16_t *boxes) {
+    seasons_of(YEAR / 9, p, boxes);
 }
 
 /* Times. */
@@ -297,13 +332,14 @@ static void print_times(const char *name, double library, double plain) {
     printf("%-54s library %9.4f ms   plain C %9.4f ms   ratio %7.4f\n", name, 1e3 * library, 1e3 * plain, library / plain);
 }
 
-/* The two take turns, and the least time of each counts. */
-static void time_filter(const char *name, void (*make)(struct plan *, uint16_t *), int times) {
+/* The two take turns, and the least time of each counts. Answers the library's. */
+static double time_filter(const char *name, void (*make)(struct plan *, uint16_t *), int times) {
     static struct plan p;
     static struct memory opening, by_library, by_plain;
     double library = 1e9, plain = 1e9;
     memset(&opening, 0, sizeof opening);
     make(&p, opening.boxes);
+    pack_all(&p);
     for (int k = 0; k < times; k++) {
         by_library = by_plain = opening;
         double start = seconds();
@@ -320,20 +356,22 @@ static void time_filter(const char *name, void (*make)(struct plan *, uint16_t *
     char told[80];
     snprintf(told, sizeof told, "%s, %llu steps", name, (unsigned long long)by_library.answer[2]);
     print_times(told, library, plain);
+    return library;
 }
 
 /* The rule on a calendar of the hours of one pattern, over and over, and the full box. */
-static void time_rule(const char *name, const char *pattern, uint16_t work, int times) {
-    static uint8_t calendar[HOURS];
-    const uint16_t box[6] = {0, HOURS - 1, 1, HOURS, 0, work};
+static void time_rule(const char *name, const char *pattern, uint16_t hours, uint16_t work, int times) {
+    static uint8_t calendar[YEAR], packed[SHIMLANTERN_CALENDAR_BYTES(YEAR)];
+    const uint16_t box[6] = {0, hours - 1, 1, hours, 0, work};
     double library = 1e9, plain = 1e9;
-    for (size_t t = 0; t < HOURS; t++) calendar[t] = pattern[t % strlen(pattern)];
+    for (size_t t = 0; t < hours; t++) calendar[t] = pattern[t % strlen(pattern)];
+    pack(calendar, hours, packed);
     for (int k = 0; k < times; k++) {
         uint64_t answer[SHIMLANTERN_RULE_NUMBERS];
         double start = seconds();
-        shimlantern_calendar_rule(calendar, HOURS, work, box, answer);
+        shimlantern_calendar_rule(hours, packed, SHIMLANTERN_CALENDAR_BYTES(hours), work, box, answer);
         double between = seconds();
-        struct fit f = plain_rule(calendar, HOURS, work, box);
+        struct fit f = plain_rule(calendar, hours, work, box);
         library = lesser(library, between - start);
         plain = lesser(plain, seconds() - between);
         uint64_t expected[SHIMLANTERN_RULE_NUMBERS] = {0, 0, f.any, f.box[0], f.box[1], f.box[2], f.box[3], f.box[4], f.box[5], f.ect, f.lct};
@@ -346,6 +384,130 @@ static void time_rule(const char *name, const char *pattern, uint16_t work, int 
     print_times(name, library, plain);
 }
 
+/* Plan text. */
+
+/* The cells that reading a plan needs. */
+struct cells {
+    uint16_t capacities[ROOMS], task_calendars[TASKS], work_times[TASKS], heights[ROOMS * TASKS], pairs[2 * PAIRS], boxes[6 * TASKS];
+    uint8_t calendars[SHIMLANTERN_MOST_PACKED];
+};
+
+/* The numbers of a line, each after a tab: the first `most` of them, and how many there are; -1 where one is malformed. */
+static long plain_numbers(const uint8_t *at, const uint8_t *end, uint16_t *numbers, long most) {
+    long count = 0;
+    while (at < end) {
+        if (*at++ != '\t') return -1;
+        const uint8_t *first = at;
+        unsigned n = 0;
+        while (at < end && *at >= '0' && *at <= '9' && n <= UINT16_MAX) n = 10 * n + (*at++ - '0');
+        if (at == first || n > UINT16_MAX || (*first == '0' && at > first + 1)) return -1;
+        if (count < most) numbers[count] = n;
+        count++;
+    }
+    return count;
+}
+
+/* A plain reader of texts of one room whose lines are in order: the first malformed line, or the first of 2, 3, 4, 5, 19. It keeps the first
+   calendars, tasks and pairs, as many as there may be. */
+static void plain_read(const uint8_t *text, size_t length, struct cells *c, uint64_t answer[2]) {
+    const uint8_t *at = text, *end = text + length;
+    size_t calendars = 0, tasks = 0, pairs = 0, letters = 0, bad = SIZE_MAX, line = 1;
+    uint16_t hours = 0, numbers[9];
+    int lengths_differ = 0;
+    for (; at < end; line++) {
+        const uint8_t *stop = memchr(at, '\n', end - at);
+        size_t n = stop ? stop - at : 0;
+        int right = stop && n < 8800 && line <= 65535;
+        if (right && n > 4 && !memcmp(at, "plan", 4)) {
+            right = line == 1 && plain_numbers(at + 4, stop, numbers, 9) == 2;
+            hours = numbers[0];
+            c->capacities[0] = numbers[1];
+        } else if (right && n > 4 && !memcmp(at, "cal\t", 4)) {
+            lengths_differ |= n - 4 != hours;
+            uint8_t *packed = c->calendars + calendars * SHIMLANTERN_CALENDAR_BYTES(hours);
+            for (size_t t = 0; t < n - 4; t++, letters++) {
+                unsigned code = at[4 + t] == 'r' ? 1 : at[4 + t] == 'o' ? 2 : 0;
+                if (!code && at[4 + t] != 'c' && bad == SIZE_MAX) bad = letters;
+                if (calendars >= CALENDARS || t >= hours) continue;
+                if (t % 4 == 0) packed[t / 4] = 0;
+                packed[t / 4] |= code << 2 * (t % 4);
+            }
+            calendars++;
+        } else if (right && n > 4 && !memcmp(at, "task", 4)) {
+            right = plain_numbers(at + 4, stop, numbers, 9) == 9;
+            if (right && tasks < TASKS) {
+                c->task_calendars[tasks] = numbers[0];
+                c->work_times[tasks] = numbers[1];
+                c->heights[tasks] = numbers[2];
+                memcpy(c->boxes + 6 * tasks, numbers + 3, 6 * sizeof *numbers);
+            }
+            tasks++;
+        } else if (right && n > 5 && !memcmp(at, "after", 5)) {
+            right = plain_numbers(at + 5, stop, numbers, 9) == 2;
+            if (right && pairs < PAIRS) memcpy(c->pairs + 2 * pairs, numbers, 2 * sizeof *numbers);
+            pairs++;
+        } else
+            right = 0;
+        if (!right) break;
+        at = stop + 1;
+    }
+    uint64_t number = at < end ? 1 : !hours || hours > YEAR ? 2 : calendars < 1 || calendars > CALENDARS || lengths_differ ? 3 : 0;
+    if (!number) number = bad < SIZE_MAX ? 4 : tasks > TASKS ? 5 : pairs > PAIRS ? 19 : 0;
+    answer[0] = number;
+    answer[1] = number == 1 ? line : number == 4 ? bad : 0;
+}
+
+/* The times that the library and the plain reader take for a byte. */
+struct reading_times {
+    double library, plain;
+};
+
+/* Reads a text of so many calendars of a year, so many tasks and as many pairs as make so many lines, so many times. */
+static struct reading_times time_reading(const char *name, size_t calendars, size_t tasks, size_t lines, int times) {
+    static uint8_t text[1 << 23];
+    static struct cells c, plain_cells;
+    uint64_t answer[SHIMLANTERN_READ_NUMBERS], plain_answer[2];
+    double library = 1e9, plain = 1e9;
+    char *at = (char *)text;
+    at += sprintf(at, "plan\t%d\t4\n", YEAR);
+    for (size_t k = 0; k < calendars; k++) {
+        at += sprintf(at, "cal\t");
+        for (size_t t = 0; t < YEAR; t++) *at++ = "rrrrrrrrrrrrrrrrrrrroocc"[(t + 5 * k) % 24];
+        *at++ = '\n';
+    }
+    for (size_t k = 0; k < tasks; k++)
+        at += sprintf(at, "task\t%zu\t%zu\t%zu\t%zu\t8000\t1\t%d\t0\t%zu\n", k % calendars, 1 + k % 40, k % 4, 7 * k % 8000, YEAR, k % 2);
+    for (size_t k = 1 + calendars + tasks; k < lines; k++) at += sprintf(at, "after\t%zu\t%zu\n", k % 64, (k + 1) % 64);
+    size_t length = at - (char *)text;
+    for (int k = 0; k < times; k++) {
+        double start = seconds();
+        shimlantern_read_plan(text, length, c.capacities, ROOMS, c.calendars, sizeof c.calendars, c.task_calendars, TASKS, c.work_times, TASKS,
+                              c.heights, ROOMS * TASKS, c.pairs, 2 * PAIRS, c.boxes, 6 * TASKS, answer);
+        double between = seconds();
+        plain_read(text, length, &plain_cells, plain_answer);
+        library = lesser(library, between - start);
+        plain = lesser(plain, seconds() - between);
+        if (answer[0] != plain_answer[0] || answer[1] != plain_answer[1]) {
+            fprintf(stderr, "%s: the two differ\n", name);
+            exit(1);
+        }
+        if (!answer[0] && memcmp(&c, &plain_cells, sizeof c)) {
+            fprintf(stderr, "%s: the two read differently\n", name);
+            exit(1);
+        }
+    }
+    char told[80];
+    snprintf(told, sizeof told, "%s, %zu kB", name, (length + 500) / 1000);
+    print_times(told, library, plain);
+    return (struct reading_times){library / length, plain / length};
+}
+
+/* What a time is of another; at most so many times it. */
+static int within(const char *name, double time, double of, double most) {
+    printf("%-54s %9.2f, at most %.2f\n", name, time / of, most);
+    return time <= most * of;
+}
+
 int main(void) {
     time_filter("filter, mostly regular hours", mostly_regular, 10);
     time_filter("filter, mostly regular hours, eight rooms", eight_rooms, 10);
@@ -354,10 +516,21 @@ int main(void) {
     time_filter("filter, closed hours by turns, eight rooms", closed_by_turns, 10);
     time_filter("filter, pushed later hour by hour, L", pushed_later, 10);
     time_filter("filter, pushed earlier hour by hour, U", pushed_earlier, 10);
+    /* Named as in older benches, so that --before pairs the two: the plan has 1,008 hours, and more steps than a year has. */
     time_filter("filter, a year of turns, greatest sizes", greatest_sizes, 3);
-    time_rule("calendar rule, all overtime, p = 504", "o", 504, 200);
-    time_rule("calendar rule, regular and overtime by turns, p = 100", "ro", 100, 200);
-    time_rule("calendar rule, shifts with overtime, p = 60", "ooooorrrrrrrccccccccoooo", 60, 200);
-    time_rule("calendar rule, mostly regular hours, p = 8", "rrrrrrrrrrrrrrrrrrrrrrrro", 8, 200);
-    return 0;
+    double ninth = time_filter("filter, a ninth of a year, eight rooms", a_ninth, 5);
+    double year = time_filter("filter, a year, eight rooms", a_year, 2);
+    time_rule("calendar rule, all overtime, p = 504", "o", HOURS, 504, 200);
+    time_rule("calendar rule, regular and overtime by turns, p = 100", "ro", HOURS, 100, 200);
+    time_rule("calendar rule, shifts with overtime, p = 60", "ooooorrrrrrrccccccccoooo", HOURS, 60, 200);
+    time_rule("calendar rule, mostly regular hours, p = 8", "rrrrrrrrrrrrrrrrrrrrrrrro", HOURS, 8, 200);
+    time_rule("calendar rule, a year of shifts, p = 60", "ooooorrrrrrrccccccccoooo", YEAR, 60, 20);
+    struct reading_times part = time_reading("reading, 4,096 lines, tasks and pairs", 1, 2047, 4096, 100);
+    struct reading_times whole = time_reading("reading, 65,535 lines, tasks and pairs", 1, 32767, 65535, 30);
+    time_reading("reading, a plan of the greatest size", 16, 64, 337, 100);
+    time_reading("reading, 400 calendars of a year", 400, 64, 465, 10);
+    int kept = within("a year, of a ninth of it", year, ninth, 9);
+    kept &= within("65,535 lines, of the plain reader", whole.library, whole.plain, 3);
+    kept &= within("a byte of 65,535 lines, of one of 4,096", whole.library, part.library, 2);
+    return !kept;
 }

@@ -1,15 +1,15 @@
-"""Document 01, with 02's requests up to W-207, in plain Python, written from their text alone and from no code of the product. tests/compare
+"""Document 01, with 02's requests up to W-208, in plain Python, written from their text alone and from no code of the product. tests/compare
 holds the library to it.
 
-A calendar is bytes of r, c, o. A box is six numbers: S, E, O, the lower bound first. Heights lie room by room, each room's of all tasks, and pairs
-one after the other, the earlier task first. A step is (kind, task, hour), its kind a byte's number, its task a room's number where the kind is O,
-and a pair's where it is F or B. A refusal is (number, place)."""
+A calendar is bytes of r, c, o. A plan has its calendars as they lie in memory: packed, joined. A box is six numbers: S, E, O, the lower bound
+first. Heights lie room by room, each room's of all tasks, and pairs one after the other, the earlier task first. A step is (kind, task, hour), its
+kind a byte's number, its task a room's number where the kind is O, and a pair's where it is F or B. A refusal is (number, place)."""
 
 from functools import cached_property, lru_cache
 from itertools import accumulate
 from typing import NamedTuple
 
-MOST_HOURS = 1008
+MOST_HOURS = 8784
 MOST_CALENDARS = 16
 MOST_TASKS = 64
 MOST_ROOMS = 8
@@ -17,13 +17,56 @@ MOST_PAIRS = 256
 MOST_HEIGHT = 1000
 MOST_CAPACITY = 60000
 MOST_NUMBER = 65535
-MOST_BYTES = 32768
-MOST_WRITTEN = 24650
+MOST_LINE = 8800
+MOST_LINES = 65535
+MOST_WRITTEN = 149066
 PROGRAM_ROOM = 2048
 
 # The valid triples of a box with more triples than this are found by counts, and of any other by listing; tests/compare holds the two to each
 # other.
 MOST_LISTED = 2000
+
+# The limits of plan text before W-208: of H, and of the bytes of a text.
+FORMER_HOURS, FORMER_BYTES = 1008, 32768
+
+
+# Packed calendars
+
+LETTERS = b"cro"
+
+
+def packed_length(hours):
+    """How many bytes a packed calendar has."""
+    return (hours + 3) // 4
+
+
+def code_at(packed, hour):
+    """The number of an hour: bits 2 (t mod 4) and 2 (t mod 4) + 1 of byte t div 4."""
+    low, high = 2 * (hour % 4), 2 * (hour % 4) + 1
+    byte = packed[hour // 4]
+    return (byte >> low & 1) + 2 * (byte >> high & 1)
+
+
+@lru_cache(maxsize=4096)
+def is_packed(packed, hours):
+    """No hour has a 3, and no bit past the hours is set."""
+    codes = [code_at(packed, hour) for hour in range(4 * len(packed))]
+    return 3 not in codes[:hours] and not any(codes[hours:])
+
+
+@lru_cache(maxsize=4096)
+def unpack(packed, hours):
+    """The letters of a packed calendar, none of whose hours has a 3."""
+    return bytes(LETTERS[code_at(packed, hour)] for hour in range(hours))
+
+
+@lru_cache(maxsize=4096)
+def pack(calendar):
+    """A calendar of r, c, o, packed."""
+    packed = bytearray(packed_length(len(calendar)))
+    for hour, letter in enumerate(calendar):
+        packed[hour // 4] += LETTERS.index(letter) << 2 * (hour % 4)
+    return bytes(packed)
 
 
 class Plan(NamedTuple):
@@ -53,9 +96,16 @@ class Plan(NamedTuple):
         """The pairs: an earlier and a later task each."""
         return list(zip(self.pairs[0::2], self.pairs[1::2]))
 
+    def each_packed(self):
+        """The calendars, packed."""
+        size = packed_length(self.hours)
+        return [self.calendars[first : first + size] for first in range(0, len(self.calendars), size)]
+
     def calendar(self, task):
-        first = self.task_calendars[task] * self.hours
-        return self.calendars[first : first + self.hours]
+        """The task's calendar, in letters."""
+        size = packed_length(self.hours)
+        first = self.task_calendars[task] * size
+        return unpack(self.calendars[first : first + size], self.hours)
 
 
 # When a task fits its calendar
@@ -88,7 +138,7 @@ def valid_by_listing(calendar, p, box):
     return [t for t in triples_in(box) if valid(calendar, p, *t)]
 
 
-@lru_cache(maxsize=None)
+@lru_cache(maxsize=256)
 def hours_before(calendar, letter):
     """How many of the hours before t have the letter, for each t from 0 to H."""
     return [0, *accumulate(symbol == ord(letter) for symbol in calendar)]
@@ -183,10 +233,15 @@ def attaining(calendar, p, box):
     return [[t for t in found if t[k // 2] == bound] for k, bound in enumerate(bounds)]
 
 
-def calendar_rule(calendar, p, box):
-    """A refusal and None, or None and the fit, which is None where there is no valid triple."""
-    refusal = plan_fault(Plan(len(calendar), (0,), calendar, (0,), (p,), (0,)), [box])
-    return (refusal, None) if refusal else (None, fit_of(calendar, p, box))
+def calendar_rule(hours, packed, p, box):
+    """A refusal and None, or None and the fit, which is None where there is no valid triple. The plan's tests of a plan of one calendar and one task,
+    of which two calendars' bytes are none."""
+    if not 1 <= hours <= MOST_HOURS:
+        return (2, 0), None
+    if len(packed) != packed_length(hours):
+        return (3, 0), None
+    refusal = plan_fault(Plan(hours, (0,), packed, (0,), (p,), (0,)), [box])
+    return (refusal, None) if refusal else (None, fit_of(unpack(packed, hours), p, box))
 
 
 # Refusals
@@ -196,7 +251,7 @@ def task_fault(plan, boxes, task):
     hours = plan.hours
     p = plan.work_times[task]
     s0, s1, e0, e1, o0, o1 = boxes[task]
-    if plan.task_calendars[task] >= len(plan.calendars) // hours:
+    if plan.task_calendars[task] >= len(plan.each_packed()):
         return 6, task
     if not 1 <= p <= hours:
         return 7, task
@@ -208,14 +263,20 @@ def task_fault(plan, boxes, task):
 
 
 def plan_fault(plan, boxes):
-    """The first of 2, 3, 4, 5, 19, 17, 10, task by task 6 to 9 and pair by pair 18."""
+    """The first of 2, 3, 21, 5, 19, 17, 10, task by task 6 to 9 and pair by pair 18."""
     if not 1 <= plan.hours <= MOST_HOURS:
         return 2, 0
-    if len(plan.calendars) % plan.hours or not 1 <= len(plan.calendars) // plan.hours <= MOST_CALENDARS:
+    calendars = plan.each_packed()
+    if not 1 <= len(calendars) <= MOST_CALENDARS or any(len(packed) != packed_length(plan.hours) for packed in calendars):
         return 3, 0
-    for index, symbol in enumerate(plan.calendars):
-        if symbol not in b"rco":
-            return 4, index
+    for at, packed in enumerate(calendars):
+        if not is_packed(packed, plan.hours):
+            return 21, at
+    return counts_fault(plan, boxes)
+
+
+def counts_fault(plan, boxes):
+    """Those of them from 5 on."""
     if plan.tasks() > MOST_TASKS:
         return 5, 0
     if len(plan.each_pair()) > MOST_PAIRS:
@@ -435,16 +496,17 @@ def numbers(fields):
     return None if None in found else found
 
 
-def parse(text):
+@lru_cache(maxsize=64)
+def parse(text, most_line=MOST_LINE, most_lines=MOST_LINES, most_bytes=None):
     """The number of the first line that breaks the rules and None, or None and (H, capacities, calendar lines, task lines, after lines)."""
     head, calendars, tasks, afters = None, [], [], []
     lines = text.split(b"\n")
-    too_long = text[:MOST_BYTES].count(b"\n") + 1 if len(text) > MOST_BYTES else None
+    too_long = text[:most_bytes].count(b"\n") + 1 if most_bytes is not None and len(text) > most_bytes else None
     for at, line in enumerate(lines, 1):
         last = at == len(lines)
         if last and line == b"" and at > 1:
             break
-        if last or at == too_long:
+        if last or at == too_long or len(line) + 1 > most_line or at > most_lines:
             return at, None
         word, *fields = line.split(b"\t")
         if word == b"plan" and at == 1 and fields and numbers(fields) is not None:
@@ -465,20 +527,33 @@ def read_plan(text, enough=True):
     broken, read = parse(text)
     if broken:
         return (1, broken), None
-    if not enough:
-        return (31, 0), None
+    return ((31, 0), None) if not enough else plan_read(read, MOST_HOURS)
+
+
+def former_read_plan(text):
+    """The same before W-208: no limit but that of all bytes (which are no more lines either), and the hours of then."""
+    broken, read = parse(text, most_line=FORMER_BYTES, most_lines=FORMER_BYTES, most_bytes=FORMER_BYTES)
+    return ((1, broken), None) if broken else plan_read(read, FORMER_HOURS)
+
+
+def plan_read(read, most_hours):
+    """What the lines of a well-formed text come to, by the tests 2, 3, 4 and those after."""
     hours, capacities, calendars, tasks, afters = read
     rooms = len(capacities)
-    if not 1 <= hours <= MOST_HOURS:
+    if not 1 <= hours <= most_hours:
         return (2, 0), None
     if not 1 <= len(calendars) <= MOST_CALENDARS or any(len(symbols) != hours for symbols in calendars):
         return (3, 0), None
+    for index, symbol in enumerate(b"".join(calendars)):
+        if symbol not in b"rco":
+            return (4, index), None
     task_calendars, work_times = (tuple(task[k] for task in tasks) for k in range(2))
     heights = tuple(task[2 + room] for room in range(rooms) for task in tasks)
     pairs = tuple(task for after in afters for task in after)
-    plan = Plan(hours, tuple(capacities), b"".join(calendars), task_calendars, work_times, heights, pairs)
+    packed = b"".join(map(pack, calendars))
+    plan = Plan(hours, tuple(capacities), packed, task_calendars, work_times, heights, pairs)
     boxes = [tuple(task[2 + rooms :]) or (0, hours - 1, task[1], hours, 0, 0) for task in tasks]
-    refusal = plan_fault(plan, boxes)
+    refusal = counts_fault(plan, boxes)
     return (refusal, None) if refusal else (None, (plan, len(calendars), boxes))
 
 
@@ -490,8 +565,7 @@ def record(word, *fields):
 def plan_text(plan, boxes):
     """A plan as text, every task line with all its bounds."""
     lines = [record(b"plan", plan.hours, *plan.capacities)]
-    for first in range(0, len(plan.calendars), plan.hours):
-        lines.append(b"cal\t" + plan.calendars[first : first + plan.hours] + b"\n")
+    lines += [b"cal\t" + unpack(packed, plan.hours) + b"\n" for packed in plan.each_packed()]
     for task, box in enumerate(boxes):
         lines.append(record(b"task", plan.task_calendars[task], plan.work_times[task], *plan.heights_of(task), *box))
     lines += [record(b"after", *pair) for pair in plan.each_pair()]

@@ -4,6 +4,7 @@
 #include "shimlantern.h"
 
 #include <stdio.h>
+#include <stdlib.h>
 #include <string.h>
 
 enum {
@@ -15,9 +16,7 @@ enum {
     BOUNDS = SHIMLANTERN_MOST_BOUNDS
 };
 
-/* One byte more than the longest text, so that a longer one is refused and not cut. */
-static uint8_t text[SHIMLANTERN_MOST_TEXT + 1], calendars[SHIMLANTERN_MOST_SYMBOLS], kinds[ROOM];
-static uint8_t narrowed[SHIMLANTERN_MOST_WRITTEN];
+static uint8_t calendars[SHIMLANTERN_MOST_PACKED], kinds[ROOM], narrowed[SHIMLANTERN_MOST_WRITTEN];
 static uint16_t capacities[ROOMS], task_calendars[TASKS], work_times[TASKS], heights[HEIGHTS], pairs[PAIR_NUMBERS];
 static uint16_t boxes[BOUNDS], opening[BOUNDS], tasks[ROOM], hours[ROOM];
 
@@ -26,10 +25,24 @@ static int refused(const char *what, const uint64_t *answer) {
     return 1;
 }
 
+/* All that is left to read, in memory that grows as it fills: a text may have any length. None where memory or the file fails. */
+static uint8_t *whole_text(FILE *in, size_t *length) {
+    size_t room = SHIMLANTERN_MOST_WRITTEN;
+    uint8_t *text = malloc(room);
+    *length = 0;
+    while (text && (*length += fread(text + *length, 1, room - *length, in)) == room) {
+        uint8_t *more = realloc(text, room *= 2);
+        if (!more) free(text);
+        text = more;
+    }
+    return text && !ferror(in) ? text : NULL;
+}
+
 int main(int argc, char **argv) {
+    size_t length;
     FILE *in = argc > 1 ? fopen(argv[1], "rb") : stdin;
-    size_t length = in ? fread(text, 1, sizeof text, in) : 0;
-    if (!in || ferror(in)) {
+    uint8_t *text = in ? whole_text(in, &length) : NULL;
+    if (!text) {
         perror(argc > 1 ? argv[1] : "standard input");
         return 2;
     }
@@ -38,16 +51,18 @@ int main(int argc, char **argv) {
         written[SHIMLANTERN_WRITE_NUMBERS];
     shimlantern_read_plan(text, length, capacities, ROOMS, calendars, sizeof calendars, task_calendars, TASKS, work_times, TASKS, heights, HEIGHTS,
                           pairs, PAIR_NUMBERS, boxes, BOUNDS, plan);
+    free(text);
     if (plan[SHIMLANTERN_NUMBER]) return refused("plan", plan);
     uint16_t h = plan[SHIMLANTERN_READ_HOURS];
-    size_t rooms = plan[SHIMLANTERN_READ_ROOMS], symbols = plan[SHIMLANTERN_READ_CALENDARS] * h, n = plan[SHIMLANTERN_READ_TASKS];
+    size_t rooms = plan[SHIMLANTERN_READ_ROOMS], n = plan[SHIMLANTERN_READ_TASKS];
+    size_t packed = plan[SHIMLANTERN_READ_CALENDARS] * SHIMLANTERN_CALENDAR_BYTES(h);
     size_t paired = SHIMLANTERN_PAIR_NUMBERS * plan[SHIMLANTERN_READ_PAIRS], bounds = SHIMLANTERN_BOX_NUMBERS * n;
 
     memcpy(opening, boxes, sizeof boxes);
-    shimlantern_filter(h, capacities, rooms, calendars, symbols, task_calendars, n, work_times, n, heights, rooms * n, pairs, paired, boxes, bounds,
+    shimlantern_filter(h, capacities, rooms, calendars, packed, task_calendars, n, work_times, n, heights, rooms * n, pairs, paired, boxes, bounds,
                        kinds, ROOM, tasks, ROOM, hours, ROOM, run);
     size_t count = run[SHIMLANTERN_FILTER_COUNT];
-    shimlantern_check_log(h, capacities, rooms, calendars, symbols, task_calendars, n, work_times, n, heights, rooms * n, pairs, paired, opening,
+    shimlantern_check_log(h, capacities, rooms, calendars, packed, task_calendars, n, work_times, n, heights, rooms * n, pairs, paired, opening,
                           bounds, kinds, count, tasks, count, hours, count, checked);
     if (checked[SHIMLANTERN_NUMBER]) return refused("log", checked);
 
@@ -61,7 +76,7 @@ int main(int argc, char **argv) {
     }
 
     if (argc > 2) {
-        shimlantern_write_plan(h, capacities, rooms, calendars, symbols, task_calendars, n, work_times, n, heights, rooms * n, pairs, paired, boxes,
+        shimlantern_write_plan(h, capacities, rooms, calendars, packed, task_calendars, n, work_times, n, heights, rooms * n, pairs, paired, boxes,
                                bounds, narrowed, sizeof narrowed, written);
         if (written[SHIMLANTERN_NUMBER]) return refused("writing", written);
         FILE *out = fopen(argv[2], "wb");

@@ -5,30 +5,31 @@
 ghost use Rattle.std.specs.Prelude.{◌≡◌, length};
 ghost use Rattle.units.specs.Cells.{written};
 ghost use Rattle.plan.specs.Boxes.{bounds_at};
-ghost use Rattle.plan.specs.Plan.{plan};
-ghost use Rattle.calendar.specs.Entry.{calendar_rule};
-ghost use Rattle.schedule.specs.Entry.{check_schedule};
-ghost use Rattle.steps.specs.Entry.{check_log, check_answer, filter_end, filter_plan};
+ghost use Rattle.plan.specs.Over.{packed_plan};
+ghost use Rattle.calendar.specs.Entry.{packed_rule};
+ghost use Rattle.schedule.specs.Entry.{check_packed};
+ghost use Rattle.steps.specs.Entry.{check_log_packed, check_answer, filter_end, filter_packed};
 ghost use Rattle.plan_format.specs.Reading.{end_with, read_plan};
-ghost use Rattle.plan_format.specs.Writing.{write_plan};
+ghost use Rattle.plan_format.specs.Writing.{write_packed};
 ghost use Rattle.text_listing.specs.Program.{listing_of_text};
 ghost use Rattle.answers.specs.Numbers.{rule_numbers, schedule_numbers, log_numbers, filter_numbers, read_numbers, write_numbers};
 
 use plan::Plan;
 use units::Duration;
 
-// The calendar rule for one calendar, a work time and a box of six numbers.
+// The calendar rule for one packed calendar of so many hours, a work time and a box of six numbers.
 #[unsafe(no_mangle)]
 pub extern "C" fn shimlantern_calendar_rule(
+    hours: u16,
     calendar: &[u8],
     work_time: u16,
     bounds: &[u16; 6],
     answer: &mut [u64; 29],
 )
-    ensures { answer.new ≡ rule_numbers (calendar_rule calendar.now work_time (bounds_at bounds.now 0)) }
+    ensures { answer.new ≡ rule_numbers (packed_rule hours calendar.now work_time (bounds_at bounds.now 0)) }
 {
     let b = plan::bounds_at(bounds, 0);
-    let found = calendar::calendar_rule(calendar, Duration(work_time), b);
+    let found = calendar::calendar_rule(Duration(hours), calendar, Duration(work_time), b);
     *answer = answers::rule_numbers(found);
 }
 
@@ -46,8 +47,8 @@ pub extern "C" fn shimlantern_check_schedule(
     schedule: &[u16],
     answer: &mut [u64; 3],
 )
-    ensures { let P = plan hours capacities.now calendars.now task_calendars.now work_times.now heights.now pairs.now in
-        answer.new ≡ schedule_numbers (check_schedule P boxes.now schedule.now) }
+    ensures { let P = packed_plan hours capacities.now calendars.now task_calendars.now work_times.now heights.now pairs.now in
+        answer.new ≡ schedule_numbers (check_packed P boxes.now schedule.now) }
 {
     let plan = Plan::new(
         hours,
@@ -78,8 +79,8 @@ pub extern "C" fn shimlantern_check_log(
     log_hours: &[u16],
     answer: &mut [u64; 4],
 )
-    ensures { let P = plan hours capacities.now calendars.now task_calendars.now work_times.now heights.now pairs.now in
-        let e = check_log P boxes.old log_kinds.now log_tasks.now log_hours.now in
+    ensures { let P = packed_plan hours capacities.now calendars.now task_calendars.now work_times.now heights.now pairs.now in
+        let e = check_log_packed P boxes.old log_kinds.now log_tasks.now log_hours.now in
         (answer.new ≡ log_numbers (check_answer e)) × (boxes.new ≡ e.boxes) }
 {
     let plan = Plan::new(
@@ -111,8 +112,8 @@ pub extern "C" fn shimlantern_filter(
     log_hours: &mut [u16],
     answer: &mut [u64; 4],
 )
-    ensures { let P = plan hours capacities.now calendars.now task_calendars.now work_times.now heights.now pairs.now in
-        let e = filter_plan P boxes.old log_kinds.old log_tasks.old log_hours.old in
+    ensures { let P = packed_plan hours capacities.now calendars.now task_calendars.now work_times.now heights.now pairs.now in
+        let e = filter_packed P boxes.old log_kinds.old log_tasks.old log_hours.old in
         (answer.new ≡ filter_numbers e.answer)
         × (filter_end e.answer boxes.new log_kinds.new log_tasks.new log_hours.new ≡ e) }
 {
@@ -173,8 +174,8 @@ pub extern "C" fn shimlantern_write_plan(
     out: &mut [u8],
     answer: &mut [u64; 3],
 )
-    ensures { let P = plan hours capacities.now calendars.now task_calendars.now work_times.now heights.now pairs.now in
-        let e = write_plan P boxes.now out.old in
+    ensures { let P = packed_plan hours capacities.now calendars.now task_calendars.now work_times.now heights.now pairs.now in
+        let e = write_packed P boxes.now out.old in
         (answer.new ≡ write_numbers e.answer) × (out.new ≡ e.out) }
 {
     let plan = Plan::new(

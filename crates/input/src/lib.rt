@@ -1,17 +1,19 @@
 // The plan's tests, of what a caller hands in.
 #![tactic(auto)]
 
-ghost use Rattle.std.specs.Prelude.{true, ◌≡◌, ◌≤◌, ◌<◌, IfOk, length};
+ghost use Rattle.std.specs.Prelude.{true, ◌≡◌, ◌/◌, ◌≤◌, ◌<◌, IfOk, length};
 ghost use Rattle.units.specs.Choice.{first_of};
-ghost use Rattle.plan.specs.HourKinds.{is_symbol};
+ghost use Rattle.plan.specs.Packed.{bytes_of, is_packed};
 ghost use Rattle.plan.specs.Refusals.{tested_fault};
 ghost use Rattle.plan.specs.Plan.{room_count, task_count, pair_count};
-ghost use Rattle.plan.specs.Faults.{is_right_size, is_calendars, symbol_fault, calendars_fault, capacity_fault, counts_fault, height_fault, task_fault, tasks_fault, pairs_fault, plan_fault, input_fault};
+ghost use Rattle.plan.specs.Faults.{is_right_size, is_calendars, packing_fault, packed_fault, capacity_fault, counts_fault, height_fault, task_fault, tasks_fault, pairs_fault};
+ghost use Rattle.plan.specs.Over.{packed_plan_fault, memory_fault};
 ghost use Rattle.plan.specs.Passed.{Passed};
-ghost use Rattle.plan.specs.Lent.{shifts_in, plan_in};
+ghost use Rattle.plan.specs.Lent.{plan_in, packed_in};
 ghost use Rattle.input.specs.Inner.Ready.{TasksReady, HeightsReady};
+ghost use Rattle.input.specs.Inner.Codes.{are_codes, is_clear};
 
-use plan::{HourKind, Plan, Refusal, Shifts, bounds_at};
+use plan::{Plan, Refusal, bounds_at};
 use units::{Bounds, CalendarNumber, Duration, Height, Pair, RoomNumber};
 
 // A plan and its boxes that have passed every test.
@@ -34,49 +36,71 @@ pub fn is_right_size(plan: &Plan, boxes: &[u16]) -> bool
         && plan.pairs.len() % Pair::NUMBERS == 0
 }
 
-// Whether the symbols make calendars of so many hours each, and as many as a plan may have.
+// Whether there are whole calendars of so many bytes, and as many as a plan may have.
 #[tactic(auto, unfolding(plan::specs::Faults::is_calendars))]
-fn has_calendars(shifts: &Shifts) -> bool
-    requires { 1 ≤ shifts.now.hours.0 }
-    ensures { result ≡ is_calendars shifts.now.hours.0 shifts.now.calendars.now }
+fn has_calendars(calendars: &[u8], each: usize) -> bool
+    requires { 1 ≤ each }
+    ensures { result ≡ is_calendars each calendars.now }
 {
-    shifts.calendars.len() % shifts.hours.0 as usize == 0
-        && CalendarNumber::is_count(shifts.calendar_count())
+    calendars.len() % each == 0 && CalendarNumber::is_count(calendars.len() / each)
 }
 
-// Whether the symbol at an index is r, c or o.
-#[tactic(auto, unfolding(plan::specs::HourKinds::is_symbol))]
-fn is_symbol(calendars: &[u8], k: usize) -> bool
-    requires { k < length calendars.now }
-    ensures { result ≡ is_symbol calendars.now k }
+// Whether each of a byte's four codes is that of a kind.
+#[tactic(auto, unfolding(crate::specs::Inner::Codes::are_codes))]
+fn are_codes(byte: u8) -> bool
+    ensures { result ≡ are_codes byte }
 {
-    HourKind::Regular.is_at(calendars, k)
-        || HourKind::Closed.is_at(calendars, k)
-        || HourKind::Overtime.is_at(calendars, k)
+    byte % 4 <= 2 && byte / 4 % 4 <= 2 && byte / 16 % 4 <= 2 && byte / 64 <= 2
 }
 
-// 4, at the first symbol other than r, c, o.
-fn test_symbols(calendars: &[u8]) -> Result<(), Refusal>
-    ensures { tested_fault result ≡ first_of (symbol_fault calendars.now) (length calendars.now) }
+// Whether a calendar's last byte has no bit set past its hours.
+#[tactic(auto, unfolding(crate::specs::Inner::Codes::is_clear))]
+fn is_clear(last: u8, hours: Duration) -> bool
+    ensures { result ≡ is_clear hours.0 last }
 {
-    // By index: it is the refusal's place, and no function but `plan::is_kind` reads a symbol.
-    for k in 0..calendars.len() {
-        if !is_symbol(calendars, k) {
-            return Err(Refusal::Symbol(k));
+    let held = hours.0 % 4;
+    held == 0 || last < 1 << (2 * held)
+}
+
+// Whether a calendar of so many hours is packed, byte by byte.
+fn is_packed(bytes: &[u8], hours: Duration) -> bool
+    requires { (1 ≤ hours.0) × (length bytes.now ≡ bytes_of hours.0) }
+    ensures { result ≡ is_packed hours.0 bytes.now }
+{
+    for byte in bytes {
+        if !are_codes(*byte) {
+            return false;
         }
+    }
+    is_clear(bytes[bytes.len() - 1], hours)
+}
+
+// 21, at the first calendar that is not packed.
+fn test_packing(calendars: &[u8], hours: Duration) -> Result<(), Refusal>
+    requires { 1 ≤ hours.0 }
+    ensures { tested_fault result ≡ first_of (packing_fault hours.0 calendars.now) (length calendars.now / bytes_of hours.0) }
+{
+    let each = plan::bytes_of(hours);
+    let mut from = 0;
+    // By number, which is the refusal's place. Where a calendar begins is found by adding.
+    for k in 0..calendars.len() / each {
+        if !is_packed(&calendars[from..from + each], hours) {
+            return Err(Refusal::Packing(k));
+        }
+        from += each;
     }
     Ok(())
 }
 
-// H and the calendars: 2, 3, 4.
-fn test_calendars(shifts: &Shifts) -> Result<(), Refusal>
-    ensures { tested_fault result ≡ calendars_fault shifts.now.hours.0 shifts.now.calendars.now }
+// H and the calendars: 2, 3, 21.
+fn test_calendars(calendars: &[u8], hours: Duration) -> Result<(), Refusal>
+    ensures { tested_fault result ≡ packed_fault hours.0 calendars.now }
 {
-    Duration::of_plan(shifts.hours.0 as usize).ok_or(Refusal::Hours)?;
-    if !has_calendars(shifts) {
+    Duration::of_plan(hours.0 as usize).ok_or(Refusal::Hours)?;
+    if !has_calendars(calendars, plan::bytes_of(hours)) {
         return Err(Refusal::Calendars);
     }
-    test_symbols(shifts.calendars)
+    test_packing(calendars, hours)
 }
 
 // 10, of any room.
@@ -164,9 +188,9 @@ fn test_pairs(plan: &Plan) -> Result<(), Refusal>
 // The plan's tests on memory of the right size: H and the calendars, the counts, then task by task, then pair by pair.
 pub fn test_plan(plan: &Plan, boxes: &[u16]) -> Result<(), Refusal>
     requires { is_right_size (plan_in plan.now) boxes.now ≡ true }
-    ensures { tested_fault result ≡ plan_fault (plan_in plan.now) boxes.now }
+    ensures { tested_fault result ≡ packed_plan_fault (packed_in plan.now) boxes.now }
 {
-    test_calendars(&plan.shifts)?;
+    test_calendars(plan.shifts.calendars, plan.shifts.hours)?;
     test_counts(plan)?;
     test_tasks(plan, boxes)?;
     test_pairs(plan)
@@ -174,7 +198,7 @@ pub fn test_plan(plan: &Plan, boxes: &[u16]) -> Result<(), Refusal>
 
 // The plan's tests: 31 before all others.
 pub fn test_input(plan: &Plan, boxes: &[u16]) -> Result<(), Refusal>
-    ensures { tested_fault result ≡ input_fault (plan_in plan.now) boxes.now }
+    ensures { tested_fault result ≡ memory_fault (is_right_size (plan_in plan.now) boxes.now) (packed_in plan.now) boxes.now }
 {
     if !is_right_size(plan, boxes) {
         return Err(Refusal::MemorySize);
@@ -184,7 +208,7 @@ pub fn test_input(plan: &Plan, boxes: &[u16]) -> Result<(), Refusal>
 
 // What has passed the plan's tests, 31 before all others, is what was lent.
 pub fn tested_input<'a>(plan: &'a Plan<'a>, boxes: &'a [u16]) -> Result<Tested<'a>, Refusal>
-    ensures tests { tested_fault result ≡ input_fault (plan_in plan.now) boxes.now }
+    ensures tests { tested_fault result ≡ memory_fault (is_right_size (plan_in plan.now) boxes.now) (packed_in plan.now) boxes.now }
     ensures lends { IfOk result (λ t. (t.plan.now ≡ plan.now) × (t.boxes.now ≡ boxes.now)) }
 {
     test_input(plan, boxes)?;

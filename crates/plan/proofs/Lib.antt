@@ -4,3 +4,8 @@ pub mod Refusals
 pub mod Passed
 pub mod Numbers
 pub mod Parts
+pub mod Codes
+pub mod Bytes
+pub mod Packing
+pub mod Letters
+pub mod Over

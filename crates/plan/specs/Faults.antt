@@ -1,5 +1,5 @@
 -- The plan's tests, group by group: the first fault, in 01's order (01, "Refused because of the input", "Refused because of the state"; 17: 02,
--- W-202; 18 and 19: W-206).
+-- W-202; 18 and 19: W-206; 21: W-208).
 use Rattle.std.specs.Prelude.{Bool, List, ◌≡◌, ℕ, ◌*◌, ◌/◌, ◌%◌, eqb, length, get_or}
 use Rattle.std.specs.Prelude.{Option, None}
 use Rattle.units.specs.Choice.{◌and◌, ◌or_else◌, first_of}
@@ -7,6 +7,7 @@ use Rattle.units.specs.Limits.{box_numbers, pair_numbers, is_plan_length, is_wor
 use Rattle.units.specs.declared.Bounds.{Bounds}
 use Rattle.plan.specs.Plan.{Shifts, Plan, room_count, task_count, pair_count, calendar_count, work_time_of, room_part, pair_at}
 use Rattle.plan.specs.HourKinds.{is_symbol}
+use Rattle.plan.specs.Packed.{bytes_of, part_of, is_packed}
 use Rattle.plan.specs.Boxes.{bounds_at}
 use Rattle.plan.specs.declared.Fault.{Fault}
 use Rattle.plan.specs.Refusals.{unless}
@@ -29,7 +30,7 @@ abbrev pub is_right_size : Plan → List ℕ → Bool
 is_right_size P boxes =
     one_for_each_task P.capacities P.shifts.task_calendars P.shifts.work_times P.heights boxes and is_whole_pairs P.pairs
 
--- ---- H and the calendars: 2, 3, 4
+-- ---- H and the calendars, by their letters: 2, 3, 4
 
 -- 1 to 16 calendars, each of H symbols
 unfoldable pub is_calendars : ℕ → List ℕ → Bool
@@ -44,6 +45,19 @@ calendars_fault hours calendars =
     unless (is_plan_length hours) 2 0
     or_else unless (is_calendars hours calendars) 3 0
     or_else first_of (symbol_fault calendars) (length calendars)
+
+-- ---- H and the calendars, packed: 2, 3, 21
+
+-- 21, at calendar k of those joined
+unfoldable pub packing_fault : ℕ → List ℕ → ℕ → Option Fault
+packing_fault h bytes k = unless (is_packed h (part_of h bytes k)) 21 k
+
+-- 1 to 16 calendars, each of as many bytes as hold H hours
+unfoldable pub packed_fault : ℕ → List ℕ → Option Fault
+packed_fault h bytes =
+    unless (is_plan_length h) 2 0
+    or_else unless (is_calendars (bytes_of h) bytes) 3 0
+    or_else first_of (packing_fault h bytes) (length bytes / bytes_of h)
 
 -- ---- counts and the capacities: 5, 19, 17, 10
 

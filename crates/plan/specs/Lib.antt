@@ -1,7 +1,10 @@
 pub mod Plan
 pub mod HourKinds
+pub mod Packed
+pub mod Calendars
 pub mod Boxes
 pub mod Refusals
 pub mod Faults
 pub mod Passed
+pub mod Over
 pub mod Lent

@@ -1,12 +1,12 @@
 -- Refusals: a number and a place (01, "Refused because of the input" and "Refused because of the state"; 33: 02, W-201; 17: W-202;
--- 18 to 20: W-206).
+-- 18 to 20: W-206; 21: W-208).
 use Rattle.std.specs.Prelude.{Bool, not, ℕ}
 use Rattle.std.specs.Prelude.{Option, None, Some, Result, Ok, Err}
 use Rattle.units.specs.Choice.{some_if}
 use Rattle.plan.specs.declared.Refusal.{Refusal}
 use Rattle.plan.specs.declared.Refusal.TheVariants.{Malformed, Hours, Calendars, Symbol, Tasks, NoCalendar, WorkTime, TaskHeight, TaskBounds}
 use Rattle.plan.specs.declared.Refusal.TheVariants.{Capacity, UnknownStep, NotAdmitted, AfterImpossible, OutsideBounds, NotValid, OverCapacity}
-use Rattle.plan.specs.declared.Refusal.TheVariants.{Rooms, PairTasks, Pairs, PairBroken, MemorySize, OutputSize}
+use Rattle.plan.specs.declared.Refusal.TheVariants.{Rooms, PairTasks, Pairs, PairBroken, Packing, MemorySize, OutputSize}
 use Rattle.plan.specs.declared.Fault.{Fault}
 
 -- of the code: a number and a place
@@ -53,6 +53,7 @@ fault_of Rooms = fault 17 0
 fault_of (PairTasks pair) = fault 18 pair
 fault_of Pairs = fault 19 0
 fault_of (PairBroken pair) = fault 20 pair
+fault_of (Packing calendar) = fault 21 calendar
 fault_of MemorySize = fault 31 0
 fault_of OutputSize = fault 33 0
 

@@ -1,19 +1,24 @@
 // A plan in lent memory: its parts, and why a call is refused.
 #![tactic(auto)]
 
-ghost use Rattle.std.specs.Prelude.{◌≡◌, ◌+◌, ◌*◌, ◌≤◌, ◌<◌, length, get_or};
+ghost use Rattle.std.specs.Prelude.{eqb, take, drop, ◌/◌, ◌≡◌, ◌+◌, ◌*◌, ◌≤◌, ◌<◌, length, get_or};
 ghost use Rattle.units.specs.Limits.{box_numbers, pair_numbers, duration, height};
 ghost use Rattle.units.specs.Sums.{one_if};
 ghost use Rattle.plan.specs.Plan.{plan, room_count, task_count, pair_count, calendar_count, first_symbol, calendar_at, calendar_of, work_time_of, capacity_of, room_part, heights_of, pair_of};
-ghost use Rattle.plan.specs.Lent.{shifts_in, plan_in, HasCalendar};
-ghost use Rattle.plan.specs.HourKinds.{is_kind, symbol_of};
+ghost use Rattle.plan.specs.Lent.{shifts_in, plan_in, packed_in, CalendarAt, HasCalendar};
+ghost use Rattle.plan.specs.Over.{packed_plan};
+ghost use Rattle.plan.specs.HourKinds.{regular, overtime, is_kind, symbol_of};
+ghost use Rattle.plan.specs.Packed.{bytes_of, letters, code_at, letter_of};
+ghost use Rattle.plan.specs.Calendars.{letters_in};
 ghost use Rattle.plan.specs.Boxes.{bounds_at, box_cells, with_bounds};
 ghost use Rattle.plan.specs.Refusals.{fault_of};
 
+mod calendar;
+
+pub use calendar::{Calendar, HourCode};
 use units::{Bounds, Duration, Height, Hour, Pair};
 
-// What the calendar rule reads of a plan: H, the symbols of the calendars, joined, and one number a task for each of its calendar and its work
-// time p.
+// What the calendar rule reads of a plan: H, the calendars, packed and joined, and one number a task for each of its calendar and its work time p.
 #[derive(Clone, Copy)]
 pub struct Shifts<'a> {
     pub hours: Duration,
@@ -42,29 +47,31 @@ impl<'a> Shifts<'a> {
         self.task_calendars.len()
     }
 
-    // How many calendars of H symbols there are.
+    // How many calendars of H hours there are.
     pub fn calendar_count(&self) -> usize
         requires { 1 ≤ self.now.hours.0 }
         ensures { result ≡ calendar_count (shifts_in self.now) }
     {
-        self.calendars.len() / self.hours.0 as usize
+        self.calendars.len() / bytes_of(self.hours)
     }
 
-    // The symbols of one calendar.
-    pub fn calendar_at(&self, number: u16) -> &'a [u8]
-        requires { first_symbol self.now.hours.0 number + self.now.hours.0 ≤ length self.now.calendars.now }
-        ensures { result.now ≡ calendar_at (shifts_in self.now) number }
+    // One calendar.
+    pub fn calendar_at(&self, number: u16) -> Calendar<'a>
+        requires { CalendarAt (shifts_in self.now) number }
+        ensures { letters_in result ≡ calendar_at (shifts_in self.now) number }
     {
-        let each = self.hours.0;
-        let from = first_within(self.calendars.len(), number, each);
-        let to = from + each as usize;
-        &self.calendars[from..to]
+        let each = bytes_of(self.hours);
+        let from = first_within(self.calendars.len(), number, each as u16);
+        Calendar {
+            bytes: bytes_from(self.calendars, from, each),
+            hours: self.hours,
+        }
     }
 
-    // The symbols of a task's calendar.
-    pub fn calendar_of(&self, i: usize) -> &'a [u8]
+    // A task's calendar.
+    pub fn calendar_of(&self, i: usize) -> Calendar<'a>
         requires { HasCalendar (shifts_in self.now) i }
-        ensures { result.now ≡ calendar_of (shifts_in self.now) i }
+        ensures { letters_in result ≡ calendar_of (shifts_in self.now) i }
     {
         self.calendar_at(self.task_calendars[i])
     }
@@ -90,7 +97,8 @@ impl<'a> Plan<'a> {
         heights: &'a [u16],
         pairs: &'a [u16],
     ) -> Plan<'a>
-        ensures { plan_in result ≡ plan hours capacities.now calendars.now task_calendars.now work_times.now heights.now pairs.now }
+        ensures { packed_in result
+            ≡ packed_plan hours capacities.now calendars.now task_calendars.now work_times.now heights.now pairs.now }
     {
         let shifts = Shifts {
             hours: Duration(hours),
@@ -193,6 +201,8 @@ pub enum Refusal {
     Pairs,
     // 20, at the first pair that the schedule breaks.
     PairBroken(usize),
+    // 21, at a calendar.
+    Packing(usize),
     // 31
     MemorySize,
     // 33
@@ -232,6 +242,7 @@ impl From<Refusal> for Fault {
             Refusal::PairTasks(pair) => (18, pair),
             Refusal::Pairs => (19, 0),
             Refusal::PairBroken(pair) => (20, pair),
+            Refusal::Packing(calendar) => (21, calendar),
             Refusal::MemorySize => (31, 0),
             Refusal::OutputSize => (33, 0),
         };
@@ -278,6 +289,15 @@ pub fn put_bounds(boxes: &mut [u16], i: usize, b: Bounds)
     boxes[first..first + Bounds::NUMBERS].copy_from_slice(&box_cells(b));
 }
 
+// So many bytes from one on.
+fn bytes_from(bytes: &[u8], from: usize, each: usize) -> &[u8]
+    requires { from + each ≤ length bytes.now }
+    ensures is { result.now ≡ take each (drop from bytes.now) }
+    ensures size { length result.now ≡ each }
+{
+    &bytes[from..from + each]
+}
+
 // Of numbers that lie room by room, so many a room, those of one: the heights of all tasks in a room, the loads of all hours.
 pub fn room_part(numbers: &[u16], each: usize, room: usize) -> &[u16]
     requires { room * each + each ≤ length numbers.now }
@@ -295,57 +315,94 @@ pub fn height_at(heights: &[u16], i: usize) -> Height
     Height(heights[i])
 }
 
-// The kinds of an hour, by their symbols.
+// How many hours a byte of a calendar holds.
+pub const PER_BYTE: usize = 4;
+
+// How many bytes hold a calendar of so many hours.
+#[tactic(auto, unfolding(crate::specs::Packed::bytes_of))]
+pub fn bytes_of(hours: Duration) -> usize
+    ensures { (result ≡ bytes_of hours.0) × (result ≤ 16384) }
+{
+    (hours.0 as usize + PER_BYTE - 1) / PER_BYTE
+}
+
+// The code of an hour, in the bytes of a calendar. Nothing else reads a byte of a calendar that has passed the tests.
+#[tactic(auto, unfolding(crate::specs::Packed::code_at))]
+fn code_of(bytes: &[u8], t: usize) -> u8
+    requires { t / 4 < length bytes.now }
+    ensures { result ≡ code_at bytes.now t }
+{
+    (bytes[t / PER_BYTE] >> (2 * (t % PER_BYTE))) % 4
+}
+
+// The kinds of an hour, by their codes.
 #[derive(Clone, Copy, PartialEq, Eq)]
 pub enum HourKind {
-    Regular = b'r' as isize,
-    Closed = b'c' as isize,
-    Overtime = b'o' as isize,
+    Closed = 0,
+    Regular = 1,
+    Overtime = 2,
+}
+
+impl HourCode {
+    // Whether it is the kind's.
+    pub fn is(self, kind: HourKind) -> bool
+        ensures { result ≡ eqb (letter_of self.number) (symbol_of kind) }
+    {
+        self.number == kind as u8
+    }
+
+    // 1 for a regular hour. A code is two bits of which one at most is set, so that each is a count by itself.
+    pub fn regular_count(self) -> u16
+        ensures { (result ≡ one_if (eqb (letter_of self.number) regular)) × (result ≤ 1) }
+    {
+        u16::from(self.number % 2)
+    }
+
+    // 1 for an overtime hour.
+    pub fn overtime_count(self) -> u16
+        ensures { (result ≡ one_if (eqb (letter_of self.number) overtime)) × (result ≤ 1) }
+    {
+        u16::from(self.number / 2)
+    }
+}
+
+impl Calendar<'_> {
+    // How many hours there are.
+    pub fn len(&self) -> usize
+        ensures { result ≡ length (letters_in self.now) }
+    {
+        self.hours.0 as usize
+    }
+
+    // The code of an hour.
+    pub fn code_at(&self, t: usize) -> HourCode
+        requires { t < length (letters_in self.now) }
+        ensures { letter_of result.number ≡ get_or (letters_in self.now) t 0 }
+    {
+        HourCode {
+            number: code_of(self.bytes, t),
+        }
+    }
 }
 
 impl HourKind {
     // Whether an hour of a calendar is of the kind.
-    pub fn is_at(self, calendar: &[u8], t: usize) -> bool
-        requires { t < length calendar.now }
-        ensures { result ≡ is_kind (symbol_of self) calendar.now t }
+    #[tactic(auto, unfolding(crate::specs::HourKinds::is_kind))]
+    pub fn is_at(self, calendar: &Calendar, t: usize) -> bool
+        requires { t < length (letters_in calendar.now) }
+        ensures { result ≡ is_kind (symbol_of self) (letters_in calendar.now) t }
     {
-        is_kind(calendar, t, self as u8)
-    }
-
-    // 1 for an hour of the kind.
-    pub fn count_at(self, calendar: &[u8], t: usize) -> u16
-        requires { t < length calendar.now }
-        ensures { (result ≡ one_if (is_kind (symbol_of self) calendar.now t)) × (result ≤ 1) }
-    {
-        one_if(calendar, t, self as u8)
+        calendar.code_at(t).is(self)
     }
 }
 
-// Whether the symbol of an hour is the one asked for. Nothing else reads a symbol. It is asked for as a byte, so that a caller may name one that is
-// no kind.
-#[tactic(auto, unfolding(crate::specs::HourKinds::is_kind))]
-pub fn is_kind(calendar: &[u8], t: usize, kind: u8) -> bool
-    requires { t < length calendar.now }
-    ensures { result ≡ is_kind kind calendar.now t }
-{
-    calendar[t] == kind
-}
-
-// 1 for an hour whose symbol is the one asked for, by byte as `is_kind` is asked.
-pub fn one_if(calendar: &[u8], t: usize, kind: u8) -> u16
-    requires { t < length calendar.now }
-    ensures { (result ≡ one_if (is_kind kind calendar.now t)) × (result ≤ 1) }
-{
-    u16::from(is_kind(calendar, t, kind))
-}
-
-// Where a calendar begins, if that is within a limit: H added once for each calendar before it, since some machines that are to run this have no
+// Where a calendar begins, if that is within a limit: its cells added once for each calendar before it, since some machines that are to run this have no
 // wide multiplication (02, W-203). The second way out is never taken. Without it the compiler makes a product of the loop.
-fn first_within(limit: usize, number: u16, hours: u16) -> usize
-    requires { first_symbol hours number ≤ limit }
-    ensures { result ≡ first_symbol hours number }
+fn first_within(limit: usize, number: u16, each: u16) -> usize
+    requires { first_symbol each number ≤ limit }
+    ensures { result ≡ first_symbol each number }
 {
-    let step = hours as usize;
+    let step = each as usize;
     let mut first = 0;
     for _ in 0..number {
         if limit - first < step {
@@ -359,9 +416,16 @@ fn first_within(limit: usize, number: u16, hours: u16) -> usize
 // The greatest index that any number and any H give, a product made at compile time: of a greater limit the compiler sees that it is never passed.
 const MOST_FIRST: usize = u16::MAX as usize * u16::MAX as usize;
 
-// Where a calendar begins among the symbols of all calendars, joined.
+// Where a calendar begins among the letters of all calendars, joined.
 pub fn first_symbol(number: u16, hours: Duration) -> usize
     ensures { result ≡ first_symbol hours.0 number }
 {
     first_within(MOST_FIRST, number, hours.0)
+}
+
+// Where a calendar begins among the bytes of all calendars, joined, and so how many bytes so many calendars have.
+pub fn first_byte(number: u16, hours: Duration) -> usize
+    ensures { result ≡ first_symbol (bytes_of hours.0) number }
+{
+    first_within(MOST_FIRST, number, bytes_of(hours) as u16)
 }

@@ -8,7 +8,8 @@ use lib.Dec.{eqb}
 use lib.ListN.{length, get_or, drop, length-append, length-drop}
 use borrow.Author.Tests.{eq-eqb, ne_eqb, eqb-true}
 use Rattle.units.proofs.Choices.{if-true, if-false, if-all}
-use Rattle.plan_format.specs.Reading.{joined, box_of}
+use Rattle.units.specs.Lists.{joined}
+use Rattle.plan_format.specs.Reading.{box_of}
 
 -- of a plan of so many hours and rooms
 module _ (h rooms : ℕ) where

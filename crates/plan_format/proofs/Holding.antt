@@ -1,6 +1,7 @@
 -- What a plan that was read holds: within the limits of a plan. Assumes nothing.
 use mathlib.Core.Path.{◌≡◌, refl, sym, subst}
-use mathlib.Core.Bool.{Bool}
+use mathlib.Core.Bool.{Bool, true, false}
+use Rattle.std.specs.Prelude.{if◌then◌else◌}
 use Rattle.std.specs.Prelude.{Option, None, Some}
 use mathlib.Core.List.{List}
 use Prim.Native.Nat.{ℕ, ◌*◌, ◌≤◌}
@@ -12,21 +13,22 @@ use Rattle.units.specs.Limits.{most_hours, most_calendars, most_rooms, most_task
 use Rattle.units.proofs.Choices.{and_left, neither}
 use Rattle.units.proofs.Ranges.{to-most}
 use Rattle.plan.specs.Plan.{first_symbol, pair_count}
+use Rattle.plan.specs.Packed.{bytes_of}
 use Rattle.plan.specs.declared.Fault.{Fault}
-use Rattle.plan.specs.Refusals.{Answer, refused, answered, on_answer}
+use Rattle.plan.specs.Refusals.{fault, Answer, refused, answered, on_answer}
 use Rattle.plan.specs.Faults.{plan_fault}
 use Rattle.plan.proofs.Refusals.{unless-none, refused≢answered}
 use Rattle.plan.proofs.Passed.{counts-passed}
 use Rattle.plan_format.specs.Text.{Read, read_text}
-use Rattle.plan_format.specs.Reading.{plan_in, most_symbols, most_heights, line_fault, read_fault, is_enough, PlanRead}
-use Rattle.plan_format.specs.Reading.{unread, stored, read_tested, read_plan}
+use Rattle.plan_format.specs.Reading.{plan_in, most_packed, most_heights, line_fault, read_fault, is_enough, PlanRead}
+use Rattle.plan_format.specs.Reading.{unread, cleared, stored, read_tested, read_plan}
 
 pub record Holds (a : PlanRead) : Type 0 where
   pub hours : a.hours ≤ most_hours
   pub rooms : a.rooms ≤ most_rooms
   pub calendars : a.calendars ≤ most_calendars
   pub tasks : a.tasks ≤ most_tasks
-  pub symbols : first_symbol a.hours a.calendars ≤ most_symbols
+  pub bytes : first_symbol (bytes_of a.hours) a.calendars ≤ most_packed
   pub heights : a.rooms * a.tasks ≤ most_heights
   pub pairs : a.pairs ≤ most_pairs
 
@@ -41,9 +43,9 @@ answer_of r =
       pairs = pair_count (plan_in r);
     }
 
-fault-free : (enough : Bool) (r : Read) → read_fault enough r ≡ None → Holds (answer_of r)
-unfolding read_fault line_fault plan_fault plan_in first_symbol
-fault-free enough r e =
+fault-free : (r : Read) → read_fault true r ≡ None → Holds (answer_of r)
+unfolding read_fault line_fault plan_fault plan_in first_symbol bytes_of
+fault-free r e =
     let after-31 = neither _ _ e in
     let after-3 = neither _ _ after-31.1 in
     let of-lines = neither _ _ after-3.0 in
@@ -56,7 +58,7 @@ fault-free enough r e =
       rooms = counts.rooms;
       calendars = c;
       tasks = few;
-      symbols = mul-le-mul c h;
+      bytes = mul-le-mul c (let few-bytes : bytes_of r.hours ≤ bytes_of most_hours = omega (arith, h) in few-bytes);
       heights = mul-le-mul counts.rooms few;
       pairs = counts.few_pairs;
     }
@@ -64,23 +66,32 @@ fault-free enough r e =
 module _ (capacities calendars task_calendars work_times heights pairs boxes : List ℕ) where
   from-tested : (r : Read) (a : PlanRead)
       → (read_tested capacities calendars task_calendars work_times heights pairs boxes r).answer ≡ answered a → Holds a
-  unfolding read_tested on_option unread stored
-  from-tested r a e = go (read_fault (is_enough capacities calendars task_calendars work_times heights pairs boxes) r) refl e
+  unfolding read_tested on_option unread cleared stored
+  from-tested r a e = by-memory (is_enough capacities calendars task_calendars work_times heights pairs boxes) e
     where
-      go : (o : Option Fault) → read_fault (is_enough capacities calendars task_calendars work_times heights pairs boxes) r ≡ o
+      by-fault : (o : Option Fault) → read_fault true r ≡ o
           → (on_option o (stored capacities calendars task_calendars work_times heights pairs boxes r)
-          (unread capacities calendars task_calendars work_times heights pairs boxes)).answer
+          (cleared capacities calendars task_calendars work_times heights pairs boxes)).answer
           ≡ answered a → Holds a
-      go None q s =
+      by-fault None q s =
           let is : answer_of r ≡ a = cc in
-          subst Holds is (fault-free _ r q)
-      go (Some f) q s = refused≢answered s
+          subst Holds is (fault-free r q)
+      by-fault (Some f) q s = refused≢answered s
+
+      by-memory : (b : Bool)
+          → (if b
+          then on_option (read_fault true r) (stored capacities calendars task_calendars work_times heights pairs boxes r)
+          (cleared capacities calendars task_calendars work_times heights pairs boxes)
+          else unread capacities calendars task_calendars work_times heights pairs boxes (fault 31 0)).answer
+          ≡ answered a → Holds a
+      by-memory true s = by-fault (read_fault true r) refl s
+      by-memory false s = refused≢answered s
 
   from-read : (o : Answer Read) (a : PlanRead)
-      → (on_answer o (unread capacities calendars task_calendars work_times heights pairs boxes)
+      → (on_answer o (cleared capacities calendars task_calendars work_times heights pairs boxes)
       (read_tested capacities calendars task_calendars work_times heights pairs boxes)).answer
       ≡ answered a → Holds a
-  unfolding on_answer unread
+  unfolding on_answer cleared
   from-read (refused f) a e = refused≢answered e
   from-read (answered r) a e = from-tested r a e
 

@@ -1,7 +1,7 @@
 pub mod Lines
 pub mod Texts
 pub mod Boxes
-pub mod Joined
+pub mod Each
 pub mod Written
 pub mod Rereading
 pub mod Growing
@@ -11,3 +11,6 @@ pub mod Readings
 pub mod Writings
 pub mod Again
 pub mod NoPairs
+pub mod Calendars
+pub mod Widths
+pub mod ShortTexts

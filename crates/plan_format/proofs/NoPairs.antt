@@ -15,17 +15,17 @@ use Rattle.units.specs.Limits.{pair_numbers}
 use Rattle.units.specs.Lists.{list_to}
 use Rattle.units.proofs.Choices.{true≢false, if-case, if-all, if_some, option-all, option-case, None≢Some}
 use Rattle.text.specs.Words.{word_plan, word_cal, word_task, word_after}
-use Rattle.text.specs.Fields.{tab, parts, same}
+use Rattle.text.specs.Fields.{tab, lf, parts, same}
 use Rattle.text.proofs.Words.{same-not}
 use Rattle.plan.specs.Plan.{Plan, room_count, task_count, pair_count, calendar_count}
 use Rattle.plan.specs.Refusals.{fault, Answer, refused, answered, on_answer}
 use Rattle.plan.proofs.Refusals.{refused≢answered}
 use Rattle.plan_format.specs.Records.{Record, plan_of, cal_of, task_of, by_word, record_of}
-use Rattle.plan_format.specs.Text.{plan_section, Read, nothing, with_record, with_line, read_lines, read_text}
+use Rattle.plan_format.specs.Text.{plan_section, Read, nothing, with_record, with_line, is_line, with_line_at, read_lines, read_text}
 use Rattle.plan_format.specs.Reading.{plan_in, most_paired, is_enough, stored, read_tested, read_plan}
 use Rattle.plan_format.specs.Writing.{cal_records, task_records, after_records, records_of, text_of_plan, write_fault, write_plan}
 use Rattle.plan_format.specs.NoPairs as before
-use Rattle.plan_format.specs.NoPairs.{is_pair_line, lines_of, RefusedAtPair, AsBefore}
+use Rattle.plan_format.specs.NoPairs.{is_pair_line, RefusedAtPair, AsBefore}
 
 -- ---- read
 
@@ -43,42 +43,44 @@ no-record (word ∷ fields) e = rw (other word_plan refl, other word_cal refl, o
     other : (w : List ℕ) → same w word_after ≡ false → same word w ≡ false
     other w n = same-not word w (λ p. true≢false e (rw p n))
 
-module _ (r : Read) (line : List ℕ) where
-  line-alike : is_pair_line line ≡ false → with_line r line ≡ before.with_line r line
-  unfolding with_line record_of before.with_line is_pair_line
+module _ (k : ℕ) (r : Read) (line : List ℕ) where
+  line-alike : is_pair_line line ≡ false → with_line_at k r line ≡ before.with_line_at k r line
+  unfolding with_line_at with_line record_of before.with_line_at is_pair_line
   line-alike e = rw (word-alike (parts tab line) e) refl
 
-  no-line : is_pair_line line ≡ true → before.with_line r line ≡ None
-  unfolding before.with_line is_pair_line on_option
-  no-line e = rw (no-record (parts tab line) e) refl
+  no-line : is_pair_line line ≡ true → before.with_line_at k r line ≡ None
+  unfolding before.with_line_at is_pair_line on_option
+  no-line e =
+      rw (no-record (parts tab line) e)
+      (if-all (λ (o : Option Read). o ≡ None) (is_line k (length line)) None None (λ t. refl) (λ f. refl))
 
 -- line by line: as before, or refused at line k + i for its word
-abbrev Alike : Bool → ℕ → Read → List (List ℕ) → Type 0
-Alike whole k r lines =
-    (read_lines whole k r lines ≡ before.read_lines whole k r lines)
-    ⊎ ((i : ℕ) × (before.read_lines whole k r lines ≡ refused (fault 1 (k + i))) × (is_pair_line (get_or lines i []) ≡ true))
+abbrev Alike : ℕ → Read → List (List ℕ) → Type 0
+Alike k r lines =
+    (read_lines k r lines ≡ before.read_lines k r lines)
+    ⊎ ((i : ℕ) × (before.read_lines k r lines ≡ refused (fault 1 (k + i))) × (is_pair_line (get_or lines i []) ≡ true))
 
-lines-alike : (whole : Bool) (k : ℕ) (r : Read) (lines : List (List ℕ)) → Alike whole k r lines
+lines-alike : (k : ℕ) (r : Read) (lines : List (List ℕ)) → Alike k r lines
 unfolding read_lines before.read_lines on_option
-lines-alike whole k r [] = inl refl
-lines-alike whole k r (line ∷ []) = inl refl
-lines-alike whole k r (line ∷ (next ∷ lines)) =
-    go (is_pair_line line) refl (before.with_line r line) refl (λ s. lines-alike whole (k + 1) s (next ∷ lines))
+lines-alike k r [] = inl refl
+lines-alike k r (line ∷ []) = inl refl
+lines-alike k r (line ∷ (next ∷ lines)) =
+    go (is_pair_line line) refl (before.with_line_at k r line) refl (λ s. lines-alike (k + 1) s (next ∷ lines))
   where
-    after : (s : Read) → with_line r line ≡ Some s → before.with_line r line ≡ Some s → Alike whole (k + 1) s (next ∷ lines)
-        → Alike whole k r (line ∷ (next ∷ lines))
+    after : (s : Read) → with_line_at k r line ≡ Some s → before.with_line_at k r line ≡ Some s → Alike (k + 1) s (next ∷ lines)
+        → Alike k r (line ∷ (next ∷ lines))
     after s p q (inl e) = inl (rw (p, q) e)
     after s p q (inr (i, e, h)) = inr (suc i, rw q (e ∙ ap (λ n. refused (fault 1 n)) (omega arith)), h)
 
-    go : (b : Bool) → is_pair_line line ≡ b → (o : Option Read) → before.with_line r line ≡ o
-        → ((s : Read) → Alike whole (k + 1) s (next ∷ lines)) → Alike whole k r (line ∷ (next ∷ lines))
-    go true e o q rest = inr (0, rw (no-line r line e) (ap (λ n. refused (fault 1 n)) (omega arith)), e)
-    go false e None q rest = inl (rw (line-alike r line e, q) refl)
-    go false e (Some s) q rest = after s (line-alike r line e ∙ q) q (rest s)
+    go : (b : Bool) → is_pair_line line ≡ b → (o : Option Read) → before.with_line_at k r line ≡ o
+        → ((s : Read) → Alike (k + 1) s (next ∷ lines)) → Alike k r (line ∷ (next ∷ lines))
+    go true e o q rest = inr (0, rw (no-line k r line e) (ap (λ n. refused (fault 1 n)) (omega arith)), e)
+    go false e None q rest = inl (rw (line-alike k r line e, q) refl)
+    go false e (Some s) q rest = after s (line-alike k r line e ∙ q) q (rest s)
 
 read-alike : (text : List ℕ) → (read_text text ≡ before.read_text text) ⊎ RefusedAtPair text
-unfolding read_text before.read_text RefusedAtPair lines_of
-read-alike text = lines-alike _ 1 nothing (lines_of text)
+unfolding read_text before.read_text RefusedAtPair
+read-alike text = lines-alike 1 nothing (parts lf text)
 
 -- a line of the three words leaves no pairs where there were none
 module _ (r : Read) (none : r.pairs ≡ []) where
@@ -105,26 +107,26 @@ module _ (r : Read) (none : r.pairs ≡ []) where
       (λ w. if-all Kept (same word word_cal) _ _ (λ c. if-kept _ _ (kept _ _ _ refl none))
       (λ c. if-all Kept (same word word_task) _ _ (λ t. option-all Kept _ _ _ (λ n. none-kept) (λ ns n. kept _ _ _ refl none)) (λ t. none-kept)))
 
-  line-kept : (line : List ℕ) (s : Read) → before.with_line r line ≡ Some s → s.pairs ≡ []
-  unfolding Kept before.with_line
-  line-kept line = word-kept (parts tab line)
+  line-kept : (k : ℕ) (line : List ℕ) (s : Read) → before.with_line_at k r line ≡ Some s → s.pairs ≡ []
+  unfolding Kept before.with_line_at
+  line-kept k line s e =
+      if-case (is_line k (length line)) _ _ _ e (λ may w. word-kept (parts tab line) s w) (λ no w. None≢Some w)
 
   answer-kept : (q : Read) → answered r ≡ answered q → q.pairs ≡ []
   answer-kept q e = let same : r ≡ q = cc in rw (← same) none
 
-lines-kept : (whole : Bool) (k : ℕ) (r q : Read) (lines : List (List ℕ)) → r.pairs ≡ [] → before.read_lines whole k r lines ≡ answered q
-    → q.pairs ≡ []
+lines-kept : (k : ℕ) (r q : Read) (lines : List (List ℕ)) → r.pairs ≡ [] → before.read_lines k r lines ≡ answered q → q.pairs ≡ []
 unfolding before.read_lines
-lines-kept whole k r q [] none e = refused≢answered e
-lines-kept whole k r q (line ∷ []) none e =
-    if-case (whole and leb plan_section r.reached and eqb (length line) 0) _ _ _ e (λ b is. answer-kept r none q is) (λ b is. refused≢answered is)
-lines-kept whole k r q (line ∷ (next ∷ lines)) none e =
+lines-kept k r q [] none e = refused≢answered e
+lines-kept k r q (line ∷ []) none e =
+    if-case (leb plan_section r.reached and eqb (length line) 0) _ _ _ e (λ b is. answer-kept r none q is) (λ b is. refused≢answered is)
+lines-kept k r q (line ∷ (next ∷ lines)) none e =
     option-case _ _ _ _ e (λ n is. refused≢answered is)
-    (λ s w is. lines-kept whole (k + 1) s q (next ∷ lines) (line-kept r none line s w) is)
+    (λ s w is. lines-kept (k + 1) s q (next ∷ lines) (line-kept r none k line s w) is)
 
 read-accepted : (text : List ℕ) (r : Read) → before.read_text text ≡ answered r → (read_text text ≡ answered r) × (r.pairs ≡ [])
 unfolding before.read_text RefusedAtPair
-read-accepted text r e = (go (read-alike text), lines-kept _ 1 nothing r (lines_of text) refl e)
+read-accepted text r e = (go (read-alike text), lines-kept 1 nothing r (parts lf text) refl e)
   where
     go : (read_text text ≡ before.read_text text) ⊎ RefusedAtPair text → read_text text ≡ answered r
     go (inl p) = p ∙ e

@@ -8,11 +8,10 @@ use Prim.Native.Nat.{ℕ, zero, suc, ◌+◌, ◌≤◌, ◌<◌}
 use native.Mathlib.Omega.{arith}
 use lib.Dec.{eqb}
 use lib.ListN.{length, get_or}
-use lib.Seq.{take_all}
-use borrow.Author.Tests.{le-leb, eq-eqb, eqb-true, ne_eqb}
+use borrow.Author.Tests.{eq-eqb, eqb-true, ne_eqb}
 use Rattle.units.specs.Choice.{on_option}
 use Rattle.units.specs.Limits.{within}
-use Rattle.units.specs.Lists.{list_to}
+use Rattle.units.specs.Lists.{list_to, joined}
 use Rattle.units.proofs.Choices.{if-case, if-all}
 use Rattle.plan.specs.Plan.{Plan, room_count, task_count, pair_count, calendar_count, first_symbol, calendar_at, pair_of}
 use Rattle.plan.specs.HourKinds.{is_kind, is_symbol, regular, closed, overtime}
@@ -25,13 +24,13 @@ use Rattle.text.specs.Numbers.{most_number}
 use Rattle.text.proofs.Parting.{without-each}
 use Rattle.text.proofs.Lines.{Below}
 use Rattle.plan_format.specs.Records.{Record, cal_record, task_record, after_record}
-use Rattle.plan_format.specs.Text.{most_bytes, plan_section, cal_section, task_section, after_section, Read, nothing, comes, is_task_line}
+use Rattle.plan_format.specs.Text.{plan_section, cal_section, task_section, after_section, Read, nothing, comes, is_task_line}
 use Rattle.plan_format.specs.Text.{with_record, read_text}
-use Rattle.plan_format.specs.Reading.{joined}
 use Rattle.plan_format.specs.Writing.{cal_records, task_numbers, task_records, after_records, records_of, text_of_plan}
 use Rattle.plan_format.proofs.Written.{tasks_section, pairs_section, paired, pairs_to, read_of}
 use Rattle.plan_format.proofs.Written.{numbers-count, numbers-below, paired-below, capacities-below}
-use Rattle.plan_format.proofs.Joined.{joined-more}
+use Rattle.units.proofs.Joined.{joined-more}
+use Rattle.plan_format.proofs.Size.{records-short, records-few}
 use Rattle.plan_format.proofs.Lines.{Readable}
 use Rattle.plan_format.proofs.Texts.{Each, each_both, each_to, with_records, records-both, records-to, lines-read}
 
@@ -200,8 +199,8 @@ module _ (P : Plan) (boxes : List ℕ) where
       (λ q. if-all begins (eqb (task_count P) 0) cal_section task_section (λ q. omega arith) (λ q. omega arith))
       (λ q. omega arith)
 
-  pub text-read : Passed P boxes → length (text_of_plan P boxes) ≤ most_bytes → read_text (text_of_plan P boxes) ≡ answered (read_of P boxes)
+  pub text-read : Passed P boxes → read_text (text_of_plan P boxes) ≡ answered (read_of P boxes)
   unfolding read_text text_of_plan
-  text-read p l =
-      rw (le-leb (length (text_of_plan P boxes)) most_bytes l, take_all most_bytes (text_of_plan P boxes) l)
-      (lines-read (records_of P boxes) (records-readable p) 1 nothing (read_of P boxes) (records-taken p.some_calendar) begun)
+  text-read p =
+      lines-read (records_of P boxes) (records-readable p) (records-short P boxes p) 1 (omega (arith, records-few P boxes p)) nothing (read_of P boxes)
+      (records-taken p.some_calendar) begun

@@ -1,11 +1,13 @@
--- How long the text of a plan that passed is: no line is longer than the limits of a plan let it be. Assumes nothing.
+-- How long the text of a plan that passed is: no line is longer than the limits of a plan let it be, and there are no more lines than they let there
+-- be. Assumes nothing.
 use mathlib.Core.Path.{◌≡◌, refl, ap}
 use mathlib.Core.List.{List, ◌∷◌, ◌++◌}
 use Prim.Native.Nat.{ℕ, zero, suc, ◌+◌, ◌*◌, ◌≤◌, ◌<◌}
 use native.Mathlib.Nat.{suc-mul}
 use native.Mathlib.Omega.{arith}
 use lib.ListN.{length, get_or, length-append}
-use Rattle.units.specs.Limits.{most_hours, most_calendars, most_rooms, most_tasks, most_pairs, box_numbers, pair_numbers}
+use Rattle.units.proofs.Lists.{list_length}
+use Rattle.units.specs.Limits.{most_calendars, most_tasks, most_pairs}
 use Rattle.units.specs.Lists.{list_to}
 use Rattle.text.specs.Words.{word_plan, word_task, word_after}
 use Rattle.text.specs.Numbers.{decimal_text}
@@ -16,31 +18,16 @@ use Rattle.plan.specs.Plan.{Plan, room_count, task_count, pair_count, calendar_c
 use Rattle.plan.specs.Boxes.{bounds_at, box_cells}
 use Rattle.plan.specs.Passed.{Passed}
 use Rattle.plan.proofs.Passed.{calendar-hours}
-use Rattle.plan_format.specs.Records.{Record, task_record, after_record, record_line}
-use Rattle.plan_format.specs.Text.{most_bytes, text_of}
-use Rattle.plan_format.specs.Writing.{cal_records, heights_at, task_numbers, task_records, after_records, text_of_plan}
+use Rattle.plan_format.specs.Records.{Record, cal_record, task_record, after_record, record_line}
+use Rattle.plan_format.specs.Text.{text_of}
+use Rattle.plan_format.specs.Writing.{cal_records, heights_at, task_numbers, task_records, after_records, records_of, text_of_plan}
+use Rattle.plan_format.specs.Writing.{most_plan_line, most_cal_line, most_task_line, most_pair_line, most_text}
 use Rattle.plan_format.proofs.Growing.{cal-length, text-none, text_last, alone, plan-length}
+use Rattle.plan_format.proofs.Texts.{Each, each_both, each_to, Short}
 use Rattle.plan_format.proofs.Written.{paired, numbers-count, numbers-below, paired-below, capacities-below}
 
--- The most bytes of a line, with its LF: a word, a tab before each field, and no more digits than the limits have. H has 4 and each capacity 5; a
--- task's calendar has 2, and each number after it 4: p, the height in each room, and the six bounds. Each task of a pair has 2.
-abbrev pub most_plan_line : ℕ
-most_plan_line = 4 + (1 + 4) + most_rooms * (1 + 5) + 1
-
-abbrev pub most_cal_line : ℕ
-most_cal_line = 3 + (1 + most_hours) + 1
-
-abbrev pub most_task_line : ℕ
-most_task_line = 4 + (1 + 2) + (1 + most_rooms + box_numbers) * (1 + 4) + 1
-
-abbrev pub most_pair_line : ℕ
-most_pair_line = 5 + pair_numbers * (1 + 2) + 1
-
--- and of a text
-abbrev pub most_text : ℕ
-most_text = most_plan_line + most_calendars * most_cal_line + most_tasks * most_task_line + most_pairs * most_pair_line
-
-pub most-text : most_text ≡ 24650
+-- the most bytes of a text
+pub most-text : most_text ≡ 149066
 most-text = refl
 
 -- ---- line by line
@@ -68,9 +55,12 @@ module _ (P : Plan) (boxes : List ℕ) (p : Passed P boxes) where
         p.rooms,
       )
 
+  cal-width : (k : ℕ) → k < calendar_count (alone P) → length (ended (record_line (cal_record (calendar_at (alone P) k)))) ≤ most_cal_line
+  cal-width k l = omega (arith, cal-length (calendar_at (alone P) k), calendar-hours (alone P) k l, p.hours)
+
   cals-size : length (text_of (cal_records (alone P) (calendar_count (alone P)))) ≤ calendar_count (alone P) * most_cal_line
   unfolding cal_records
-  cals-size = lines-size _ _ most_cal_line (λ k l. omega (arith, cal-length (calendar_at (alone P) k), calendar-hours (alone P) k l, p.hours))
+  cals-size = lines-size _ _ most_cal_line cal-width
 
   few : calendar_count (alone P) ≤ most_calendars
   few = p.calendars
@@ -121,5 +111,32 @@ module _ (P : Plan) (boxes : List ℕ) (p : Passed P boxes) where
         p.few_pairs,
       )
 
-  pub text-short : length (text_of_plan P boxes) ≤ most_bytes
-  text-short = omega (arith, text-size)
+  -- each line is one that may be read, and there are few
+  pub records-short : Each Short (records_of P boxes)
+  unfolding Each records_of cal_records calendar_at task_records after_records line_of record_line
+  records-short = (
+    omega (arith, plan-width),
+    each_both Short _ _
+        (each_both Short _ _
+        (each_to Short _ (calendar_count P.shifts) (λ k l. omega (arith, cal-width k l)))
+        (each_to Short _ (task_count P) (λ i l. omega (arith, task-width i l))))
+        (each_to Short _ (pair_count P) (λ k l. omega (arith, pair-width k l))),
+  )
+
+  pub records-few : length (records_of P boxes) ≤ 1 + most_calendars + most_tasks + most_pairs
+  unfolding records_of cal_records task_records after_records
+  records-few =
+      let cals = cal_records P.shifts (calendar_count P.shifts) in
+      let tasks = task_records (room_count P) P.shifts.task_calendars P.shifts.work_times P.heights boxes (task_count P) in
+      let pairs = after_records P (pair_count P) in
+      omega (
+        arith,
+        length-append (cals ++ tasks) pairs,
+        length-append cals tasks,
+        list_length (λ k. cal_record (calendar_at P.shifts k)) (calendar_count P.shifts),
+        list_length (λ i. task_record (task_numbers (room_count P) P.shifts.task_calendars P.shifts.work_times P.heights boxes i)) (task_count P),
+        list_length (λ k. after_record (pair_of P k).earlier (pair_of P k).later) (pair_count P),
+        few,
+        p.tasks,
+        p.few_pairs,
+      )

@@ -1,21 +1,26 @@
--- A text of several records, one after the other: its lines are read as those records. Assumes nothing.
+-- A text of several records, one after the other: its lines are read as those records; and of any text that is read, its lines are short and few.
+-- Assumes nothing.
 use mathlib.Core.Path.{◌≡◌, refl, sym, ap, ◌∙◌}
-use mathlib.Core.Bool.{Bool, true}
+use mathlib.Core.Bool.{true}
 use Rattle.std.specs.Prelude.{Option, None, Some}
 use mathlib.Core.List.{List, [], ◌∷◌, ◌++◌, append_assoc}
 use Prim.Native.Nat.{ℕ, zero, suc, ◌+◌, ◌≤◌, ◌<◌}
+use native.Mathlib.Nat.{add-zero}
 use native.Mathlib.Omega.{arith}
-use borrow.Author.Tests.{le-leb}
+use lib.ListN.{length, get_or, length-append}
+use borrow.Author.Tests.{le-leb, leb-true}
 use Rattle.units.specs.Choice.{on_option}
 use Rattle.units.specs.Lists.{list_to}
-use Rattle.units.proofs.Choices.{None≢Some}
+use Rattle.units.proofs.Choices.{None≢Some, and_both, and_left, and_right, if-case, option-case}
 use Rattle.plan.specs.Refusals.{fault, refused, answered}
+use Rattle.plan.proofs.Refusals.{refused≢answered}
 use Rattle.text.specs.Fields.{lf, parts}
 use Rattle.text.specs.Lines.{ended}
 use Rattle.text.proofs.Parts.{parts_first}
 use Rattle.text.proofs.Parting.{parts_next}
 use Rattle.plan_format.specs.Records.{Record, record_line}
-use Rattle.plan_format.specs.Text.{plan_section, Read, with_record, with_line, read_lines, text_of}
+use Rattle.plan_format.specs.Text.{most_line, most_lines, plan_section, Read, nothing, with_record, with_line, is_line, with_line_at, read_lines, read_text}
+use Rattle.plan_format.specs.Text.{text_of}
 use Rattle.plan_format.proofs.Lines.{Readable, line_read, line-whole}
 
 -- ---- several records
@@ -69,27 +74,87 @@ records-to f after h (suc n) = records-both (list_to f n) (f n ∷ []) (after 0)
 
 -- ---- their text, read
 
+-- a line that may come is short with its LF, and not one too many; and such a line may come
+module _ (k bytes : ℕ) where
+  pub line-short : is_line k bytes ≡ true → bytes + 1 ≤ most_line
+  unfolding is_line
+  line-short e = leb-true _ _ (and_left _ _ e)
+
+  pub line-number : is_line k bytes ≡ true → k ≤ most_lines
+  unfolding is_line
+  line-number e = leb-true _ _ (and_right _ _ e)
+
+  pub line-comes : bytes + 1 ≤ most_line → k ≤ most_lines → is_line k bytes ≡ true
+  unfolding is_line
+  line-comes l m = and_both _ _ (le-leb (bytes + 1) most_line l) (le-leb k most_lines m)
+
 -- what follows a line are the parts of the text after it, of which there is at least one
-lines_more : (whole : Bool) (k : ℕ) (r : Read) (line text : List ℕ)
-    → read_lines whole k r (line ∷ parts lf text)
-    ≡ on_option (with_line r line) (refused (fault 1 k)) (λ more. read_lines whole (k + 1) more (parts lf text))
+lines_more : (k : ℕ) (r : Read) (line text : List ℕ)
+    → read_lines k r (line ∷ parts lf text)
+    ≡ on_option (with_line_at k r line) (refused (fault 1 k)) (λ more. read_lines (k + 1) more (parts lf text))
 unfolding read_lines
-lines_more whole k r line text = let (ps, e) = parts_first lf text in rw e
+lines_more k r line text = let (ps, e) = parts_first lf text in rw e
+
+-- a record's line is short enough, with its LF
+abbrev pub Short : Record → Type 0
+Short x = length (ended (record_line x)) ≤ most_line
 
 -- a record's line brings what the record brings
-line_taken : (x : Record) → Readable x → (r : Read) → with_line r (record_line x) ≡ with_record r x
-unfolding with_line on_option
-line_taken x b r = rw (line_read x b)
+line_taken : (x : Record) → Readable x → Short x → (k : ℕ) → k ≤ most_lines → (r : Read) → with_line_at k r (record_line x) ≡ with_record r x
+unfolding with_line_at with_line on_option
+line_taken x b s k l r =
+    let size : length (record_line x) + 1 ≤ most_line = omega (arith, s, length-append (record_line x) (lf ∷ [])) in
+    rw (line-comes k (length (record_line x)) size l, line_read x b)
 
 -- each line is its record's, and after the last LF there is nothing
-pub lines-read : (xs : List Record) → Each Readable xs → (k : ℕ) (r q : Read) → with_records r xs ≡ Some q → plan_section ≤ q.reached
-    → read_lines true k r (parts lf (text_of xs)) ≡ answered q
+pub lines-read : (xs : List Record) → Each Readable xs → Each Short xs → (k : ℕ) → k + length xs ≤ most_lines + 1 → (r q : Read)
+    → with_records r xs ≡ Some q → plan_section ≤ q.reached → read_lines k r (parts lf (text_of xs)) ≡ answered q
 unfolding Each with_records text_of
-lines-read [] b k r q e h =
+lines-read [] b c k l r q e h =
     unfold parts read_lines in let p : r ≡ q = cc in rw (p, le-leb plan_section q.reached h)
-lines-read (x ∷ xs) b k r q e h =
-    ap (λ t. read_lines true k r (parts lf t)) (append_assoc (record_line x) (lf ∷ []) (text_of xs))
-    ∙ ap (read_lines true k r) (parts_next lf (record_line x) (text_of xs) (line-whole x b.0))
-    ∙ lines_more true k r (record_line x) (text_of xs)
-    ∙ rw (line_taken x b.0 r)
-    (first_taken _ _ e _ _ (λ s p. lines-read xs b.1 (k + 1) s q p h))
+lines-read (x ∷ xs) b c k l r q e h =
+    ap (λ t. read_lines k r (parts lf t)) (append_assoc (record_line x) (lf ∷ []) (text_of xs))
+    ∙ ap (read_lines k r) (parts_next lf (record_line x) (text_of xs) (line-whole x b.0))
+    ∙ lines_more k r (record_line x) (text_of xs)
+    ∙ rw (line_taken x b.0 c.0 k (omega arith) r)
+    (first_taken _ _ e _ _ (λ s p. lines-read xs b.1 c.1 (k + 1) (omega arith) s q p h))
+
+-- ---- a text that was read
+
+-- each line, which is all parts but the last, may come
+lines-are : (k : ℕ) (r q : Read) (ls : List (List ℕ)) → read_lines k r ls ≡ answered q → (i : ℕ) → i + 1 < length ls
+    → is_line (k + i) (length (get_or ls i [])) ≡ true
+unfolding read_lines with_line_at
+lines-are k r q [] e i l = refused≢answered e
+lines-are k r q (line ∷ []) e i l = absurd (omega arith)
+lines-are k r q (line ∷ (next ∷ ls)) e i l =
+    option-case (with_line_at k r line) _ _ _ e (λ none p. refused≢answered p)
+    (λ s is p.
+    if-case (is_line k (length line)) _ _ _ is (λ may w. go (λ j m. lines-are (k + 1) s q (next ∷ ls) p j m) may i l) (λ no w. None≢Some w))
+  where
+    go : ((j : ℕ) → j + 1 < length (next ∷ ls) → is_line (k + 1 + j) (length (get_or (next ∷ ls) j [])) ≡ true)
+        → is_line k (length line) ≡ true → (i : ℕ) → i + 1 < length (line ∷ (next ∷ ls))
+        → is_line (k + i) (length (get_or (line ∷ (next ∷ ls)) i [])) ≡ true
+    go rest may zero m = ap (λ (n : ℕ). is_line n (length line)) (add-zero k) ∙ may
+    go rest may (suc j) m =
+        ap (λ (n : ℕ). is_line n (length (get_or (next ∷ ls) j []))) (let same : k + suc j ≡ k + 1 + j = omega arith in same) ∙ rest j (omega arith)
+
+-- so they are short, and few
+module _ (text : List ℕ) {r : Read} (e : read_text text ≡ answered r) where
+  read-line : (k : ℕ) → k + 1 < length (parts lf text) → is_line (1 + k) (length (get_or (parts lf text) k [])) ≡ true
+  unfolding read_text
+  read-line = lines-are 1 nothing r (parts lf text) e
+
+  pub read-short : (k : ℕ) → k + 1 < length (parts lf text) → length (get_or (parts lf text) k []) + 1 ≤ most_line
+  read-short k l = line-short _ _ (read-line k l)
+
+  pub read-few : length (parts lf text) ≤ most_lines + 1
+  read-few = go (length (parts lf text)) refl
+    where
+      go : (n : ℕ) → length (parts lf text) ≡ n → n ≤ most_lines + 1
+      go zero q = omega arith
+      go (suc zero) q = omega arith
+      go (suc (suc n)) q =
+          let more : n + 1 < length (parts lf text) = omega (arith, q) in
+          let last : 1 + n ≤ most_lines = line-number _ _ (read-line n more) in
+          omega (arith, last)

@@ -11,7 +11,7 @@ use lib.Dec.{eqb}
 use lib.ListN.{length, get_or, take, drop, length-append, length-drop, get_or-append}
 use lib.Seq.{get_or-drop, drop_at}
 use Rattle.units.specs.Limits.{most_hours, most_calendars, most_tasks, most_capacity, box_numbers, pair_numbers}
-use Rattle.units.specs.Lists.{list_to}
+use Rattle.units.specs.Lists.{list_to, joined}
 use Rattle.units.proofs.Choices.{and_both}
 use Rattle.units.proofs.Lists.{list_length, list_at, list-map, list-eq, list-take, list-cells}
 use Rattle.units.proofs.Ranges.{is_within}
@@ -23,10 +23,11 @@ use Rattle.plan.proofs.Passed.{room-length, calendar-hours}
 use Rattle.plan.proofs.Refusals.{unless-true, go_on}
 use Rattle.text.proofs.Lines.{Below, below_both, below-to, below_each}
 use Rattle.plan_format.specs.Text.{Read, cal_section, task_section, after_section}
-use Rattle.plan_format.specs.Reading.{joined, box_of, heights_in, plan_in, boxes_in, line_fault}
+use Rattle.plan_format.specs.Reading.{box_of, heights_in, plan_in, boxes_in, line_fault}
 use Rattle.plan_format.specs.Writing.{heights_at, task_numbers}
 use Rattle.plan_format.proofs.Boxes.{box-long}
-use Rattle.plan_format.proofs.Joined.{joined-parts, all_list}
+use Rattle.units.proofs.Joined.{joined-parts}
+use Rattle.plan_format.proofs.Each.{all_list}
 
 -- ---- what has been read after all of its records
 

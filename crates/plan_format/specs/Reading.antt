@@ -1,22 +1,19 @@
 -- Reading a plan as an entry point: the text's plan, its refusals in their order, and what lent memory holds after (01, "Plan text and
--- listing", "Refused because of the state"; rooms: 02, W-202; the box of a line without bounds: W-205; pairs: W-206).
-use Rattle.std.specs.Prelude.{Bool, true, List, [], ◌∷◌, ◌++◌, map, ℕ, ◌+◌, ◌-◌, ◌*◌, leb, eqb, length, get_or, drop, if◌then◌else◌}
+-- listing", "Refused because of the state"; rooms: 02, W-202; the box of a line without bounds: W-205; pairs: W-206; packed calendars, and memory
+-- after a refusal: W-208).
+use Rattle.std.specs.Prelude.{Bool, true, List, [], ◌∷◌, map, ℕ, ◌+◌, ◌-◌, ◌*◌, leb, eqb, length, get_or, drop, replicate, if◌then◌else◌}
 use Rattle.std.specs.Prelude.{Option}
 use Rattle.units.specs.Cells.{written}
 use Rattle.units.specs.Choice.{◌and◌, on_option, ◌or_else◌}
 use Rattle.units.specs.Limits.{most_hours, most_calendars, most_rooms, most_tasks, most_pairs, box_numbers, pair_numbers}
 use Rattle.units.specs.Limits.{is_plan_length, is_calendar_count}
-use Rattle.units.specs.Lists.{list_to}
+use Rattle.units.specs.Lists.{list_to, joined}
 use Rattle.plan.specs.Plan.{Plan, plan, pair_count}
+use Rattle.plan.specs.Packed.{bytes_of, packed}
 use Rattle.plan.specs.declared.Fault.{Fault}
-use Rattle.plan.specs.Refusals.{unless, Answer, refused, answered, on_answer}
+use Rattle.plan.specs.Refusals.{fault, unless, Answer, refused, answered, on_answer}
 use Rattle.plan.specs.Faults.{plan_fault}
 use Rattle.plan_format.specs.Text.{Read, read_text}
-
--- lists joined
-unfoldable pub joined : List (List ℕ) → List ℕ
-joined [] = []
-joined (l ∷ ls) = l ++ joined ls
 
 -- a task's six bounds, where there are so many rooms: those of its line, or S 0 to H - 1, E p to H, O 0 to 0
 unfoldable pub box_of : ℕ → ℕ → List ℕ → List ℕ
@@ -43,10 +40,10 @@ unfoldable pub all_of : ℕ → List (List ℕ) → Bool
 all_of h [] = true
 all_of h (l ∷ ls) = eqb (length l) h and all_of h ls
 
--- the most that a plan can hold: 16 times 1,008 symbols, calendars joined, 64 heights in each of eight rooms, the tasks of 256 pairs, and the bounds
+-- the most that a plan can hold: 16 times 2,196 bytes of packed calendars, 64 heights in each of eight rooms, the tasks of 256 pairs, and the bounds
 -- of 64 boxes
-abbrev pub most_symbols : ℕ
-most_symbols = most_calendars * most_hours
+abbrev pub most_packed : ℕ
+most_packed = most_calendars * bytes_of most_hours
 
 abbrev pub most_heights : ℕ
 most_heights = most_rooms * most_tasks
@@ -61,7 +58,7 @@ most_bounds = box_numbers * most_tasks
 unfoldable pub is_enough : List ℕ → List ℕ → List ℕ → List ℕ → List ℕ → List ℕ → List ℕ → Bool
 is_enough capacities calendars task_calendars work_times heights pairs boxes =
     leb most_rooms (length capacities)
-    and leb most_symbols (length calendars)
+    and leb most_packed (length calendars)
     and leb most_tasks (length task_calendars)
     and leb most_tasks (length work_times)
     and leb most_heights (length heights)
@@ -110,12 +107,29 @@ end_with answer capacities calendars task_calendars work_times heights pairs box
       boxes = boxes;
     }
 
+-- memory of the same size, all 0
+abbrev pub zeros : List ℕ → List ℕ
+zeros cells = replicate (length cells) 0
+
 module _ (capacities calendars task_calendars work_times heights pairs boxes : List ℕ) where
-  -- a refusal changes no lent memory
+  -- 31 changes no lent memory
   unfoldable pub unread : Fault → ReadEnd
   unread f = end_with (refused f) capacities calendars task_calendars work_times heights pairs boxes
 
-  -- cells past the plan's own are untouched
+  -- every other refusal leaves all of it 0
+  unfoldable pub cleared : Fault → ReadEnd
+  cleared f =
+      end_with
+      (refused f)
+      (zeros capacities)
+      (zeros calendars)
+      (zeros task_calendars)
+      (zeros work_times)
+      (zeros heights)
+      (zeros pairs)
+      (zeros boxes)
+
+  -- the calendars are packed; cells past the plan's own are untouched
   unfoldable pub stored : Read → ReadEnd
   stored r =
       end_with
@@ -128,16 +142,20 @@ module _ (capacities calendars task_calendars work_times heights pairs boxes : L
         pairs = pair_count (plan_in r);
       }))
       (written (plan_in r).capacities capacities)
-      (written (plan_in r).shifts.calendars calendars)
+      (written (joined (map packed r.calendars)) calendars)
       (written (plan_in r).shifts.task_calendars task_calendars)
       (written (plan_in r).shifts.work_times work_times)
       (written (plan_in r).heights heights)
       (written (plan_in r).pairs pairs)
       (written (boxes_in r) boxes)
 
-  -- a text that keeps to the rules: the refusals after 1 in their order, or its plan
+  -- a text that keeps to the rules: 31, or the refusals after it in their order, or its plan
   unfoldable pub read_tested : Read → ReadEnd
-  read_tested r = on_option (read_fault (is_enough capacities calendars task_calendars work_times heights pairs boxes) r) (stored r) unread
+  read_tested r =
+      if is_enough capacities calendars task_calendars work_times heights pairs boxes
+      then on_option (read_fault true r) (stored r) cleared
+      else unread (fault 31 0)
 
+  -- 1 comes first, also where memory is not enough
   unfoldable pub read_plan : List ℕ → ReadEnd
-  read_plan text = on_answer (read_text text) unread read_tested
+  read_plan text = on_answer (read_text text) cleared read_tested

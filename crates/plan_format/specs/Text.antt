@@ -1,6 +1,6 @@
--- Plan text, line by line (01, "Plan text and listing"; rooms: 02, W-202; pairs: W-206). Read: the first line that breaks the rules, or the plan's
--- records. Written: each record's line.
-use Rattle.std.specs.Prelude.{Bool, true, List, [], ◌∷◌, ◌++◌, ℕ, ◌+◌, leb, eqb, length, take, if◌then◌else◌}
+-- Plan text, line by line (01, "Plan text and listing"; rooms: 02, W-202; pairs: W-206; the limits of a line and of their number: W-208). Read: the
+-- first line that breaks the rules, or the plan's records. Written: each record's line.
+use Rattle.std.specs.Prelude.{Bool, true, List, [], ◌∷◌, ◌++◌, ℕ, ◌+◌, leb, eqb, length, if◌then◌else◌}
 use Rattle.std.specs.Prelude.{Option, None}
 use Rattle.units.specs.Choice.{◌and◌, some_if, on_option}
 use Rattle.units.specs.Limits.{within}
@@ -11,9 +11,12 @@ use Rattle.plan_format.specs.Records.{Record, plan_record, cal_record, task_reco
 
 -- ---- read
 
--- the most bytes of a text
-abbrev pub most_bytes : ℕ
-most_bytes = 32768
+-- the most bytes of a line, with its LF, and the most lines of a text
+abbrev pub most_line : ℕ
+most_line = 8800
+
+abbrev pub most_lines : ℕ
+most_lines = 65535
 
 -- The sections of a text, in their order: nothing yet (0), the plan line, calendars, tasks, pairs.
 abbrev pub plan_section : ℕ
@@ -85,17 +88,24 @@ with_record r (after_record earlier later) =
 unfoldable pub with_line : Read → List ℕ → Option Read
 with_line r line = on_option (record_of line) None (with_record r)
 
--- from line k on: each line up to its LF. What follows the last LF must be nothing, and the text must have begun; a text that is too long breaks
--- the rules there
-unfoldable pub read_lines : Bool → ℕ → Read → List (List ℕ) → Answer Read
-read_lines whole k r [] = refused (fault 1 k)
-read_lines whole k r (line ∷ []) = if whole and leb plan_section r.reached and eqb (length line) 0 then answered r else refused (fault 1 k)
-read_lines whole k r (line ∷ (next ∷ lines)) =
-    on_option (with_line r line) (refused (fault 1 k)) (λ more. read_lines whole (k + 1) more (next ∷ lines))
+-- line k may come, and be of so many bytes before its LF
+unfoldable pub is_line : ℕ → ℕ → Bool
+is_line k bytes = leb (bytes + 1) most_line and leb k most_lines
 
--- lines count from 1; the line that holds byte 32,769 is the one after the last LF before it
+-- with line k
+unfoldable pub with_line_at : ℕ → Read → List ℕ → Option Read
+with_line_at k r line = if is_line k (length line) then with_line r line else None
+
+-- from line k on: each line up to its LF. What follows the last LF must be nothing, and the text must have begun
+unfoldable pub read_lines : ℕ → Read → List (List ℕ) → Answer Read
+read_lines k r [] = refused (fault 1 k)
+read_lines k r (line ∷ []) = if leb plan_section r.reached and eqb (length line) 0 then answered r else refused (fault 1 k)
+read_lines k r (line ∷ (next ∷ lines)) =
+    on_option (with_line_at k r line) (refused (fault 1 k)) (λ more. read_lines (k + 1) more (next ∷ lines))
+
+-- lines count from 1
 unfoldable pub read_text : List ℕ → Answer Read
-read_text text = read_lines (leb (length text) most_bytes) 1 nothing (parts lf (take most_bytes text))
+read_text text = read_lines 1 nothing (parts lf text)
 
 -- ---- written
 

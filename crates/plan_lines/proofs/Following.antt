@@ -7,37 +7,59 @@ use Prim.Native.Nat.{ℕ, ◌+◌, ◌-◌, ◌*◌, ◌≤◌}
 use native.Mathlib.Omega.{arith}
 use lib.Dec.{eqb}
 use lib.ListN.{length, get_or, drop, length-append, length-drop, length-map}
-use Rattle.units.specs.Choice.{◌and◌, on_option}
+use Rattle.units.specs.Choice.{◌and◌, on_option, first_of}
+use Rattle.units.specs.Lists.{joined}
 use Rattle.units.specs.Limits.{most_rooms, most_tasks, most_pairs, pair_numbers}
 use Rattle.units.proofs.Choices.{some-if, none-if, and_both, not_left, not_right}
-use Rattle.units.proofs.Lists.{list-eq}
-use Rattle.plan.specs.Plan.{plan, pair_count}
+use Rattle.units.proofs.Joined.{joined-more}
+use Rattle.units.proofs.Lists.{list-eq, map_more}
+use Rattle.plan.specs.Plan.{pair_count}
+use Rattle.plan.specs.Packed.{bytes_of, packed}
+use Rattle.plan.specs.Over.{packed_plan}
+use Rattle.plan.proofs.Packing.{packed-length}
 use Rattle.plan_lines.specs.declared.Scan.{Scan}
 use Rattle.plan_lines.specs.declared.Section.{Section}
 use Rattle.plan_lines.specs.declared.Section.TheVariants as section_is
 use Rattle.plan_format.specs.Records.{Record, plan_record, cal_record, task_record, after_record, record_of}
 use Rattle.plan_format.specs.Text.{Read, plan_section, cal_section, task_section, after_section, comes, is_task_line, with_record, with_line}
-use Rattle.plan_format.specs.Reading.{joined, box_of, heights_in, plan_in, boxes_in, all_of, most_symbols, most_paired, most_bounds}
+use Rattle.plan_format.specs.Reading.{box_of, heights_in, plan_in, boxes_in, all_of, most_packed, most_paired, most_bounds}
 use Rattle.plan_format.proofs.Boxes.{boxes-length}
-use Rattle.plan_format.proofs.Joined.{joined-more, all_more}
+use Rattle.plan_format.proofs.Each.{all_more}
 use Rattle.text.specs.Reading.{Begin}
 use Rattle.plan_lines.specs.Inner.Scanning.{calendars_at, work_times_at, boxes_at, capacities_at, pairs_at, room_at, section, section_number}
-use Rattle.plan_lines.specs.Inner.Scanning.{Kept, Keeps, KeepsNumbers, stored_heights, stored_plan, stored_boxes, Holds, Follows}
+use Rattle.plan_lines.specs.Inner.Scanning.{Kept, Keeps, KeepsNumbers, stored_heights, stored_plan, stored_boxes, packed_read}
+use Rattle.plan_lines.specs.Inner.Scanning.{wrong_symbol_fault, symbols_fault, all_packed, Holds, Follows}
 use Rattle.plan_lines.proofs.Sections.{kept-none, kept-section}
 use Rattle.plan_lines.proofs.Numbering.{begin-cell}
 use Rattle.plan_lines.proofs.Storing.{numbers-none}
 
 -- ---- a record more
 
+-- a calendar more, packed
+packed-more : (cals : List (List ℕ)) (l : List ℕ) → all_packed (cals ++ (l ∷ [])) ≡ all_packed cals ++ packed l
+packed-more cals l = ap joined (map_more packed cals l) ∙ joined-more (map packed cals) (packed l)
+
 -- no calendars, no tasks and no pairs
 abbrev pub bare : Section → ℕ → ℕ → Scan
-bare reached h rooms = record { reached = reached; hours = h; rooms = rooms; calendars = 0; even = true; symbols = 0; tasks = 0; pairs = 0 }
+bare reached h rooms =
+    record {
+      reached = reached;
+      hours = h;
+      rooms = rooms;
+      calendars = 0;
+      even = true;
+      symbols = 0;
+      bytes = 0;
+      wrong_symbol = None;
+      tasks = 0;
+      pairs = 0;
+    }
 
-pub holds-empty : (reached : Section) (h k n : ℕ) (cs symbols cells : List ℕ) → k ≡ length cs → Kept capacities_at most_rooms cs cells
+pub holds-empty : (reached : Section) (h k n : ℕ) (cs calendars cells : List ℕ) → k ≡ length cs → Kept capacities_at most_rooms cs cells
     → Holds (record { reached = section_number reached; hours = h; capacities = cs; calendars = []; tasks = []; pairs = [] })
-    (bare reached h k) n symbols cells
-unfolding joined all_of
-holds-empty reached h k n cs symbols cells e kept =
+    (bare reached h k) n calendars cells
+unfolding joined all_of first_of
+holds-empty reached h k n cs calendars cells e kept =
     record {
       reached = refl;
       hours = refl;
@@ -45,16 +67,19 @@ holds-empty reached h k n cs symbols cells e kept =
       calendars = refl;
       even = refl;
       symbol_count = refl;
+      byte_count = refl;
+      wrong_symbol = refl;
       tasks = refl;
       pairs = refl;
       few = omega arith;
-      kept_symbols = kept-none 0 most_symbols symbols;
+      few_bytes = omega arith;
+      kept_calendars = kept-none 0 most_packed calendars;
       kept_numbers = numbers-none h kept;
     }
 
-module _ {r : Read} {s : Scan} {n : ℕ} {symbols cells : List ℕ} (held : Holds r s n symbols cells) where
+module _ {r : Read} {s : Scan} {n : ℕ} {calendars cells : List ℕ} (held : Holds r s n calendars cells) where
   -- read with more bytes
-  pub holds_later : (m : ℕ) → n ≤ m → Holds r s m symbols cells
+  pub holds_later : (m : ℕ) → n ≤ m → Holds r s m calendars cells
   holds_later m h =
       record {
         reached = held.reached;
@@ -63,10 +88,13 @@ module _ {r : Read} {s : Scan} {n : ℕ} {symbols cells : List ℕ} (held : Hold
         calendars = held.calendars;
         even = held.even;
         symbol_count = held.symbol_count;
+        byte_count = held.byte_count;
+        wrong_symbol = held.wrong_symbol;
         tasks = held.tasks;
         pairs = held.pairs;
         few = omega (arith, held.few);
-        kept_symbols = held.kept_symbols;
+        few_bytes = held.few_bytes;
+        kept_calendars = held.kept_calendars;
         kept_numbers = held.kept_numbers;
       }
 
@@ -75,28 +103,31 @@ module _ {r : Read} {s : Scan} {n : ℕ} {symbols cells : List ℕ} (held : Hold
   reaches section p q = ap (comes section) (sym held.reached) ∙ sym p ∙ q
 
   module _ {may : Bool} {count : ℕ} {ns numbers : List ℕ} (begin : Begin ns count numbers) (p : may ≡ comes plan_section (section_number s.reached)) where
-    pub plan-broken : (cells' : List ℕ) → may ≡ false → Follows (with_record r (plan_record (get_or ns 0 0) (drop 1 ns))) None n symbols cells'
+    pub plan-broken : (cells' : List ℕ) → may ≡ false → Follows (with_record r (plan_record (get_or ns 0 0) (drop 1 ns))) None n calendars cells'
     unfolding with_record Follows
     plan-broken cells' q = none-if _ _ (reaches plan_section p q)
 
     pub plan-next : (cells' : List ℕ) → may ≡ true → 1 ≤ count → 1 ≤ length numbers → Kept capacities_at most_rooms (drop 1 ns) cells'
         → Follows (with_record r (plan_record (get_or ns 0 0) (drop 1 ns)))
-        (Some (bare section_is.Plan (get_or numbers 0 0) (count - 1))) n symbols cells'
+        (Some (bare section_is.Plan (get_or numbers 0 0) (count - 1))) n calendars cells'
     unfolding with_record Follows
     plan-next cells' q least room kept =
         rw (begin-cell begin 0 (omega arith) (omega arith)) (
           _,
           some-if _ _ (reaches plan_section p q),
-          holds-empty section_is.Plan (get_or ns 0 0) (count - 1) n (drop 1 ns) symbols cells' (omega (arith, begin.counted, length-drop 1 ns)) kept,
+          holds-empty section_is.Plan (get_or ns 0 0) (count - 1) n (drop 1 ns) calendars cells' (omega (arith, begin.counted, length-drop 1 ns)) kept,
         )
 
   module _ {may : Bool} (l : List ℕ) (p : may ≡ comes cal_section (section_number s.reached)) where
-    pub cal-broken : (symbols' : List ℕ) (m : ℕ) → may ≡ false → Follows (with_record r (cal_record l)) None m symbols' cells
+    pub cal-broken : (calendars' : List ℕ) (m : ℕ) → may ≡ false → Follows (with_record r (cal_record l)) None m calendars' cells
     unfolding with_record Follows
-    cal-broken symbols' m q = none-if _ _ (reaches cal_section p q)
+    cal-broken calendars' m q = none-if _ _ (reaches cal_section p q)
 
-    pub cal-next : (even : Bool) (symbols' : List ℕ) → may ≡ true → even ≡ (s.even and eqb (length l) s.hours)
-        → ((before : List ℕ) → s.symbols ≡ length before → Kept 0 most_symbols before symbols → Kept 0 most_symbols (before ++ l) symbols')
+    pub cal-next : (even : Bool) (bytes : ℕ) (wrong : Option ℕ) (calendars' : List ℕ) → may ≡ true → even ≡ (s.even and eqb (length l) s.hours)
+        → bytes ≡ bytes_of (length l) → bytes ≤ length l
+        → ((xs : List ℕ) → s.symbols ≡ length xs → wrong_symbol_fault s.wrong_symbol ≡ symbols_fault xs
+        → wrong_symbol_fault wrong ≡ symbols_fault (xs ++ l))
+        → ((before : List ℕ) → s.bytes ≡ length before → Kept 0 most_packed before calendars → Kept 0 most_packed (before ++ packed l) calendars')
         → Follows (with_record r (cal_record l))
         (Some (record {
           reached = section_is.Calendars;
@@ -105,11 +136,13 @@ module _ {r : Read} {s : Scan} {n : ℕ} {symbols cells : List ℕ} (held : Hold
           calendars = s.calendars + 1;
           even = even;
           symbols = s.symbols + length l;
+          bytes = s.bytes + bytes;
+          wrong_symbol = wrong;
           tasks = s.tasks;
           pairs = s.pairs;
-        })) (n + (length l + 1)) symbols' cells
+        })) (n + (length l + 1)) calendars' cells
     unfolding with_record Follows
-    cal-next even symbols' q e kept = (
+    cal-next even bytes wrong calendars' q e whole within first kept = (
       _,
       some-if _ _ (reaches cal_section p q),
       record {
@@ -120,16 +153,27 @@ module _ {r : Read} {s : Scan} {n : ℕ} {symbols cells : List ℕ} (held : Hold
         even = e ∙ ap₂ (λ a h. a and eqb (length l) h) held.even held.hours ∙ sym (all_more r.hours r.calendars l);
         symbol_count =
             omega (arith, held.symbol_count, ap length (joined-more r.calendars l), length-append (joined r.calendars) l);
+        byte_count =
+            omega (
+              arith,
+              held.byte_count,
+              whole,
+              ap length (packed-more r.calendars l),
+              length-append (all_packed r.calendars) (packed l),
+              packed-length l,
+            );
+        wrong_symbol = rw (joined-more r.calendars l) (first (joined r.calendars) held.symbol_count held.wrong_symbol);
         tasks = held.tasks;
         pairs = held.pairs;
         few = omega (arith, held.few);
-        kept_symbols = rw (joined-more r.calendars l) (kept (joined r.calendars) held.symbol_count held.kept_symbols);
+        few_bytes = omega (arith, held.few_bytes, within);
+        kept_calendars = rw (packed-more r.calendars l) (kept (all_packed r.calendars) held.byte_count held.kept_calendars);
         kept_numbers = held.kept_numbers;
       },
     )
 
   module _ {may : Bool} (ns : List ℕ) (p : may ≡ comes task_section (section_number s.reached)) where
-    pub task-broken : (cells' : List ℕ) (m : ℕ) → may ≡ false → Follows (with_record r (task_record ns)) None m symbols cells'
+    pub task-broken : (cells' : List ℕ) (m : ℕ) → may ≡ false → Follows (with_record r (task_record ns)) None m calendars cells'
     unfolding with_record Follows
     task-broken cells' m q = none-if _ _ (not_left _ _ (reaches task_section p q))
 
@@ -137,7 +181,7 @@ module _ {r : Read} {s : Scan} {n : ℕ} {symbols cells : List ℕ} (held : Hold
       numbered : {t : Bool} → as_many ≡ t → is_task_line (length r.capacities) (length ns) ≡ t
       numbered q = rw (← held.rooms, ← e) (sym f ∙ q)
 
-      pub task-not : (cells' : List ℕ) (m : ℕ) → as_many ≡ false → Follows (with_record r (task_record ns)) None m symbols cells'
+      pub task-not : (cells' : List ℕ) (m : ℕ) → as_many ≡ false → Follows (with_record r (task_record ns)) None m calendars cells'
       unfolding with_record Follows
       task-not cells' m q = none-if _ _ (not_right _ _ (numbered q))
 
@@ -152,9 +196,11 @@ module _ {r : Read} {s : Scan} {n : ℕ} {symbols cells : List ℕ} (held : Hold
             calendars = s.calendars;
             even = s.even;
             symbols = s.symbols;
+            bytes = s.bytes;
+            wrong_symbol = s.wrong_symbol;
             tasks = s.tasks + 1;
             pairs = s.pairs;
-          })) (n + 1) symbols cells'
+          })) (n + 1) calendars cells'
       unfolding with_record Follows
       task-next cells' q t kept = (
         _,
@@ -166,10 +212,13 @@ module _ {r : Read} {s : Scan} {n : ℕ} {symbols cells : List ℕ} (held : Hold
           calendars = held.calendars;
           even = held.even;
           symbol_count = held.symbol_count;
+          byte_count = held.byte_count;
+          wrong_symbol = held.wrong_symbol;
           tasks = omega (arith, held.tasks, length-append r.tasks (ns ∷ []));
           pairs = held.pairs;
           few = omega (arith, held.few);
-          kept_symbols = held.kept_symbols;
+          few_bytes = held.few_bytes;
+          kept_calendars = held.kept_calendars;
           kept_numbers =
               subst (λ (h : ℕ). KeepsNumbers h r.capacities (r.tasks ++ (ns ∷ [])) r.pairs cells') held.hours
               (kept (subst (λ (h : ℕ). KeepsNumbers h r.capacities r.tasks r.pairs cells) (sym held.hours) held.kept_numbers));
@@ -177,7 +226,7 @@ module _ {r : Read} {s : Scan} {n : ℕ} {symbols cells : List ℕ} (held : Hold
       )
 
   module _ {may : Bool} (x y : ℕ) (p : may ≡ comes after_section (section_number s.reached)) where
-    pub pair-broken : (cells' : List ℕ) (m : ℕ) → may ≡ false → Follows (with_record r (after_record x y)) None m symbols cells'
+    pub pair-broken : (cells' : List ℕ) (m : ℕ) → may ≡ false → Follows (with_record r (after_record x y)) None m calendars cells'
     unfolding with_record Follows
     pair-broken cells' m q = none-if _ _ (reaches after_section p q)
 
@@ -191,9 +240,11 @@ module _ {r : Read} {s : Scan} {n : ℕ} {symbols cells : List ℕ} (held : Hold
           calendars = s.calendars;
           even = s.even;
           symbols = s.symbols;
+          bytes = s.bytes;
+          wrong_symbol = s.wrong_symbol;
           tasks = s.tasks;
           pairs = s.pairs + 1;
-        })) (n + 1) symbols cells'
+        })) (n + 1) calendars cells'
     unfolding with_record Follows
     pair-next cells' q kept = (
       _,
@@ -205,10 +256,13 @@ module _ {r : Read} {s : Scan} {n : ℕ} {symbols cells : List ℕ} (held : Hold
         calendars = held.calendars;
         even = held.even;
         symbol_count = held.symbol_count;
+        byte_count = held.byte_count;
+        wrong_symbol = held.wrong_symbol;
         tasks = held.tasks;
         pairs = omega (arith, held.pairs, length-append r.pairs (x ∷ y ∷ []));
         few = omega (arith, held.few);
-        kept_symbols = held.kept_symbols;
+        few_bytes = held.few_bytes;
+        kept_calendars = held.kept_calendars;
         kept_numbers = kept held.kept_numbers;
       },
     )
@@ -225,15 +279,15 @@ module _ (r : Read) (line : List ℕ) where
   line-is found e = rw e
 
 -- what follows, said of an equal outcome and more bytes
-pub follows : {o o' : Option Read} (x : Option Scan) (n m : ℕ) (symbols cells : List ℕ) → o ≡ o' → n ≤ m → Follows o' x n symbols cells
-    → Follows o x m symbols cells
+pub follows : {o o' : Option Read} (x : Option Scan) (n m : ℕ) (calendars cells : List ℕ) → o ≡ o' → n ≤ m → Follows o' x n calendars cells
+    → Follows o x m calendars cells
 unfolding Follows
-follows None n m symbols cells e h f = e ∙ f
-follows (Some s) n m symbols cells e h (r, q, held) = (r, e ∙ q, holds_later held m h)
+follows None n m calendars cells e h f = e ∙ f
+follows (Some s) n m calendars cells e h (r, q, held) = (r, e ∙ q, holds_later held m h)
 
 -- ---- the plan that is held in the end
 
-module _ {r : Read} {s : Scan} {n : ℕ} {symbols cells : List ℕ} (held : Holds r s n symbols cells) where
+module _ {r : Read} {s : Scan} {n : ℕ} {calendars cells : List ℕ} (held : Holds r s n calendars cells) where
   count-tasks : (k : ℕ) → s.tasks ≡ length (map (λ (t : List ℕ). get_or t k 0) r.tasks)
   count-tasks k = held.tasks ∙ sym (length-map r.tasks (λ (t : List ℕ). get_or t k 0))
 
@@ -245,11 +299,10 @@ module _ {r : Read} {s : Scan} {n : ℕ} {symbols cells : List ℕ} (held : Hold
   unfolding plan_in
   pair-count = omega (arith, held.pairs)
 
-  pub symbols-held : s.symbols ≤ most_symbols → section 0 s.symbols symbols ≡ (plan_in r).shifts.calendars
-  unfolding plan_in
-  symbols-held l = kept-section 0 most_symbols s.symbols (joined r.calendars) symbols held.symbol_count l held.kept_symbols
+  pub calendars-held : s.bytes ≤ most_packed → section 0 s.bytes calendars ≡ all_packed r.calendars
+  calendars-held l = kept-section 0 most_packed s.bytes (all_packed r.calendars) calendars held.byte_count l held.kept_calendars
 
-  module _ (l : s.symbols ≤ most_symbols) (t : s.tasks ≤ most_tasks) (p : s.pairs ≤ most_pairs) (m : s.rooms ≤ most_rooms) where
+  module _ (l : s.bytes ≤ most_packed) (t : s.tasks ≤ most_tasks) (p : s.pairs ≤ most_pairs) (m : s.rooms ≤ most_rooms) where
     kept : Keeps r.capacities (map (λ t. get_or t 0 0) r.tasks) (map (λ t. get_or t 1 0) r.tasks) (λ room. map (λ t. get_or t (room + 2) 0) r.tasks)
         (joined (map (box_of r.hours (length r.capacities)) r.tasks)) r.pairs cells
     kept = held.kept_numbers (omega (arith, held.rooms))
@@ -262,12 +315,12 @@ module _ {r : Read} {s : Scan} {n : ℕ} {symbols cells : List ℕ} (held : Hold
         (list-eq _ _ (length r.capacities) (λ room h.
         kept-section (room_at room) most_tasks s.tasks _ cells (count-tasks (room + 2)) t (kept.heights room h))))
 
-    pub plan-held : stored_plan s.hours s.rooms s.tasks s.pairs (section 0 s.symbols symbols) cells ≡ plan_in r
+    pub plan-held : stored_plan s.hours s.rooms s.tasks s.pairs (section 0 s.bytes calendars) cells ≡ packed_read r
     unfolding plan_in
     plan-held =
-        λ k. plan (held.hours k)
+        λ k. packed_plan (held.hours k)
         (kept-section capacities_at most_rooms s.rooms _ cells held.rooms m kept.capacities k)
-        (symbols-held l k)
+        (calendars-held l k)
         (kept-section calendars_at most_tasks s.tasks _ cells (count-tasks 0) t kept.calendars k)
         (kept-section work_times_at most_tasks s.tasks _ cells (count-tasks 1) t kept.work_times k)
         (heights-held k)

@@ -1,6 +1,9 @@
 pub mod Sections
 pub mod Numbering
 pub mod Storing
+pub mod PackedBytes
 pub mod Following
 pub mod Lining
 pub mod Reaching
+pub mod Piecewise
+pub mod Taking

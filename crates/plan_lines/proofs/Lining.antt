@@ -1,95 +1,85 @@
--- Laws of a text's lines, as a loop over them reads them. Assumes nothing.
+-- Laws of a text that is read piece by piece. Assumes nothing.
 use Rattle.std.specs.Prelude.{if◌then◌else◌}
 use mathlib.Core.Path.{◌≡◌, refl, ◌∙◌}
-use mathlib.Core.Bool.{Bool}
+use mathlib.Core.Bool.{Bool, true, false}
 use Rattle.std.specs.Prelude.{None, Some}
-use mathlib.Core.List.{List, [], ◌∷◌}
-use Prim.Native.Nat.{ℕ, min, ◌+◌, ◌-◌, ◌≤◌, ◌<◌}
-use native.Mathlib.Numerals.{add-one}
-use native.Mathlib.Decide.{dec_le}
+use mathlib.Core.List.{List, [], ◌∷◌, ◌++◌}
+use Prim.Native.Nat.{ℕ, suc, ◌+◌, ◌≤◌}
 use native.Mathlib.Omega.{arith}
-use lib.Dec.{leb, eqb}
-use lib.ListN.{length, take, drop, length-drop}
-use lib.Seq.{take_all, length-take-le}
+use lib.Dec.{leb, eqb, ltb}
+use lib.ListN.{length, take, drop}
+use native.Mathlib.Nat.{zero-add}
+use lib.Seq.{length-take-le}
+use borrow.Author.Tests.{lt-leb, ltb-true, ltb-false, ne_eqb}
 use Rattle.units.specs.Choice.{◌and◌, on_option}
-use Rattle.units.specs.Limits.{most_rooms}
+use Rattle.units.proofs.Choices.{if-false, not_left, not_right}
 use Rattle.plan.specs.Refusals.{fault, refused, answered}
 use Rattle.text.specs.Fields.{lf, parts, first_at}
-use Rattle.text.proofs.Parts.{parts_more, parts_last, parts_first}
-use Rattle.plan_lines.specs.declared.Scan.{Scan}
-use Rattle.plan_lines.specs.declared.Section.TheVariants as section_is
-use Rattle.plan_format.specs.Text.{Read, most_bytes, plan_section, nothing, with_line, read_lines, read_text}
-use Rattle.plan_lines.specs.Inner.Scanning.{section_number, capacities_at, Holds, Follows}
-use Rattle.plan_lines.proofs.Sections.{kept-none}
-use Rattle.plan_lines.proofs.Following.{bare, holds-empty, holds_later}
+use Rattle.text.proofs.Parts.{first-within, parts_last, parts_first, parts_more}
+use Rattle.text.proofs.Parting.{parts_next, without-rest}
+use Rattle.plan_format.specs.Text.{Read, plan_section, with_line}
+use Rattle.plan_format.specs.Text.{most_line, is_line, with_line_at, read_lines}
 
--- how far a text has been read: what was read before the rest of it, and that the rest decides
-pub record Reached (text : List ℕ) (whole : Bool) (rest : List ℕ) (line : ℕ) (s : Scan) (symbols cells : List ℕ) : Type 0 where
-  pub inside : length rest ≤ length text
-  pub lines : line + length rest ≤ length text + 1
-  pub so_far : Read
-  pub held : Holds so_far s (length text - length rest) symbols cells
-  pub decides : read_lines whole 1 nothing (parts lf text) ≡ read_lines whole line so_far (parts lf rest)
-
-pub reached-none : (text : List ℕ) (whole : Bool) (symbols cells : List ℕ)
-    → Reached text whole text 1 (bare section_is.Start 0 0) symbols cells
-reached-none text whole symbols cells =
-    record {
-      inside = omega arith;
-      lines = omega arith;
-      so_far = nothing;
-      held = holds-empty section_is.Start 0 0 (length text - length text) [] symbols cells refl (kept-none capacities_at most_rooms cells);
-      decides = refl;
-    }
-
-module _ {text rest : List ℕ} {whole : Bool} {line : ℕ} {s : Scan} {symbols cells : List ℕ} (at : Reached text whole rest line s symbols cells) where
-  -- what follows the last LF
-  pub last_line : first_at lf rest ≡ length rest
-      → read_lines whole 1 nothing (parts lf text)
-      ≡ (if whole and leb plan_section (section_number s.reached) and eqb (length rest) 0 then answered at.so_far else refused (fault 1 line))
+-- line k up to its LF, and what follows
+module _ (k : ℕ) (r : Read) (line after : List ℕ) (no-lf : first_at lf line ≡ length line) where
+  pub line-next : read_lines k r (parts lf (line ++ (lf ∷ after)))
+      ≡ on_option (with_line_at k r line) (refused (fault 1 k)) (λ more. read_lines (k + 1) more (parts lf after))
   unfolding read_lines
-  last_line h = at.decides ∙ rw (parts_last lf rest h, at.held.reached)
+  line-next =
+      let (ps, q) = parts_first lf after in
+      rw (parts_next lf line after no-lf, q) refl
 
-  -- a turn of the loop: a line up to its LF
-  module _ (e : ℕ) (p : (e ≡ first_at lf rest) × (e < length rest)) where
-    one_line : read_lines whole 1 nothing (parts lf text)
-        ≡ on_option (with_line at.so_far (take e rest)) (refused (fault 1 line)) (λ more. read_lines whole (line + 1) more (parts lf (drop (e + 1) rest)))
-    unfolding read_lines
-    one_line =
-        let (ps, q) = parts_first lf (drop (e + 1) rest) in
-        let more : parts lf rest ≡ take e rest ∷ parts lf (drop (e + 1) rest) = rw (add-one, p.0) (parts_more lf rest (omega arith)) in
-        at.decides ∙ rw (more, q)
+  pub line-read : (more : Read) → is_line k (length line) ≡ true → with_line r line ≡ Some more
+      → read_lines k r (parts lf (line ++ (lf ∷ after))) ≡ read_lines (k + 1) more (parts lf after)
+  unfolding on_option with_line_at
+  line-read more is e = line-next ∙ rw (is, e) refl
 
-    pub line-broken : with_line at.so_far (take e rest) ≡ None → read_lines whole 1 nothing (parts lf text) ≡ refused (fault 1 line)
-    unfolding on_option
-    line-broken k = one_line ∙ rw k
+  pub line-broken : is_line k (length line) ≡ true → with_line r line ≡ None → read_lines k r (parts lf (line ++ (lf ∷ after))) ≡ refused (fault 1 k)
+  unfolding on_option with_line_at
+  line-broken is e = line-next ∙ rw (is, e) refl
 
-    pub line_read : (more : Scan) (symbols' cells' : List ℕ)
-        → Follows (with_line at.so_far (take e rest)) (Some more) (length text - length rest + (length (take e rest) + 1)) symbols' cells'
-        → Reached text whole (drop (e + 1) rest) (line + 1) more symbols' cells'
-    unfolding Follows on_option
-    line_read more symbols' cells' (r, g, held) =
-        let size : length (take e rest) ≡ e = length-take-le e rest (omega arith) in
-        let left : length (drop (e + 1) rest) ≡ length rest - (e + 1) = length-drop (e + 1) rest in
-        record {
-          inside = omega (arith, at.inside);
-          lines = omega (arith, at.lines);
-          so_far = r;
-          held = holds_later held _ (omega (arith, at.inside));
-          decides = one_line ∙ rw g;
-        }
+  pub line-no : is_line k (length line) ≡ false → read_lines k r (parts lf (line ++ (lf ∷ after))) ≡ refused (fault 1 k)
+  unfolding on_option with_line_at
+  line-no is = line-next ∙ rw is refl
 
--- ---- the whole text, or as much of it as is looked at
+first-other : (b : ℕ) (bs : List ℕ) → eqb b lf ≡ false → first_at lf (b ∷ bs) ≡ suc (first_at lf bs)
+unfolding first_at
+first-other b bs ne = if-false _ _ _ ne
 
-pub text-seen : (text : List ℕ)
-    → read_text text ≡ read_lines (leb (length text) most_bytes) 1 nothing (parts lf (take (min (length text) most_bytes) text))
-unfolding read_text
-text-seen text = go (dec_le (length text) most_bytes)
-  where
-    go : Dec (length text ≤ most_bytes)
-        → read_lines (leb (length text) most_bytes) 1 nothing (parts lf (take most_bytes text))
-        ≡ read_lines (leb (length text) most_bytes) 1 nothing (parts lf (take (min (length text) most_bytes) text))
-    go (yes h) =
-        let n : min (length text) most_bytes ≡ length text = omega arith in
-        rw (n, take_all most_bytes text h, take_all (length text) text (omega arith))
-    go (no h) = let n : min (length text) most_bytes ≡ most_bytes = omega arith in rw n
+-- where the first separator stands in a text that begins without one
+first-append : (line after : List ℕ) → first_at lf line ≡ length line → first_at lf (line ++ after) ≡ length line + first_at lf after
+first-append [] after h = omega (arith, zero-add (first_at lf after))
+first-append (b ∷ bs) after h =
+    let (ne, rest) = without-rest lf b bs h in
+    first-other b (bs ++ after) ne ∙ (let e = first-append bs after rest in omega arith)
+
+module _ (k : ℕ) (r : Read) where
+  -- the end of the text
+  pub text-end : (line : List ℕ) → first_at lf line ≡ length line
+      → read_lines k r (parts lf line) ≡ (if leb plan_section r.reached and eqb (length line) 0 then answered r else refused (fault 1 k))
+  unfolding read_lines
+  text-end line no-lf = rw (parts_last lf line no-lf) refl
+
+  -- a text whose first line is too long
+  first-long : (text : List ℕ) → most_line ≤ first_at lf text → read_lines k r (parts lf text) ≡ refused (fault 1 k)
+  unfolding read_lines with_line_at is_line on_option
+  first-long text long = go (ltb (first_at lf text) (length text)) refl
+    where
+      size : first_at lf text ≤ length text
+      size = first-within lf text
+
+      go : (b : Bool) → ltb (first_at lf text) (length text) ≡ b → read_lines k r (parts lf text) ≡ refused (fault 1 k)
+      go true q =
+          let l = ltb-true _ _ q in
+          let (ps, p) = parts_first lf (drop (suc (first_at lf text)) text) in
+          let is : is_line k (length (take (first_at lf text) text)) ≡ false =
+          not_left _ _ (lt-leb (length (take (first_at lf text) text) + 1) most_line (omega (arith, long, length-take-le (first_at lf text) text size))) in
+          rw (parts_more lf text l, p) (rw is refl)
+      go false q =
+          let e : first_at lf text ≡ length text = omega (arith, ltb-false (first_at lf text) (length text) q, size) in
+          text-end text e ∙ if-false _ _ _ (not_right _ _ (ne_eqb (length text) 0 (λ (z : length text ≡ 0). omega (arith, long, e, z))))
+
+  -- a line that is too long before its LF, whatever follows
+  pub line-long : (line after : List ℕ) → first_at lf line ≡ length line → most_line ≤ length line
+      → read_lines k r (parts lf (line ++ after)) ≡ refused (fault 1 k)
+  line-long line after no-lf long = first-long (line ++ after) (omega (arith, first-append line after no-lf, long))

@@ -7,10 +7,11 @@ use lib.ListN.{length, get_or, set, length-append, length-map}
 use Rattle.units.specs.Cells.{written_at}
 use Rattle.units.specs.Limits.{most_rooms, most_tasks, most_pairs, pair_numbers}
 use Rattle.units.proofs.Cells.{written_one, written-length}
+use Rattle.units.specs.Lists.{joined}
+use Rattle.units.proofs.Joined.{joined-more}
 use Rattle.units.proofs.Lists.{map_more}
-use Rattle.plan_format.specs.Reading.{joined, box_of, most_paired, most_bounds}
+use Rattle.plan_format.specs.Reading.{box_of, most_paired, most_bounds}
 use Rattle.plan_format.proofs.Boxes.{box-length, boxes-length}
-use Rattle.plan_format.proofs.Joined.{joined-more}
 use Rattle.plan_lines.specs.Inner.Scanning.{calendars_at, work_times_at, boxes_at, capacities_at, pairs_at, store_size, room_at}
 use Rattle.plan_lines.specs.Inner.Scanning.{Kept, Keeps, KeepsNumbers, with_heights}
 use Rattle.plan_lines.proofs.Sections.{kept-none, kept-over, heights-size, keeps-calendar, keeps-work-time, keeps-heights, keeps-box, keeps-pair}

@@ -5,13 +5,19 @@ ghost use Rattle.std.specs.Prelude.{true, List, ◌∷◌, [], ◌++◌, ◌≡�
 ghost use Rattle.units.specs.Cells.{written_at};
 ghost use Rattle.units.specs.Limits.{most_rooms, most_tasks, box_numbers, pair_numbers};
 ghost use Rattle.plan_format.specs.Records.{plan_record, cal_record, task_record, after_record};
-ghost use Rattle.plan_format.specs.Text.{Read, most_bytes, comes, is_task_line, with_record, with_line, read_text};
-ghost use Rattle.plan_format.specs.Reading.{box_of, most_symbols};
+ghost use Rattle.plan.specs.Packed.{packed};
+ghost use Rattle.plan_format.specs.Text.{Read, most_line, most_lines, comes, is_task_line, with_record, with_line};
+ghost use Rattle.plan_format.specs.Reading.{box_of, most_packed};
 ghost use Rattle.text.specs.Reading.{Begin};
-ghost use Rattle.plan_lines.specs.Inner.Scanning.{capacities_at, boxes_at, Kept, KeepsNumbers, with_heights};
-ghost use Rattle.plan_lines.specs.Inner.Scanning.{section_number, counted, Holds, Follows, Scans};
+ghost use Rattle.text.specs.Fields.{lf, first_at};
+ghost use Rattle.plan_lines.specs.Inner.Scanning.{capacities_at, boxes_at, Kept, KeepsNumbers, with_heights, wrong_symbol_fault, symbols_fault};
+ghost use Rattle.plan_lines.specs.Inner.Scanning.{section_number, counted, most_read, Holds, Follows, line_ended};
+ghost use Rattle.plan_lines.specs.Pieces.{IsReady, IsRead, Takes, Ends, SameState};
 
-use plan::Refusal;
+mod packing;
+
+use packing::{is_symbol, pack, packed_length};
+use plan::{PER_BYTE, Refusal};
 use plan_records::LineRecord;
 use text::LF;
 use text::fields::find;
@@ -29,8 +35,9 @@ pub enum Section {
 }
 
 // What has been read of a text: the section reached, H, how many rooms, how many calendars, whether each calendar line has H symbols, how many
-// symbols, how many tasks and how many pairs. That flag is a fact of all lines so far, and says of no field whether it holds. That the counts stay
-// below the text's bytes is no fact of a scan alone: the place in the text bounds what one line more may add.
+// symbols in all, how many bytes hold them, the index of the first symbol that is none, how many tasks and how many pairs. The flag is a fact of all
+// lines so far, and says of no field whether it holds. That the counts stay below the text's bytes is no fact of a scan alone: the place in the text
+// bounds what one line more may add.
 #[derive(Clone, Copy)]
 pub struct Scan {
     pub reached: Section,
@@ -39,15 +46,20 @@ pub struct Scan {
     pub calendars: usize,
     pub even: bool,
     pub symbols: usize,
+    pub bytes: usize,
+    pub wrong_symbol: Option<usize>,
     pub tasks: usize,
     pub pairs: usize,
 }
 
-// The most bytes of a text.
-pub const MOST_BYTES: usize = 32768;
+// The most bytes of a line, with its LF, and the most lines of a text.
+pub const MOST_LINE: usize = 8800;
 
-// The most symbols of a plan, calendars joined.
-pub const MOST_SYMBOLS: usize = MOST_CALENDARS * Duration::MOST as usize;
+pub const MOST_LINES: usize = 65535;
+
+// The most bytes of a plan's calendars, packed and joined.
+pub const MOST_PACKED: usize = MOST_CALENDARS
+    * ((Duration::MOST as usize + PER_BYTE - 1) / PER_BYTE);
 
 // Where each section of the store's numbers begins, after the tasks' calendars: work times, heights, boxes, capacities, pairs. Each has room for
 // the most that a plan may have, the heights for the most tasks in each of the most rooms: a text's counts are known only at its end.
@@ -64,16 +76,16 @@ pub const PAIRS: usize = CAPACITIES + MOST_ROOMS;
 // The cells of all sections.
 pub const CELLS: usize = PAIRS + Pair::NUMBERS * Pair::MOST;
 
-// The store that a text is read into: the symbols of its calendars, joined, and the sections of numbers.
+// The store that a text is read into: its calendars, each packed by the length of its own line, joined, and the sections of numbers.
 #[derive(Drop)]
 pub struct Store {
-    pub symbols: [u8; MOST_SYMBOLS],
+    pub calendars: [u8; MOST_PACKED],
     pub cells: [u16; CELLS],
 }
 
 impl Store {
     pub const EMPTY: Store = Store {
-        symbols: [0; MOST_SYMBOLS],
+        calendars: [0; MOST_PACKED],
         cells: [0; CELLS],
     };
 }
@@ -95,19 +107,39 @@ const NOTHING: Scan = Scan {
     calendars: 0,
     even: true,
     symbols: 0,
+    bytes: 0,
+    wrong_symbol: None,
     tasks: 0,
     pairs: 0,
 };
 
-// Stores a calendar's symbols after those of the calendars before it, if there is room.
-fn store_symbols(symbols: &mut [u8; MOST_SYMBOLS], at: usize, calendar: &[u8])
-    requires { (at ≤ most_bytes) × (length calendar.now ≤ most_bytes) }
-    ensures { (before : List ℕ) → at ≡ length before → Kept 0 most_symbols before symbols.old
-        → Kept 0 most_symbols (before ++ calendar.now) symbols.new }
+// Stores a calendar, packed, after those before it, if there is room.
+fn store_calendar(calendars: &mut [u8; MOST_PACKED], at: usize, calendar: &[u8])
+    requires { (at ≤ most_read) × (length calendar.now ≤ most_line) }
+    ensures { (before : List ℕ) → at ≡ length before → Kept 0 most_packed before calendars.old
+        → Kept 0 most_packed (before ++ packed calendar.now) calendars.new }
 {
-    if at + calendar.len() <= MOST_SYMBOLS {
-        put_all(symbols, at, calendar);
+    let end = at + packed_length(calendar);
+    if end <= MOST_PACKED {
+        pack(calendar, &mut calendars[at..end]);
     }
+}
+
+// The index of the first symbol that is none, once the symbols of a calendar follow so many others.
+fn first_wrong_symbol(before: Option<usize>, symbols: usize, calendar: &[u8]) -> Option<usize>
+    requires { (symbols ≤ most_read) × (length calendar.now ≤ most_line) }
+    ensures { (xs : List ℕ) → symbols ≡ length xs → wrong_symbol_fault before ≡ symbols_fault xs
+        → wrong_symbol_fault result ≡ symbols_fault (xs ++ calendar.now) }
+{
+    if before.is_some() {
+        return before;
+    }
+    for (i, symbol) in calendar.iter().enumerate() {
+        if !is_symbol(*symbol) {
+            return Some(symbols + i);
+        }
+    }
+    None
 }
 
 // Stores the capacities, which follow H among a line's numbers, if there is room.
@@ -203,8 +235,8 @@ fn with_plan(
     cells: &mut [u16; CELLS],
 ) -> Option<Scan>
     requires { 1 ≤ count }
-    ensures { (r : Read) (n : ℕ) (symbols ns : List ℕ) → Begin ns count numbers.now → Holds r scan n symbols cells.old
-        → Follows (with_record r (plan_record (get_or ns 0 0) (drop 1 ns))) result n symbols cells.new }
+    ensures { (r : Read) (n : ℕ) (calendars ns : List ℕ) → Begin ns count numbers.now → Holds r scan n calendars cells.old
+        → Follows (with_record r (plan_record (get_or ns 0 0) (drop 1 ns))) result n calendars cells.new }
 {
     if !may_come(Section::Plan, scan.reached) {
         return None;
@@ -220,20 +252,22 @@ fn with_plan(
 }
 
 // After a `cal` line.
-fn with_calendar(scan: Scan, calendar: &[u8], symbols: &mut [u8; MOST_SYMBOLS]) -> Option<Scan>
-    requires { (counted scan ≤ most_bytes) × (length calendar.now ≤ most_bytes) }
-    ensures { (r : Read) (n : ℕ) (cells : List ℕ) → Holds r scan n symbols.old cells
-        → Follows (with_record r (cal_record calendar.now)) result (n + (length calendar.now + 1)) symbols.new cells }
+fn with_calendar(scan: Scan, calendar: &[u8], calendars: &mut [u8; MOST_PACKED]) -> Option<Scan>
+    requires { (counted scan ≤ most_read) × (scan.bytes ≤ scan.symbols) × (length calendar.now ≤ most_line) }
+    ensures { (r : Read) (n : ℕ) (cells : List ℕ) → Holds r scan n calendars.old cells
+        → Follows (with_record r (cal_record calendar.now)) result (n + (length calendar.now + 1)) calendars.new cells }
 {
     if !may_come(Section::Calendars, scan.reached) {
         return None;
     }
-    store_symbols(symbols, scan.symbols, calendar);
+    store_calendar(calendars, scan.bytes, calendar);
     Some(Scan {
         reached: Section::Calendars,
         calendars: scan.calendars + 1,
         even: scan.even && calendar.len() == scan.hours as usize,
         symbols: scan.symbols + calendar.len(),
+        bytes: scan.bytes + packed_length(calendar),
+        wrong_symbol: first_wrong_symbol(scan.wrong_symbol, scan.symbols, calendar),
         ..scan
     })
 }
@@ -245,9 +279,9 @@ fn with_task(
     numbers: &[u16; MOST_NUMBERS],
     cells: &mut [u16; CELLS],
 ) -> Option<Scan>
-    requires { counted scan ≤ most_bytes }
-    ensures { (r : Read) (n : ℕ) (symbols ns : List ℕ) → Begin ns count numbers.now → Holds r scan n symbols cells.old
-        → Follows (with_record r (task_record ns)) result (n + 1) symbols cells.new }
+    requires { counted scan ≤ most_read }
+    ensures { (r : Read) (n : ℕ) (calendars ns : List ℕ) → Begin ns count numbers.now → Holds r scan n calendars cells.old
+        → Follows (with_record r (task_record ns)) result (n + 1) calendars cells.new }
 {
     if !may_come(Section::Tasks, scan.reached) || !is_task_line(scan.rooms, count) {
         return None;
@@ -262,9 +296,9 @@ fn with_task(
 
 // After an `after` line.
 fn with_pair(scan: Scan, numbers: &[u16; MOST_NUMBERS], cells: &mut [u16; CELLS]) -> Option<Scan>
-    requires { counted scan ≤ most_bytes }
-    ensures { (r : Read) (n : ℕ) (symbols ns : List ℕ) → Begin ns 2 numbers.now → Holds r scan n symbols cells.old
-        → Follows (with_record r (after_record (get_or ns 0 0) (get_or ns 1 0))) result (n + 1) symbols cells.new }
+    requires { counted scan ≤ most_read }
+    ensures { (r : Read) (n : ℕ) (calendars ns : List ℕ) → Begin ns 2 numbers.now → Holds r scan n calendars cells.old
+        → Follows (with_record r (after_record (get_or ns 0 0) (get_or ns 1 0))) result (n + 1) calendars cells.new }
 {
     if !may_come(Section::Pairs, scan.reached) {
         return None;
@@ -279,38 +313,128 @@ fn with_pair(scan: Scan, numbers: &[u16; MOST_NUMBERS], cells: &mut [u16; CELLS]
 
 // After another line.
 fn with_line(scan: Scan, line: &[u8], store: &mut Store) -> Option<Scan>
-    requires { (counted scan ≤ most_bytes) × (length line.now ≤ most_bytes) }
-    ensures { (r : Read) (n : ℕ) → Holds r scan n store.old.symbols store.old.cells
-        → Follows (with_line r line.now) result (n + (length line.now + 1)) store.new.symbols store.new.cells }
+    requires { (counted scan ≤ most_read) × (scan.bytes ≤ scan.symbols) × (length line.now ≤ most_line) }
+    ensures { (r : Read) (n : ℕ) → Holds r scan n store.old.calendars store.old.cells
+        → Follows (with_line r line.now) result (n + (length line.now + 1)) store.new.calendars store.new.cells }
 {
     let mut numbers = [0u16; MOST_NUMBERS];
     match plan_records::record_of(line, &mut numbers)? {
         LineRecord::Plan(count) => with_plan(scan, count, &numbers, &mut store.cells),
-        LineRecord::Cal(calendar) => with_calendar(scan, calendar, &mut store.symbols),
+        LineRecord::Cal(calendar) => with_calendar(scan, calendar, &mut store.calendars),
         LineRecord::Task(count) => with_task(scan, count, &numbers, &mut store.cells),
         LineRecord::After => with_pair(scan, &numbers, &mut store.cells),
     }
 }
 
-// The first line that breaks the rules, or all that a text holds: each line up to its LF, with nothing after the last. No byte past the most is
-// looked at.
-pub fn read_text(text: &[u8], store: &mut Store) -> Result<Scan, Refusal>
-    ensures { Scans (read_text text.now) result store.new.symbols store.new.cells }
-{
-    let whole = text.len() <= MOST_BYTES;
-    let seen = &text[..text.len().min(MOST_BYTES)];
-    let mut scan = NOTHING;
-    let mut line = 1;
-    let mut rest = seen;
-    // Each line from where the one before it ended: what follows the last LF is no line, and `split` would give it as one.
-    while let Some(end) = find(rest, LF) {
-        scan = with_line(scan, &rest[..end], store).ok_or(Refusal::Malformed(line))?;
-        line += 1;
-        rest = &rest[end + 1..];
+// A text that is read piece by piece: what was read of it, in its store, the number of the line that is being read, the bytes of that line so far, if
+// an earlier piece had any, and whether it or a line before it broke the rules.
+#[derive(Drop)]
+pub struct Reading {
+    pub store: Store,
+    scan: Scan,
+    line: usize,
+    held: [u8; MOST_LINE],
+    length: usize,
+    broken: bool,
+}
+
+impl Reading {
+    // A text of which nothing has been read.
+    pub fn begin() -> Reading
+        ensures { IsRead [] result }
+    {
+        Reading {
+            store: Store::EMPTY,
+            scan: NOTHING,
+            line: 1,
+            held: [0; MOST_LINE],
+            length: 0,
+            broken: false,
+        }
     }
-    if whole && Section::Plan <= scan.reached && rest.is_empty() {
-        Ok(scan)
-    } else {
-        Err(Refusal::Malformed(line))
+
+    // After the line that is being read, which breaks the rules or leads to this scan.
+    fn end_line(&mut self, read: Option<Scan>)
+        requires { self.old.line ≤ most_lines }
+        ensures { self.new ≡ line_ended self.old read }
+    {
+        match read {
+            None => {
+                self.broken = true;
+            }
+            Some(scan) => {
+                self.scan = scan;
+                self.line += 1;
+                self.length = 0;
+            }
+        }
+    }
+
+    // The end of a line, without its LF. Where the whole line lies in one piece, it is read there.
+    fn take_line(&mut self, part: &[u8])
+        requires { IsReady self.old × (first_at lf part.now ≡ length part.now) }
+        ensures { (text : List ℕ) → IsRead text self.old → IsRead (text ++ (part.now ++ (lf ∷ []))) self.new }
+    {
+        if self.broken {
+            return;
+        }
+        if MOST_LINE - self.length <= part.len() || MOST_LINES < self.line {
+            self.broken = true;
+            return;
+        }
+        if self.length == 0 {
+            let read = with_line(self.scan, part, &mut self.store);
+            self.end_line(read);
+            return;
+        }
+        let end = put_all(&mut self.held, self.length, part);
+        let read = with_line(self.scan, &self.held[..end], &mut self.store);
+        self.end_line(read);
+    }
+
+    // Bytes of a line that goes on.
+    fn hold(&mut self, part: &[u8])
+        requires { IsReady self.old × (first_at lf part.now ≡ length part.now) }
+        ensures { (text : List ℕ) → IsRead text self.old → IsRead (text ++ part.now) self.new }
+    {
+        if self.broken {
+            return;
+        }
+        if MOST_LINE - self.length <= part.len() {
+            self.broken = true;
+            return;
+        }
+        self.length = put_all(&mut self.held, self.length, part);
+    }
+
+    // More of the text. The state after two pieces is that after their bytes joined.
+    pub fn take(&mut self, bytes: &[u8])
+        requires { IsReady self.old }
+        ensures takes { Takes self.old bytes.now self.new }
+        ensures pieces { (one two : List ℕ) (between other : Reading) → bytes.now ≡ one ++ two → Takes self.old one between → Takes between two other
+            → SameState self.new other }
+    {
+        let mut rest = bytes;
+        while let Some(end) = find(rest, LF) {
+            self.take_line(&rest[..end]);
+            // No later line changes what a text that broke the rules comes to.
+            if self.broken {
+                return;
+            }
+            rest = &rest[end + 1..];
+        }
+        self.hold(rest);
+    }
+
+    // The text has ended: the first line that breaks the rules, or all that it holds.
+    pub fn finish(&self) -> Result<Scan, Refusal>
+        requires { IsReady self.now }
+        ensures { Ends self.now result }
+    {
+        if !self.broken && Section::Plan <= self.scan.reached && self.length == 0 {
+            Ok(self.scan)
+        } else {
+            Err(Refusal::Malformed(self.line))
+        }
     }
 }

@@ -6,12 +6,12 @@ use native.Mathlib.Omega.{arith}
 use lib.ListN.{length, take, drop, length-drop}
 use lib.Seq.{length-take-le, take-take, take-append-le, drop-drop, drop_at}
 use Rattle.units.specs.Limits.{most_rooms, most_tasks}
-use Rattle.units.specs.Lists.{list_to}
+use Rattle.units.specs.Lists.{list_to, joined}
 use Rattle.units.proofs.Cells.{written-length, written-front}
+use Rattle.units.proofs.Joined.{joined-more}
 use Rattle.units.proofs.Lists.{list-next}
 use Rattle.text.specs.Putting.{Put}
-use Rattle.plan_format.specs.Reading.{joined, most_heights}
-use Rattle.plan_format.proofs.Joined.{joined-more}
+use Rattle.plan_format.specs.Reading.{most_heights}
 use Rattle.plan_lines.specs.Inner.Scanning.{heights_at, store_size, room_at, section, stored_heights}
 use Rattle.plan_lines.proofs.Sections.{section-part, section-length, section-swap}
 

@@ -1,107 +1,62 @@
 -- Laws of the tests of a plan that was read, from what is stored of it. Assumes nothing.
 use mathlib.Core.Path.{◌≡◌, refl, sym, ap, ap₂, ◌∙◌}
 use mathlib.Core.Bool.{true, false}
-use Rattle.std.specs.Prelude.{Option, None, Some, Result, Ok, Err}
-use Rattle.std.specs.Option.{unwrap_or}
-use Rattle.std.specs.Result.{result_err}
-use mathlib.Core.List.{List, [], ◌∷◌}
+use Rattle.std.specs.Prelude.{None, Some}
+use mathlib.Core.List.{List, [], ◌∷◌, map}
 use Prim.Native.Nat.{ℕ, ◌*◌, ◌≤◌, ◌<◌}
-use native.Mathlib.Nat.{suc-mul, mul-le-mul}
+use native.Mathlib.Nat.{suc-mul, mul-le-mul, mul-div_cancel, mul-mod_left}
 use native.Mathlib.Omega.{arith}
 use lib.ListN.{length, length-append}
 use borrow.Author.Tests.{eqb-true, eq-eqb, le-leb, lt-leb}
-use Rattle.units.specs.Choice.{◌and◌, ◌or_else◌, first_of}
+use Rattle.units.specs.Choice.{◌or_else◌}
 use Rattle.units.specs.Limits.{most_hours, most_calendars, most_rooms, most_tasks, most_pairs, pair_numbers}
-use Rattle.units.specs.Limits.{is_plan_length, is_calendar_count, is_room_count, is_task_count, is_pair_count}
-use Rattle.units.specs.Lists.{list_to}
-use Rattle.units.proofs.Choices.{and_both, and_left, and_right, not_left, not_right, neither, else-none, else-some}
-use Rattle.units.proofs.Lists.{list_length}
-use Rattle.units.proofs.Ranges.{is_within, to-most}
-use Rattle.plan.specs.Plan.{Plan, plan, task_count, pair_count}
+use Rattle.units.specs.Limits.{is_plan_length, is_calendar_count, is_room_count, is_task_count}
+use Rattle.units.specs.Lists.{joined}
+use Rattle.units.proofs.Choices.{and_both, and_left, and_right, not_left, not_right, neither, else-none, else-some, else-case}
+use Rattle.units.proofs.Joined.{joined_length}
+use Rattle.units.proofs.Ranges.{to-most}
+use Rattle.plan.specs.Plan.{task_count, pair_count}
+use Rattle.plan.specs.Packed.{bytes_of, packed}
+use Rattle.plan.specs.Over.{unpacked, packed_plan, packed_plan_fault, IsLettered, packed_of}
 use Rattle.plan.specs.declared.Fault.{Fault}
-use Rattle.plan.specs.declared.Refusal.{Refusal}
-use Rattle.plan.specs.Refusals.{fault, fault_of, tested_fault}
-use Rattle.plan.specs.Faults.{one_for_each_task, is_whole_pairs, is_right_size, calendars_fault, capacity_fault, counts_fault, tasks_fault}
-use Rattle.plan.specs.Faults.{pairs_fault, plan_fault}
+use Rattle.plan.specs.Refusals.{fault}
+use Rattle.plan.specs.Faults.{one_for_each_task, is_whole_pairs, is_right_size, is_calendars, calendars_fault, counts_fault}
+use Rattle.plan.specs.Faults.{plan_fault}
 use Rattle.plan.proofs.Refusals.{unless-true, unless-none, unless-false, go_on, refuse}
+use Rattle.plan.proofs.Over.{unpacked-again, same-fault}
+use Rattle.plan.proofs.Packing.{packed-length}
 use Rattle.plan.proofs.Passed.{counts-passed}
 use Rattle.plan_lines.specs.declared.Scan.{Scan}
 use Rattle.plan_format.specs.Text.{Read}
-use Rattle.plan_format.specs.Reading.{joined, plan_in, boxes_in, all_of, most_symbols, line_fault, read_fault}
-use Rattle.plan_format.proofs.Joined.{all_list}
+use Rattle.plan_format.specs.Reading.{plan_in, boxes_in, all_of, most_packed, line_fault, read_fault}
+use Rattle.plan_format.proofs.Calendars.{some-hours, symbols-length, packed-read, lettered}
 use Rattle.plan_lines.specs.Inner.Scanning.{calendars_at, work_times_at, boxes_at, capacities_at, pairs_at, store_size, room_at, section}
-use Rattle.plan_lines.specs.Inner.Scanning.{stored_heights, stored_plan, stored_boxes, Holds}
+use Rattle.plan_lines.specs.Inner.Scanning.{stored_heights, stored_plan, stored_boxes, all_packed, packed_read, wrong_symbol_fault, symbols_fault, Holds}
 use Rattle.plan_lines.proofs.Sections.{section-length}
-use Rattle.plan_lines.proofs.Following.{task-count, pair-count, symbols-held, plan-held, boxes-held}
+use Rattle.plan_lines.proofs.Following.{task-count, pair-count, plan-held, boxes-held}
 
--- calendar lines of H symbols each have as many times H symbols as there are lines
-joined_length : (h : ℕ) (ls : List (List ℕ)) → all_of h ls ≡ true → length (joined ls) ≡ length ls * h
+-- calendar lines of H symbols each, packed
+packed_all : (h : ℕ) (ls : List (List ℕ)) → all_of h ls ≡ true → length (all_packed ls) ≡ length ls * bytes_of h
 unfolding joined all_of
-joined_length h [] e = omega arith
-joined_length h (l ∷ ls) e =
+packed_all h [] e = omega arith
+packed_all h (l ∷ ls) e =
     omega (
       arith,
-      length-append l (joined ls),
-      eqb-true (length l) h (and_left _ _ e),
-      joined_length h ls (and_right _ _ e),
-      suc-mul (length ls) h,
+      length-append (packed l) (joined (map packed ls)),
+      packed-length l,
+      ap bytes_of (eqb-true (length l) h (and_left _ _ e)),
+      packed_all h ls (and_right _ _ e),
+      suc-mul (length ls) (bytes_of h),
     )
 
--- tests, and what is found where they find nothing
-module _ (a x y : Option Fault) where
-  ends-alike : x ≡ y → (a or_else x) ≡ (a or_else y)
-  ends-alike e = rw e
+fewer-bytes : (h k : ℕ) → h ≤ k → bytes_of h ≤ bytes_of k
+unfolding bytes_of
+fewer-bytes h k l = omega (arith, l)
 
-  ends-later : x ≡ None → ((a or_else x) or_else y) ≡ (a or_else y)
-  ends-later e = rw e (go a)
-    where
-      go : (a : Option Fault) → ((a or_else None) or_else y) ≡ (a or_else y)
-      go (Some f) = unfold ◌or_else◌ in refl
-      go None = unfold ◌or_else◌ in refl
-
--- the refusal of tests, or else another
-pub first-refusal : (r : Result Unit Refusal) (d : Refusal) → Some (fault_of (unwrap_or (result_err r) d)) ≡ (tested_fault r or_else Some (fault_of d))
-first-refusal (Ok u) d = sym (else-none _ _ refl)
-first-refusal (Err e) d = sym (else-some _ _ _ refl)
-
--- a plan of one room and no task: its memory is of the right size, and it is refused by its calendars alone
-pub no-task-each : (one_for_each_task (0 ∷ []) [] [] [] [] and is_whole_pairs []) ≡ true
-unfolding one_for_each_task is_whole_pairs
-no-task-each = and_both _ _ (and_both _ _ refl (and_both _ _ refl refl)) refl
-
-counts-none : counts_fault 0 0 (0 ∷ []) ≡ None
-unfolding counts_fault capacity_fault first_of
-counts-none =
-    go_on _ 5 0 _ refl
-    ∙ go_on _ 19 0 _ refl
-    ∙ go_on _ 17 0 _ (is_within 1 most_rooms 1 (omega arith) (omega arith))
-    ∙ else-none _ _ refl
-    ∙ unless-true _ 10 0 refl
-
-abbrev of_symbols : ℕ → List ℕ → Option Fault
-of_symbols h cs = plan_fault (plan h (0 ∷ []) cs [] [] [] []) []
-
-by-calendars : (h : ℕ) (cs : List ℕ) (y : Option Fault) → (of_symbols h cs or_else y) ≡ (calendars_fault h cs or_else y)
-unfolding plan_fault tasks_fault pairs_fault first_of
-by-calendars h cs y = ends-later _ _ _ (else-none _ _ counts-none ∙ else-none _ _ refl)
-
--- a plan whose counts are refused is refused as that one, or else by its counts
-module _ (P : Plan) (boxes : List ℕ) where
-  by-counts : (f : Fault) → counts_fault (task_count P) (pair_count P) P.capacities ≡ Some f
-      → plan_fault P boxes ≡ (of_symbols P.shifts.hours P.shifts.calendars or_else Some f)
-  by-counts f e = unfold plan_fault in (ends-alike _ _ _ (else-some _ _ _ e)) ∙ sym (by-calendars P.shifts.hours P.shifts.calendars (Some f))
-
-  too_many : most_tasks < task_count P
-      → plan_fault P boxes ≡ (of_symbols P.shifts.hours P.shifts.calendars or_else Some (fault 5 0))
-  too_many h = by-counts _ (unfold counts_fault in (refuse _ 5 0 _ (lt-leb (task_count P) most_tasks h)))
-
-  too-many-pairs : is_task_count (task_count P) ≡ true → most_pairs < pair_count P
-      → plan_fault P boxes ≡ (of_symbols P.shifts.hours P.shifts.calendars or_else Some (fault 19 0))
-  too-many-pairs t h = by-counts _ (unfold counts_fault in (go_on _ 5 0 _ t ∙ refuse _ 19 0 _ (lt-leb (pair_count P) most_pairs h)))
-
-  no-rooms : is_task_count (task_count P) ≡ true → is_pair_count (pair_count P) ≡ true → is_room_count (length P.capacities) ≡ false
-      → plan_fault P boxes ≡ (of_symbols P.shifts.hours P.shifts.calendars or_else Some (fault 17 0))
-  no-rooms t p e = by-counts _ (unfold counts_fault in (go_on _ 5 0 _ t ∙ go_on _ 19 0 _ p ∙ refuse _ 17 0 _ e))
+-- as many calendars of so many hours as a plan may have
+pub bytes-within : (n h b : ℕ) → n ≤ most_calendars → h ≤ most_hours → b ≡ bytes_of h → n * b ≤ 35136
+unfolding bytes_of
+bytes-within n h b l m e = mul-le-mul {n₁ = n} {m₁ = b} {n₂ = most_calendars} {m₂ = 2196} l (omega (arith, m, e))
 
 -- ---- parts for as many rooms, tasks and pairs as are stored
 
@@ -110,13 +65,12 @@ module _ (rooms n : ℕ) (cells : List ℕ) (few : rooms ≤ most_rooms) (l : n 
   unfolding stored_heights
   heights-size =
       let parts : ℕ → List ℕ = λ room. section (room_at room) n cells in
-      joined_length n (list_to parts rooms) (all_list n parts rooms (λ room h. section-length (room_at room) n cells (omega arith)))
-      ∙ ap (λ (k : ℕ). k * n) (list_length parts rooms)
+      joined_length parts n rooms (λ room h. section-length (room_at room) n cells (omega arith))
 
-  pub parts-each : (hours pairs : ℕ) (symbols : List ℕ) → pairs ≤ most_pairs
-      → is_right_size (stored_plan hours rooms n pairs symbols cells) (stored_boxes n cells) ≡ true
+  pub parts-each : (hours pairs : ℕ) (calendars : List ℕ) → pairs ≤ most_pairs
+      → is_right_size (unpacked (stored_plan hours rooms n pairs calendars cells)) (stored_boxes n cells) ≡ true
   unfolding one_for_each_task is_whole_pairs
-  parts-each hours pairs symbols p =
+  parts-each hours pairs calendars p =
       let t = section-length calendars_at n cells (omega arith) in
       let b = section-length boxes_at (6 * n) cells (omega arith) in
       let two = section-length pairs_at (pair_numbers * pairs) cells (omega arith) in
@@ -126,89 +80,145 @@ module _ (rooms n : ℕ) (cells : List ℕ) (few : rooms ≤ most_rooms) (l : n 
       (eq-eqb _ _ (b ∙ ap (λ (k : ℕ). 6 * k) (sym t)))))
       (eq-eqb _ _ (omega (arith, two)))
 
-module _ {r : Read} {s : Scan} {n : ℕ} {symbols cells : List ℕ} (held : Holds r s n symbols cells) where
-  -- ---- 2 and 3, in their order
+-- ---- 2, 3 and 4
 
-  pub no-hours : is_plan_length s.hours ≡ false → Some (fault 2 0) ≡ line_fault r
+-- a text whose lines pass is tested as its symbols joined
+module _ (r : Read) (lines : line_fault r ≡ None) where
+  whole : is_calendars r.hours (joined r.calendars) ≡ true
+  unfolding is_calendars line_fault
+  whole =
+      let count = and_left _ _ (unless-none _ 3 0 (neither _ _ lines).1) in
+      rw (symbols-length r lines)
+      (rw (mul-mod_left (length r.calendars) r.hours)
+      (rw (mul-div_cancel (length r.calendars) (some-hours r lines)) (and_both _ _ refl count)))
+
+  by-symbols : calendars_fault r.hours (joined r.calendars) ≡ symbols_fault (joined r.calendars)
+  unfolding calendars_fault line_fault
+  by-symbols = go_on _ 2 0 _ (unless-none _ 2 0 (neither _ _ lines).0) ∙ go_on _ 3 0 _ whole
+
+  by-plan : read_fault true r ≡ plan_fault (plan_in r) (boxes_in r)
+  unfolding read_fault
+  by-plan = go_on true 31 0 _ refl ∙ else-none _ _ lines
+
+  -- and packed as the plan that it holds
+  pub packed-same : packed_read r ≡ packed_of (plan_in r)
+  unfolding packed_of plan_in
+  packed-same =
+      ap (λ cs. packed_plan r.hours r.capacities cs (plan_in r).shifts.task_calendars (plan_in r).shifts.work_times (plan_in r).heights r.pairs)
+      (sym (packed-read r lines))
+
+  module _ (symbols : symbols_fault (joined r.calendars) ≡ None) where
+    none : calendars_fault (plan_in r).shifts.hours (plan_in r).shifts.calendars ≡ None
+    unfolding plan_in
+    none = by-symbols ∙ symbols
+
+    letters : IsLettered (plan_in r)
+    letters = lettered r lines none
+
+    -- the tests in memory find what those of the letters find
+    tested : packed_plan_fault (packed_read r) (boxes_in r) ≡ plan_fault (plan_in r) (boxes_in r)
+    unfolding packed_plan_fault packed_of
+    tested =
+        ap (λ P. packed_plan_fault P (boxes_in r)) packed-same
+        ∙ else-none _ _ (same-fault (plan_in r) letters ∙ none)
+        ∙ ap (λ Q. plan_fault Q (boxes_in r)) (unpacked-again (plan_in r) letters)
+
+    -- refused by its counts
+    by-counts : (f : Fault) → counts_fault (task_count (plan_in r)) (pair_count (plan_in r)) (plan_in r).capacities ≡ Some f → Some f ≡ read_fault true r
+    unfolding plan_fault
+    by-counts f e = sym (by-plan ∙ else-none _ _ none ∙ else-some _ _ f e)
+
+module _ {r : Read} {s : Scan} {n : ℕ} {calendars cells : List ℕ} (held : Holds r s n calendars cells) where
+  -- ---- 2, 3 and 4, in their order
+
+  pub no-hours : is_plan_length s.hours ≡ false → Some (fault 2 0) ≡ (line_fault r or_else symbols_fault (joined r.calendars))
   unfolding line_fault
-  no-hours e = sym (refuse _ 2 0 _ (rw held.hours at e))
+  no-hours e = sym (else-some _ _ _ (refuse _ 2 0 _ (rw held.hours at e)))
 
   module _ (h : is_plan_length s.hours ≡ true) where
     three : is_plan_length r.hours ≡ true
     three = rw held.hours at h
 
-    pub no-calendars : is_calendar_count s.calendars ≡ false → Some (fault 3 0) ≡ line_fault r
+    pub no-calendars : is_calendar_count s.calendars ≡ false → Some (fault 3 0) ≡ (line_fault r or_else symbols_fault (joined r.calendars))
     unfolding line_fault
-    no-calendars e = sym (go_on _ 2 0 _ three ∙ unless-false _ 3 0 (not_left _ _ (rw held.calendars at e)))
+    no-calendars e = sym (else-some _ _ _ (go_on _ 2 0 _ three ∙ unless-false _ 3 0 (not_left _ _ (rw held.calendars at e))))
 
-    pub uneven : s.even ≡ false → Some (fault 3 0) ≡ line_fault r
+    pub uneven : s.even ≡ false → Some (fault 3 0) ≡ (line_fault r or_else symbols_fault (joined r.calendars))
     unfolding line_fault
-    uneven e = sym (go_on _ 2 0 _ three ∙ unless-false _ 3 0 (not_right _ _ (sym held.even ∙ e)))
+    uneven e = sym (else-some _ _ _ (go_on _ 2 0 _ three ∙ unless-false _ 3 0 (not_right _ _ (sym held.even ∙ e))))
 
-    pub lines-pass : is_calendar_count s.calendars ≡ true → s.even ≡ true → None ≡ line_fault r
+    -- then the first symbol that is none, if there is one
+    pub by-symbol : is_calendar_count s.calendars ≡ true → s.even ≡ true
+        → wrong_symbol_fault s.wrong_symbol ≡ (line_fault r or_else symbols_fault (joined r.calendars))
     unfolding line_fault
-    lines-pass c e = sym (go_on _ 2 0 _ three ∙ unless-true _ 3 0 (and_both _ _ (rw held.calendars at c) (sym held.even ∙ e)))
+    by-symbol c e =
+        held.wrong_symbol
+        ∙ sym (else-none _ _ (go_on _ 2 0 _ three ∙ unless-true _ 3 0 (and_both _ _ (rw held.calendars at c) (sym held.even ∙ e))))
 
-  pub lines-refuse : (f : Fault) → Some f ≡ line_fault r → Some f ≡ read_fault true r
-  unfolding read_fault
-  lines-refuse f e = sym (go_on true 31 0 _ refl ∙ else-some _ _ f (sym e))
+  pub lines-refuse : (f : Fault) → Some f ≡ (line_fault r or_else symbols_fault (joined r.calendars)) → Some f ≡ read_fault true r
+  unfolding read_fault plan_fault plan_in
+  lines-refuse f e =
+      sym (go_on true 31 0 _ refl
+      ∙ else-case _ _ _ (sym e)
+      (λ lines symbols. else-none _ _ lines ∙ else-some _ _ f (by-symbols r lines ∙ symbols))
+      (λ g some same. else-some _ _ g some ∙ same))
 
   -- ---- the plan's own tests
 
-  module _ (passed : None ≡ line_fault r) where
-    by-plan : read_fault true r ≡ plan_fault (plan_in r) (boxes_in r)
-    unfolding read_fault
-    by-plan = go_on true 31 0 _ refl ∙ else-none _ _ (sym passed)
+  module _ (passed : None ≡ (line_fault r or_else symbols_fault (joined r.calendars))) where
+    lines : line_fault r ≡ None
+    lines = (neither _ _ (sym passed)).0
 
-    pub symbols-fit : s.symbols ≤ most_symbols
+    symbols : symbols_fault (joined r.calendars) ≡ None
+    symbols = (neither _ _ (sym passed)).1
+
+    pub bytes-fit : s.bytes ≤ most_packed
     unfolding line_fault
-    symbols-fit =
-        let (two, rest) = neither _ _ (sym passed) in
-        let lines = unless-none _ 3 0 rest in
-        let most : length r.calendars * r.hours ≤ most_symbols =
-        mul-le-mul {n₁ = length r.calendars} {m₁ = r.hours} {n₂ = most_calendars} {m₂ = most_hours}
-        (to-most 1 most_calendars (length r.calendars) (and_left _ _ lines))
-        (to-most 1 most_hours r.hours (unless-none _ 2 0 two))
+    bytes-fit =
+        let (two, rest) = neither _ _ lines in
+        let three = unless-none _ 3 0 rest in
+        let most : length r.calendars * bytes_of r.hours ≤ most_packed =
+        mul-le-mul {n₁ = length r.calendars} {m₁ = bytes_of r.hours} {n₂ = most_calendars} {m₂ = bytes_of most_hours}
+        (to-most 1 most_calendars (length r.calendars) (and_left _ _ three))
+        (fewer-bytes _ _ (to-most 1 most_hours r.hours (unless-none _ 2 0 two)))
         in
-        omega (arith, held.symbol_count, joined_length r.hours r.calendars (and_right _ _ lines))
+        omega (arith, held.byte_count, packed_all r.hours r.calendars (and_right _ _ three))
+
+    pub stored-bytes : s.bytes ≤ 35136
+    unfolding bytes_of
+    stored-bytes = bytes-fit
 
     pub read-plan : s.tasks ≤ most_tasks → s.pairs ≤ most_pairs → s.rooms ≤ most_rooms
-        → plan_fault (stored_plan s.hours s.rooms s.tasks s.pairs (section 0 s.symbols symbols) cells) (stored_boxes s.tasks cells)
+        → packed_plan_fault (stored_plan s.hours s.rooms s.tasks s.pairs (section 0 s.bytes calendars) cells) (stored_boxes s.tasks cells)
         ≡ read_fault true r
-    read-plan t p m = ap₂ plan_fault (plan-held held symbols-fit t p m) (boxes-held held symbols-fit t p m) ∙ sym by-plan
+    read-plan t p m =
+        ap₂ packed_plan_fault (plan-held held bytes-fit t p m) (boxes-held held bytes-fit t p m) ∙ tested r lines symbols ∙ sym (by-plan r lines)
 
-    -- the tests of the symbols alone, and a refusal after them
-    alone : (f : Fault)
-        → plan_fault (plan_in r) (boxes_in r)
-        ≡ (of_symbols (plan_in r).shifts.hours (plan_in r).shifts.calendars or_else Some f)
-        → (of_symbols s.hours (section 0 s.symbols symbols) or_else Some f) ≡ read_fault true r
-    unfolding plan_in
-    alone f e =
-        ap₂ (λ (h : ℕ) (cs : List ℕ). of_symbols h cs or_else Some f) held.hours (symbols-held held symbols-fit) ∙ sym e ∙ sym by-plan
-
-    pub read-too-many : most_tasks < s.tasks
-        → (of_symbols s.hours (section 0 s.symbols symbols) or_else Some (fault 5 0)) ≡ read_fault true r
-    read-too-many t = alone _ (too_many (plan_in r) (boxes_in r) (omega (arith, task-count held)))
+    pub read-too-many : most_tasks < s.tasks → Some (fault 5 0) ≡ read_fault true r
+    unfolding counts_fault
+    read-too-many t = by-counts r lines symbols _ (refuse _ 5 0 _ (lt-leb (task_count (plan_in r)) most_tasks (omega (arith, task-count held))))
 
     -- once there are no more tasks than are stored
     module _ (t : s.tasks ≤ most_tasks) where
       few_tasks : is_task_count (task_count (plan_in r)) ≡ true
       few_tasks = le-leb _ most_tasks (omega (arith, task-count held))
 
-      pub read-too-many-pairs : most_pairs < s.pairs
-          → (of_symbols s.hours (section 0 s.symbols symbols) or_else Some (fault 19 0)) ≡ read_fault true r
-      read-too-many-pairs p = alone _ (too-many-pairs (plan_in r) (boxes_in r) few_tasks (omega (arith, pair-count held)))
+      pub read-too-many-pairs : most_pairs < s.pairs → Some (fault 19 0) ≡ read_fault true r
+      unfolding counts_fault
+      read-too-many-pairs p =
+          by-counts r lines symbols _
+          (go_on _ 5 0 _ few_tasks ∙ refuse _ 19 0 _ (lt-leb (pair_count (plan_in r)) most_pairs (omega (arith, pair-count held))))
 
-      pub read-no-rooms : s.pairs ≤ most_pairs → is_room_count s.rooms ≡ false
-          → (of_symbols s.hours (section 0 s.symbols symbols) or_else Some (fault 17 0)) ≡ read_fault true r
-      unfolding plan_in
+      pub read-no-rooms : s.pairs ≤ most_pairs → is_room_count s.rooms ≡ false → Some (fault 17 0) ≡ read_fault true r
+      unfolding counts_fault plan_in
       read-no-rooms p e =
           let few_pairs = le-leb (pair_count (plan_in r)) most_pairs (omega (arith, pair-count held)) in
-          alone _ (no-rooms (plan_in r) (boxes_in r) few_tasks few_pairs (rw (← held.rooms) e))
+          by-counts r lines symbols _
+          (go_on _ 5 0 _ few_tasks ∙ go_on _ 19 0 _ few_pairs ∙ refuse _ 17 0 _ (rw (← held.rooms) e))
 
   -- what a plan that passes has
   pub record ReadPassed : Type 0 where
-    pub symbols_few : s.symbols ≤ most_symbols
+    pub bytes_few : s.bytes ≤ most_packed
     pub tasks_few : s.tasks ≤ most_tasks
     pub pairs_few : s.pairs ≤ most_pairs
     pub rooms_few : s.rooms ≤ most_rooms
@@ -216,11 +226,12 @@ module _ {r : Read} {s : Scan} {n : ℕ} {symbols cells : List ℕ} (held : Hold
   pub read-passed : None ≡ read_fault true r → ReadPassed
   unfolding read_fault plan_fault plan_in
   read-passed e =
-      let after-31 = neither _ _ (sym e) in
-      let after-3 = neither _ _ after-31.1 in
-      let counts = counts-passed (neither _ _ (neither _ _ after-3.1).1).0 in
+      let (size, after-31) = neither _ _ (sym e) in
+      let (lines, own) = neither _ _ after-31 in
+      let (letters, after-4) = neither _ _ own in
+      let counts = counts-passed (neither _ _ after-4).0 in
       record {
-        symbols_few = symbols-fit (sym after-3.0);
+        bytes_few = bytes-fit (sym (else-none _ _ lines ∙ sym (by-symbols r lines) ∙ letters));
         tasks_few = omega (arith, task-count held, counts.tasks);
         pairs_few = omega (arith, pair-count held, counts.few_pairs);
         rooms_few = omega (arith, held.rooms, counts.rooms);

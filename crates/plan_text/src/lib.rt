@@ -1,27 +1,29 @@
 // Plan text: reading a plan.
 #![tactic(auto)]
 
-ghost use Rattle.std.specs.Prelude.{true, List, [], ◌∷◌, ◌≡◌, ℕ, ◌≤◌, length, IfOk, Some};
+ghost use Rattle.std.specs.Prelude.{true, List, ◌≡◌, ◌≤◌, ◌++◌, ℕ, length, IfOk};
 ghost use Rattle.units.specs.Cells.{written};
+ghost use Rattle.units.specs.Lists.{joined};
 ghost use Rattle.units.specs.Choice.{◌or_else◌};
 ghost use Rattle.units.specs.Limits.{most_rooms, most_tasks, most_pairs};
-ghost use Rattle.plan.specs.Plan.{plan};
-ghost use Rattle.plan.specs.Refusals.{fault_of, tested_fault};
-ghost use Rattle.plan.specs.Faults.{plan_fault};
-ghost use Rattle.plan.specs.Lent.{plan_in};
+ghost use Rattle.plan.specs.Refusals.{tested_fault};
+ghost use Rattle.plan.specs.Lent.{packed_in, plan_in};
 ghost use Rattle.plan.specs.Passed.{Passed};
-ghost use Rattle.plan_format.specs.Text.{Read, most_bytes};
-ghost use Rattle.plan_format.specs.Reading.{is_enough, line_fault, read_fault, end_with, read_plan};
-ghost use Rattle.plan_lines.specs.Inner.Scanning.{section, stored_heights, stored_plan, stored_boxes};
+ghost use Rattle.plan_format.specs.Text.{Read};
+ghost use Rattle.plan_format.specs.Reading.{is_enough, line_fault, read_fault, zeros, end_with, read_plan};
+ghost use Rattle.plan_format.specs.ShortTexts.{AsBefore};
+ghost use Rattle.plan_lines.specs.Inner.Scanning.{section, stored_heights, stored_plan, stored_boxes, symbols_fault, most_read};
 ghost use Rattle.plan_lines.specs.Inner.Scanning.{Holds, Stored};
+ghost use Rattle.plan_lines.specs.Pieces.{IsReady, IsRead};
 ghost use Rattle.plan_text.specs.Entry.{reading_answer};
 
 use plan::{Plan, Refusal};
-use plan_lines::{BOXES, CAPACITIES, CELLS, HEIGHTS, PAIRS, Scan, Store, WORK_TIMES};
+use plan_lines::{BOXES, CAPACITIES, CELLS, HEIGHTS, PAIRS, Reading, Scan, Store, WORK_TIMES};
 use text::put::put_all;
 use units::{Bounds, CalendarNumber, Duration, MOST_ROOMS, Pair, RoomNumber};
 
 mod memory;
+pub mod source;
 
 pub use memory::PlanMemory;
 
@@ -35,11 +37,8 @@ pub struct PlanRead {
     pub pairs: usize,
 }
 
-// The most bytes of a text, and the most symbols of a plan, calendars joined.
-pub use plan_lines::{MOST_BYTES, MOST_SYMBOLS};
-
-// Memory for a text that is to be read: one byte more, so that a text that is too long shows.
-pub const TEXT_ROOM: usize = MOST_BYTES + 1;
+// The most bytes of a plan's calendars, packed and joined.
+pub use plan_lines::MOST_PACKED;
 
 // The most heights of a plan, one a task in each room.
 pub const MOST_HEIGHTS: usize = MOST_ROOMS * Bounds::MOST;
@@ -51,9 +50,9 @@ pub const MOST_PAIRED: usize = Pair::NUMBERS * Pair::MOST;
 pub const MOST_BOUNDS: usize = Bounds::NUMBERS * Bounds::MOST;
 
 // Whether this memory is enough for the most that a plan can hold.
-// The lent slices stay parameters here, in `store_plan` and in `read_plan`, as C lends them: each would open a struct of them at once, and one that
+// The lent slices stay parameters here and in the functions that write them, as C lends them: each would open a struct of them at once, and one that
 // holds what is written would have to promise that it holds the same memory.
-#[tactic(auto, unfolding(plan_format::specs::Reading::is_enough))]
+#[tactic(auto, unfolding(plan_format::specs::Reading::is_enough, plan::specs::Packed::bytes_of))]
 fn is_enough(
     capacities: &[u16],
     calendars: &[u8],
@@ -66,7 +65,7 @@ fn is_enough(
     ensures { result ≡ is_enough capacities.now calendars.now task_calendars.now work_times.now heights.now pairs.now boxes.now }
 {
     MOST_ROOMS <= capacities.len()
-        && MOST_SYMBOLS <= calendars.len()
+        && MOST_PACKED <= calendars.len()
         && Bounds::MOST <= task_calendars.len()
         && Bounds::MOST <= work_times.len()
         && MOST_HEIGHTS <= heights.len()
@@ -74,15 +73,18 @@ fn is_enough(
         && MOST_BOUNDS <= boxes.len()
 }
 
-// 2 and 3, each calendar line by itself.
+// 2 and 3, each calendar line by itself; then 4.
 fn test_lines(scan: Scan) -> Result<(), Refusal>
-    ensures { (r : Read) (symbols cells : List ℕ) → Holds r scan most_bytes symbols cells → tested_fault result ≡ line_fault r }
+    ensures { (r : Read) (calendars cells : List ℕ) → Holds r scan most_read calendars cells
+        → tested_fault result ≡ (line_fault r or_else symbols_fault (joined r.calendars)) }
 {
     Duration::of_plan(scan.hours as usize).ok_or(Refusal::Hours)?;
-    if CalendarNumber::is_count(scan.calendars) && scan.even {
-        Ok(())
-    } else {
-        Err(Refusal::Calendars)
+    if !CalendarNumber::is_count(scan.calendars) || !scan.even {
+        return Err(Refusal::Calendars);
+    }
+    match scan.wrong_symbol {
+        None => Ok(()),
+        Some(index) => Err(Refusal::Symbol(index)),
     }
 }
 
@@ -112,7 +114,7 @@ fn stored_boxes(tasks: usize, cells: &[u16; CELLS]) -> &[u16]
     &cells[BOXES..BOXES + Bounds::NUMBERS * tasks]
 }
 
-// The plan that is stored, of as many rooms, tasks and pairs as there is room for, with its calendars' symbols.
+// The plan that is stored, of as many rooms, tasks and pairs as there is room for, with its calendars' bytes.
 fn stored_plan<'a>(
     scan: Scan,
     calendars: &'a [u8],
@@ -120,7 +122,7 @@ fn stored_plan<'a>(
     gathered: &'a mut [u16; MOST_HEIGHTS],
 ) -> Plan<'a>
     requires { (scan.rooms ≤ most_rooms) × (scan.tasks ≤ most_tasks) × (scan.pairs ≤ most_pairs) }
-    ensures { plan_in result ≡ stored_plan scan.hours scan.rooms scan.tasks scan.pairs calendars.now cells.now }
+    ensures { packed_in result ≡ stored_plan scan.hours scan.rooms scan.tasks scan.pairs calendars.now cells.now }
 {
     let heights = gather_heights(scan.rooms, scan.tasks, cells, gathered);
     Plan::new(
@@ -134,37 +136,29 @@ fn stored_plan<'a>(
     )
 }
 
-// The refusal of H or the calendars, as in a plan of one room and no task, or else this one.
-fn refusal_of_symbols(hours: u16, symbols: &[u8], other: Refusal) -> Refusal
-    ensures { Some (fault_of result) ≡ (plan_fault (plan hours (0 ∷ []) symbols.now [] [] [] []) [] or_else Some (fault_of other)) }
-{
-    let plan = Plan::new(hours, &[0], symbols, &[], &[], &[], &[]);
-    input::test_plan(&plan, &[]).err().unwrap_or(other)
-}
-
-// The plan of a whole text, if it passes the tests. Of more tasks, pairs or rooms than are stored, they ask for the symbols alone.
+// The plan of a whole text, if it passes the tests. A text may have more tasks, pairs and rooms than are stored.
 fn tested_plan<'a>(
     scan: Scan,
     store: &'a Store,
     gathered: &'a mut [u16; MOST_HEIGHTS],
 ) -> Result<Plan<'a>, Refusal>
-    requires { Stored scan store.now.symbols store.now.cells }
-    ensures tests { (r : Read) → Holds r scan most_bytes store.now.symbols store.now.cells → tested_fault result ≡ read_fault true r }
-    ensures plan { let symbols = section 0 scan.symbols store.now.symbols in
-        IfOk result (λ p. plan_in p ≡ stored_plan scan.hours scan.rooms scan.tasks scan.pairs symbols store.now.cells) }
+    requires { Stored scan store.now.calendars store.now.cells }
+    ensures tests { (r : Read) → Holds r scan most_read store.now.calendars store.now.cells → tested_fault result ≡ read_fault true r }
+    ensures plan { let calendars = section 0 scan.bytes store.now.calendars in
+        IfOk result (λ p. packed_in p ≡ stored_plan scan.hours scan.rooms scan.tasks scan.pairs calendars store.now.cells) }
     ensures passes { IfOk result (λ p. Passed (plan_in p) (stored_boxes scan.tasks store.now.cells)) }
 {
     test_lines(scan)?;
-    let calendars = &store.symbols[..scan.symbols];
     if !Bounds::is_count(scan.tasks) {
-        return Err(refusal_of_symbols(scan.hours, calendars, Refusal::Tasks));
+        return Err(Refusal::Tasks);
     }
     if !Pair::is_count(scan.pairs) {
-        return Err(refusal_of_symbols(scan.hours, calendars, Refusal::Pairs));
+        return Err(Refusal::Pairs);
     }
     if !RoomNumber::is_count(scan.rooms) {
-        return Err(refusal_of_symbols(scan.hours, calendars, Refusal::Rooms));
+        return Err(Refusal::Rooms);
     }
+    let calendars = &store.calendars[..scan.bytes];
     let plan = stored_plan(scan, calendars, &store.cells, gathered);
     input::test_plan(&plan, stored_boxes(scan.tasks, &store.cells))?;
     Ok(plan)
@@ -207,9 +201,37 @@ fn store_plan(
     put_all(boxes, 0, plan_boxes);
 }
 
-// Reads a plan text of any length. The memory lent stays as it is until the plan has passed every test.
-pub fn read_plan(
-    text: &[u8],
+// Leaves all memory lent 0.
+fn clear_memory(
+    capacities: &mut [u16],
+    calendars: &mut [u8],
+    task_calendars: &mut [u16],
+    work_times: &mut [u16],
+    heights: &mut [u16],
+    pairs: &mut [u16],
+    boxes: &mut [u16],
+)
+    ensures { (capacities.new ≡ zeros capacities.old)
+        × (calendars.new ≡ zeros calendars.old)
+        × (task_calendars.new ≡ zeros task_calendars.old)
+        × (work_times.new ≡ zeros work_times.old)
+        × (heights.new ≡ zeros heights.old)
+        × (pairs.new ≡ zeros pairs.old)
+        × (boxes.new ≡ zeros boxes.old) }
+{
+    capacities.fill(0);
+    calendars.fill(0);
+    task_calendars.fill(0);
+    work_times.fill(0);
+    heights.fill(0);
+    pairs.fill(0);
+    boxes.fill(0);
+}
+
+// Ends the reading of a text: its plan, in the memory lent, if it passes every test. Nothing is written before it is known that
+// the answer is not 31.
+pub fn finish_plan(
+    reading: &Reading,
     capacities: &mut [u16],
     calendars: &mut [u8],
     task_calendars: &mut [u16],
@@ -218,11 +240,26 @@ pub fn read_plan(
     pairs: &mut [u16],
     boxes: &mut [u16],
 ) -> Result<PlanRead, Refusal>
-    ensures { end_with (reading_answer result) capacities.new calendars.new task_calendars.new work_times.new heights.new pairs.new boxes.new
-        ≡ read_plan capacities.old calendars.old task_calendars.old work_times.old heights.old pairs.old boxes.old text.now }
+    requires { IsReady reading.now }
+    ensures { (text : List ℕ) → IsRead text reading.now
+        → end_with (reading_answer result) capacities.new calendars.new task_calendars.new work_times.new heights.new pairs.new boxes.new
+        ≡ read_plan capacities.old calendars.old task_calendars.old work_times.old heights.old pairs.old boxes.old text }
 {
-    let mut store = Store::EMPTY;
-    let scan = plan_lines::read_text(text, &mut store)?;
+    let scan = match reading.finish() {
+        Ok(scan) => scan,
+        Err(refusal) => {
+            clear_memory(
+                capacities,
+                calendars,
+                task_calendars,
+                work_times,
+                heights,
+                pairs,
+                boxes,
+            );
+            return Err(refusal);
+        }
+    };
     if !is_enough(
         capacities,
         calendars,
@@ -235,10 +272,61 @@ pub fn read_plan(
         return Err(Refusal::MemorySize);
     }
     let mut gathered = [0u16; MOST_HEIGHTS];
-    let plan = tested_plan(scan, &store, &mut gathered)?;
-    store_plan(
-        &plan,
-        stored_boxes(scan.tasks, &store.cells),
+    match tested_plan(scan, &reading.store, &mut gathered) {
+        Ok(plan) => {
+            store_plan(
+                &plan,
+                stored_boxes(scan.tasks, &reading.store.cells),
+                capacities,
+                calendars,
+                task_calendars,
+                work_times,
+                heights,
+                pairs,
+                boxes,
+            );
+            Ok(PlanRead {
+                hours: scan.hours,
+                rooms: scan.rooms,
+                calendars: scan.calendars,
+                tasks: scan.tasks,
+                pairs: scan.pairs,
+            })
+        }
+        Err(refusal) => {
+            clear_memory(
+                capacities,
+                calendars,
+                task_calendars,
+                work_times,
+                heights,
+                pairs,
+                boxes,
+            );
+            Err(refusal)
+        }
+    }
+}
+
+// Reads a plan text of any length, as one piece. A text of before is read as the same plan.
+pub fn read_plan(
+    text: &[u8],
+    capacities: &mut [u16],
+    calendars: &mut [u8],
+    task_calendars: &mut [u16],
+    work_times: &mut [u16],
+    heights: &mut [u16],
+    pairs: &mut [u16],
+    boxes: &mut [u16],
+) -> Result<PlanRead, Refusal>
+    ensures answer { end_with (reading_answer result) capacities.new calendars.new task_calendars.new work_times.new heights.new pairs.new boxes.new
+        ≡ read_plan capacities.old calendars.old task_calendars.old work_times.old heights.old pairs.old boxes.old text.now }
+    ensures before { AsBefore }
+{
+    let mut reading = Reading::begin();
+    reading.take(text);
+    finish_plan(
+        &reading,
         capacities,
         calendars,
         task_calendars,
@@ -246,12 +334,5 @@ pub fn read_plan(
         heights,
         pairs,
         boxes,
-    );
-    Ok(PlanRead {
-        hours: scan.hours,
-        rooms: scan.rooms,
-        calendars: scan.calendars,
-        tasks: scan.tasks,
-        pairs: scan.pairs,
-    })
+    )
 }

@@ -2,21 +2,20 @@
 -- Assumes nothing.
 use mathlib.Core.Path.{◌≡◌}
 use mathlib.Core.List.{List, ◌∷◌, ◌++◌}
-use Prim.Native.Nat.{ℕ, ◌+◌, ◌*◌}
+use Prim.Native.Nat.{ℕ, ◌+◌, ◌*◌, ◌≤◌}
+use native.Mathlib.Nat.{mul-le-mul}
 use native.Mathlib.Omega.{arith}
 use lib.ListN.{length}
+use Rattle.units.specs.Limits.{most_hours, most_calendars}
 use Rattle.text.specs.Words.{word_plan}
 use Rattle.text.specs.Lines.{line_of}
 use Rattle.text.specs.Putting.{Put}
 use Rattle.text.proofs.Puts.{put_both}
-use Rattle.plan.specs.Plan.{Plan, task_count, pair_count, calendar_count, calendar_at}
+use Rattle.plan.specs.Plan.{Plan, task_count, pair_count, calendar_count, first_symbol, calendar_at}
 use Rattle.plan.specs.Passed.{Passed}
-use Rattle.plan.proofs.Passed.{input-passed}
-use Rattle.plan.proofs.Refusals.{refused-on}
 use Rattle.plan_format.specs.Writing.{cal_records, text_of_plan}
 use Rattle.plan_format.proofs.Written.{numbers-count}
 use Rattle.plan_format.proofs.Growing.{text-none, text-longer, cal-length, task-line, pair-line, plan-text, plan-length, calendars-length}
-use Rattle.plan_format.proofs.Writings.{writes-refused, writes_short}
 use Rattle.plan_writing.specs.Inner.Sections.{calendars_text, tasks_text, pairs_text}
 
 module _ (P : Plan) (boxes : List ℕ) {numbers : List ℕ} (e : numbers ≡ P.shifts.hours ∷ P.capacities) where
@@ -44,9 +43,18 @@ module _ (P : Plan) (boxes : List ℕ) {numbers : List ℕ} (e : numbers ≡ P.s
       → Put pairs m l3 n l4 → Put (text_of_plan P boxes) 0 cells n l4
   put_sections p q r s = rw text_sections (put_both (omega arith) (put_both (omega arith) (put_both (omega arith) p q) r) s)
 
-  pub sections_counted : Passed P boxes
-      → length (text_of_plan P boxes) ≡ length first + (length P.shifts.calendars + 5 * calendar_count P.shifts) + length tasks + length pairs
-  sections_counted p = rw e (omega (arith, plan-length P boxes, calendars-length P boxes p))
+-- the calendars' lines: H letters each, and so few calendars that the sum is a small one
+module _ {P : Plan} {boxes : List ℕ} (p : Passed P boxes) where
+  pub calendars-bytes : length (calendars_text P.shifts (calendar_count P.shifts))
+      ≡ first_symbol P.shifts.hours (calendar_count P.shifts) + 5 * calendar_count P.shifts
+  unfolding first_symbol cal_records calendar_at
+  calendars-bytes = omega (arith, calendars-length P boxes p, p.whole)
+
+  pub letters-few : first_symbol P.shifts.hours (calendar_count P.shifts) ≤ most_calendars * most_hours
+  unfolding first_symbol
+  letters-few = mul-le-mul p.calendars p.hours
+
+pub ruleset calendars_counted = (calendars-bytes, letters-few)
 
 -- for the loops that count the lines of the tasks and of the pairs, and for a calendar's line
 pub ruleset tasks_counted = (text-none, text-longer, task-line, numbers-count)
@@ -54,6 +62,3 @@ pub ruleset tasks_counted = (text-none, text-longer, task-line, numbers-count)
 pub ruleset pairs_counted = (text-none, text-longer, pair-line)
 
 pub ruleset calendar_counted = (cal-length)
-
--- for what writing answers: refused by the tests, or for the length of the text
-pub ruleset writes = (input-passed, refused-on, writes-refused, writes_short)

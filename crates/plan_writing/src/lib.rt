@@ -1,19 +1,23 @@
 // Plan text: writing a plan.
 #![tactic(auto)]
 
-ghost use Rattle.std.specs.Prelude.{[], ◌∷◌, ◌≡◌, ℕ, ◌+◌, ◌*◌, ◌≤◌, ◌<◌, length, take};
-ghost use Rattle.units.specs.Limits.{most_calendars, most_rooms};
+ghost use Rattle.std.specs.Prelude.{[], ◌∷◌, ◌≡◌, ℕ, ◌+◌, ◌*◌, ◌≤◌, ◌<◌, length, get_or, take};
+ghost use Rattle.units.specs.Limits.{most_rooms};
 ghost use Rattle.text.specs.Lines.{ended};
 ghost use Rattle.text.specs.Putting.{Put};
 ghost use Rattle.plan.specs.Plan.{room_count, task_count, pair_count, calendar_count, pair_of};
-ghost use Rattle.plan.specs.Refusals.{answered, answer_of};
-ghost use Rattle.plan.specs.Lent.{shifts_in, plan_in};
+ghost use Rattle.plan.specs.Refusals.{answered, answer_of, tested_fault};
+ghost use Rattle.plan.specs.Lent.{plan_in, packed_in};
+ghost use Rattle.plan.specs.Faults.{is_right_size};
+ghost use Rattle.plan.specs.Over.{SameOverLetters, memory_fault};
+ghost use Rattle.plan.specs.Packed.{letter_of};
+ghost use Rattle.plan.specs.Calendars.{letters_in};
 ghost use Rattle.plan_format.specs.Records.{cal_record, record_line};
-ghost use Rattle.plan_format.specs.Writing.{text_of_plan, write_end, write_plan, ReadsBack};
+ghost use Rattle.plan_format.specs.Writing.{text_of_plan, most_text, write_end, write_plan, write_packed, ReadsBack};
 ghost use Rattle.plan_writing.specs.Inner.Sections.{calendars_text, numbers_at, tasks_text, pairs_text};
 
 use input::Tested;
-use plan::{Plan, Refusal, Shifts, bounds_at, box_cells};
+use plan::{Calendar, HourCode, Plan, Refusal, bounds_at, box_cells, first_symbol};
 use text::LF;
 use text::lengths::line_length;
 use text::put::{put_all, put_byte, put_line};
@@ -97,45 +101,75 @@ fn pairs_length(tested: &Tested) -> usize
     bytes
 }
 
-// What a calendar's line has beside its symbols: the word, a tab and LF.
+// What a calendar's line has beside its letters: the word, a tab and LF.
 const CALENDAR_FRAME: usize = 5;
 
+// How many bytes the calendars' lines have. Their letters are counted by adding H for each calendar, since nothing in memory has one cell a letter.
+#[tactic(auto, using(crate::proofs::Sections::calendars_counted))]
+fn calendars_length(tested: &Tested) -> usize
+    ensures { let S = (plan_in tested.now.plan.now).shifts in
+        (result ≡ length (calendars_text S (calendar_count S))) × (result ≤ 140624) }
+{
+    let shifts = &tested.plan.shifts;
+    let calendars = shifts.calendar_count();
+    first_symbol(calendars as u16, shifts.hours) + CALENDAR_FRAME * calendars
+}
+
 // How many bytes the plan's text has.
-#[tactic(auto, using(crate::proofs::Sections::sections_counted))]
+#[tactic(auto, using(crate::proofs::Sections::sections_length))]
 fn text_length(tested: &Tested) -> usize
     ensures { result ≡ length (text_of_plan (plan_in tested.now.plan.now) tested.now.boxes.now) }
 {
-    let plan = tested.plan;
     let mut numbers = [0; PLAN_NUMBERS];
-    let first = line_length(b"plan", plan_numbers(plan, &mut numbers));
-    let symbols = plan.shifts.calendars.len() + CALENDAR_FRAME * plan.shifts.calendar_count();
-    first + symbols + tasks_length(tested) + pairs_length(tested)
+    let first = line_length(b"plan", plan_numbers(tested.plan, &mut numbers));
+    first + calendars_length(tested) + tasks_length(tested) + pairs_length(tested)
+}
+
+// The letters of the hours' kinds, by their codes.
+const LETTERS: [u8; 3] = [b'c', b'r', b'o'];
+
+// The letter of an hour.
+#[tactic(auto, unfolding(plan::specs::Packed::letter_of))]
+fn letter(code: HourCode) -> u8
+    ensures { result ≡ letter_of code.number }
+{
+    LETTERS[code.number as usize]
+}
+
+// The letters of a calendar, one a byte.
+fn put_letters(out: &mut [u8], at: usize, calendar: &Calendar) -> usize
+    requires { at + length (letters_in calendar.now) ≤ length out.old }
+    ensures { Put (letters_in calendar.now) at out.old result out.new }
+{
+    let mut end = at;
+    // By number: an hour's code is two bits of a byte.
+    for t in 0..calendar.len() {
+        end = put_byte(out, end, letter(calendar.code_at(t)));
+    }
+    end
 }
 
 // The line of a calendar.
 #[tactic(auto, using(crate::proofs::Sections::calendar_counted))]
-fn put_calendar(out: &mut [u8], at: usize, calendar: &[u8]) -> usize
-    requires { at + length (ended (record_line (cal_record calendar.now))) ≤ length out.old }
-    ensures { Put (ended (record_line (cal_record calendar.now))) at out.old result out.new }
+fn put_calendar(out: &mut [u8], at: usize, calendar: &Calendar) -> usize
+    requires { at + length (ended (record_line (cal_record (letters_in calendar.now)))) ≤ length out.old }
+    ensures { Put (ended (record_line (cal_record (letters_in calendar.now)))) at out.old result out.new }
 {
-    let symbols = put_all(out, at, b"cal\t");
-    let end = put_all(out, symbols, calendar);
+    let letters = put_all(out, at, b"cal\t");
+    let end = put_letters(out, letters, calendar);
     put_byte(out, end, LF)
 }
 
 // The lines of the calendars.
-fn put_calendars(out: &mut [u8], at: usize, shifts: &Shifts) -> usize
-    requires { let S = shifts_in shifts.now in
-        (1 ≤ S.hours)
-        × (calendar_count S ≤ most_calendars)
-        × (at + length (calendars_text S (calendar_count S)) ≤ length out.old) }
-    ensures { let S = shifts_in shifts.now in
-        Put (calendars_text S (calendar_count S)) at out.old result out.new }
+fn put_calendars(out: &mut [u8], at: usize, tested: &Tested) -> usize
+    requires { let S = (plan_in tested.now.plan.now).shifts in at + length (calendars_text S (calendar_count S)) ≤ length out.old }
+    ensures { let S = (plan_in tested.now.plan.now).shifts in Put (calendars_text S (calendar_count S)) at out.old result out.new }
 {
+    let shifts = tested.plan.shifts;
     let mut end = at;
-    // By number, as the plan's own method finds them: chunks of the symbols would say here again how the calendars lie.
+    // By number, as the plan's own method finds them: chunks of the bytes would say here again how the calendars lie.
     for k in 0..shifts.calendar_count() {
-        end = put_calendar(out, end, shifts.calendar_at(k as u16));
+        end = put_calendar(out, end, &shifts.calendar_at(k as u16));
     }
     end
 }
@@ -178,18 +212,26 @@ fn put_text(tested: &Tested, out: &mut [u8]) -> usize
     let plan = tested.plan;
     let mut numbers = [0; PLAN_NUMBERS];
     let first = put_line(out, 0, b"plan", plan_numbers(plan, &mut numbers));
-    let middle = put_calendars(out, first, &plan.shifts);
+    let middle = put_calendars(out, first, tested);
     let last = put_tasks(out, middle, tested);
     put_pairs(out, last, tested)
 }
 
+// What a byte is, which the type says of a slice alone and not of one that lies in a plan.
+fn are_bytes(bytes: &[u8])
+    ensures { (i : ℕ) → get_or bytes.now i 0 < 256 }
+{}
+
 // Writes a plan as text, every task line with all its bounds, and answers how long the text is. The memory lent stays as it is until the plan has
-// passed every test and its text is known to fit; the bytes past the text are untouched.
-#[tactic(auto, using(crate::proofs::Sections::writes))]
+// passed every test and its text is known to fit; the bytes past the text are untouched. Of memory for the longest text, only the tests refuse.
 pub fn write_plan(plan: &Plan, boxes: &[u16], out: &mut [u8]) -> Result<usize, Refusal>
-    ensures answer { write_end (answer_of result) out.new ≡ write_plan (plan_in plan.now) boxes.now out.old }
-    ensures back { (n : ℕ) → answer_of result ≡ answered n → ReadsBack (plan_in plan.now) boxes.now (take n out.new) }
+    ensures answer { write_end (answer_of result) out.new ≡ write_packed (packed_in plan.now) boxes.now out.old }
+    ensures back { (n : ℕ) → answer_of result ≡ answered n → ReadsBack (packed_in plan.now) boxes.now (take n out.new) }
+    ensures room { most_text ≤ length out.old
+        → tested_fault result ≡ memory_fault (is_right_size (plan_in plan.now) boxes.now) (packed_in plan.now) boxes.now }
+    ensures letters { SameOverLetters (packed_in plan.now) (write_end (answer_of result) out.new) (λ Q. write_plan Q boxes.now out.old) }
 {
+    are_bytes(plan.shifts.calendars);
     let tested = input::tested_input(plan, boxes)?;
     if out.len() < text_length(&tested) {
         return Err(Refusal::OutputSize);

@@ -13,6 +13,7 @@ use Rattle.plan.proofs.HourKinds.{symbol-part}
 use Rattle.plan.specs.Boxes.{bounds_at}
 use Rattle.plan.specs.Passed.{Passed}
 use Rattle.calendar.specs.Inner.Ready.{RuleReady}
+use Rattle.schedule.proofs.Readiness.{has-calendar}
 use Rattle.propagation.specs.Inner.Fitting.{Fitting}
 
 module _ (S : Shifts) (boxes : List ℕ) (i : ℕ) (part : List ℕ) (b : Bounds)
@@ -21,7 +22,7 @@ module _ (S : Shifts) (boxes : List ℕ) (i : ℕ) (part : List ℕ) (b : Bounds
   pub core-asks : Fitting S boxes i → RuleReady part b
   unfolding calendar_of calendar_at
   core-asks f =
-      let long : length part ≡ S.hours = rw is-part (simp (length-take, length-drop) (omega (arith, f.calendar))) in
+      let long : length part ≡ S.hours = rw is-part (simp (length-take, length-drop) (omega (arith, f.calendar.calendar.within))) in
       let high : b.latest.0 < S.hours = rw is-box f.latest in
       record { shortest = rw is-box f.shortest; latest = omega arith; short = omega (arith, f.short); symbols = λ t l. symbol t (omega arith) f }
     where
@@ -29,7 +30,9 @@ module _ (S : Shifts) (boxes : List ℕ) (i : ℕ) (part : List ℕ) (b : Bounds
       first = first_symbol S.hours (get_or S.task_calendars i 0)
 
       symbol : (t : ℕ) → t < S.hours → Fitting S boxes i → is_symbol part t ≡ true
-      symbol t l f = rw is-part (symbol-part S.calendars first S.hours t l ∙ f.symbols (first + t) (omega (arith, f.calendar)))
+      symbol t l f =
+          let at = f.calendar.calendar in
+          rw is-part (symbol-part S.calendars first S.hours t l ∙ at.symbols (first + t) (omega (arith, at.within)))
 
 -- what a plan that passes the tests gives
 pub fitting : (P : Plan) (boxes : List ℕ) → Passed P boxes → (i : ℕ) → i < task_count P → Fitting P.shifts boxes i
@@ -37,11 +40,9 @@ fitting P boxes p i l =
     let t = p.task i l in
     record {
       short = p.hours;
-      symbols = p.symbols;
-      task = l;
+      calendar = has-calendar p l;
       work = omega (arith, p.work_times);
       box = omega (arith, p.boxes);
-      calendar = t.calendar;
       latest = t.box.latest;
       shortest = t.box.shortest;
     }

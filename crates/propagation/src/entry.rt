@@ -1,8 +1,8 @@
 // The tests that the log checker and the filter share.
 ghost use Rattle.std.specs.Prelude.{◌≡◌};
 ghost use Rattle.plan.specs.Refusals.{tested_fault};
-ghost use Rattle.plan.specs.Lent.{plan_in};
-ghost use Rattle.steps.specs.Entry.{one_for_each_step, entry_fault};
+ghost use Rattle.plan.specs.Lent.{packed_in};
+ghost use Rattle.steps.specs.Entry.{one_for_each_step, packed_entry_fault};
 
 use plan::{Plan, Refusal};
 
@@ -22,8 +22,7 @@ pub fn test_entry(
     log_tasks: &[u16],
     log_hours: &[u16],
 ) -> Result<(), Refusal>
-    ensures { let P = plan_in plan.now in
-        tested_fault result ≡ entry_fault P boxes.now log_kinds.now log_tasks.now log_hours.now }
+    ensures { tested_fault result ≡ packed_entry_fault (packed_in plan.now) boxes.now log_kinds.now log_tasks.now log_hours.now }
 {
     if !input::is_right_size(plan, boxes)
         || !has_one_for_each_step(log_kinds, log_tasks, log_hours)

@@ -2,10 +2,11 @@
 ghost use Rattle.std.specs.Prelude.{true, ◌≡◌, ℕ, ◌+◌, ◌*◌, ◌^◌, ◌≤◌, ◌<◌, length, get_or, Ok};
 ghost use Rattle.units.specs.Limits.{most_hours, most_rooms};
 ghost use Rattle.plan.specs.Plan.{room_count};
-ghost use Rattle.plan.specs.Lent.{plan_in};
+ghost use Rattle.plan.specs.Lent.{packed_in, plan_in};
 ghost use Rattle.plan.specs.Passed.{Passed};
+ghost use Rattle.plan.specs.Over.{SameOverLetters};
 ghost use Rattle.steps.specs.Filter.{run};
-ghost use Rattle.steps.specs.Entry.{steps_from, one_for_each_step, check_records, filter_end, filter_plan, filter_answer};
+ghost use Rattle.steps.specs.Entry.{steps_from, one_for_each_step, check_records_packed, filter_end, filter_plan, filter_packed, filter_answer};
 ghost use Rattle.steps.specs.Inner.From.{logged_from, filter_from};
 ghost use Rattle.steps.specs.Claim.{FilterHolds};
 
@@ -77,8 +78,14 @@ fn run_filter(
     }
 }
 
-// The most loads: one an hour in each room.
-const MOST_LOADS: usize = MOST_ROOMS * Duration::MOST as usize;
+// Loads are one an hour in each room. So few hold those of a week in six rooms, or of six weeks in one.
+const FEW_LOADS: usize = 1_008;
+
+// Those of a year in one room.
+const YEAR_LOADS: usize = Duration::MOST as usize;
+
+// The most: those of a year in all the rooms that there may be.
+const MOST_LOADS: usize = MOST_ROOMS * YEAR_LOADS;
 
 // How many loads a plan has.
 fn load_count(plan: &Plan) -> usize
@@ -88,8 +95,41 @@ fn load_count(plan: &Plan) -> usize
     plan.rooms() * plan.shifts.hours.0 as usize
 }
 
-// The filter from a count on: after so many steps taken before, on the boxes that they left. The answer counts from the run's first step. Arrays have
-// fixed sizes and are set to 0 whole, so the loads get one of two: a short plan, or one of few rooms, needs little.
+// The run with memory for so many loads, of which the plan has the first. An array is set to 0 whole, and a function pays at entry for its arrays: one
+// function for each size, so that a small plan does not pay for a large one.
+#[inline(never)]
+fn run_with<const LOADS: usize>(
+    plan: &Plan,
+    boxes: &mut [u16],
+    log_kinds: &mut [u8],
+    log_tasks: &mut [u16],
+    log_hours: &mut [u16],
+    taken: usize,
+    count: usize,
+) -> Filtered
+    requires passed { Passed (plan_in plan.now) boxes.old
+        × (one_for_each_step log_kinds.old log_tasks.old log_hours.old ≡ true) }
+    requires count_fits { taken + length log_kinds.old < 2 ^ 64 }
+    requires size { LOADS ≤ most_rooms * most_hours }
+    requires loads { let P = plan_in plan.now in (count ≡ room_count P * P.shifts.hours) × (count ≤ LOADS) }
+    ensures { let P = plan_in plan.now in
+        let run = run P boxes.old (length log_kinds.old) in
+        filter_end (filter_answer (Ok result)) boxes.new log_kinds.new log_tasks.new log_hours.new
+        ≡ logged_from taken run log_kinds.old log_tasks.old log_hours.old }
+{
+    let mut loads = [0u16; LOADS];
+    run_filter(
+        plan,
+        boxes,
+        log_kinds,
+        log_tasks,
+        log_hours,
+        taken,
+        &mut loads[..count],
+    )
+}
+
+// The filter from a count on: after so many steps taken before, on the boxes that they left. The answer counts from the run's first step.
 pub fn filter_from(
     plan: &Plan,
     boxes: &mut [u16],
@@ -99,34 +139,19 @@ pub fn filter_from(
     taken: usize,
 ) -> Result<Filtered, Refusal>
     requires { taken + length log_kinds.old < 2 ^ 64 }
-    ensures { let P = plan_in plan.now in
-        filter_end (filter_answer result) boxes.new log_kinds.new log_tasks.new log_hours.new
-        ≡ filter_from P boxes.old log_kinds.old log_tasks.old log_hours.old taken }
+    ensures { filter_end (filter_answer result) boxes.new log_kinds.new log_tasks.new log_hours.new
+        ≡ filter_from (packed_in plan.now) boxes.old log_kinds.old log_tasks.old log_hours.old taken }
 {
     entry::test_entry(plan, boxes, log_kinds, log_tasks, log_hours)?;
     let count = load_count(plan);
-    if count <= Duration::MOST as usize {
-        let mut loads = [0u16; Duration::MOST as usize];
-        return Ok(run_filter(
-            plan,
-            boxes,
-            log_kinds,
-            log_tasks,
-            log_hours,
-            taken,
-            &mut loads[..count],
-        ));
-    }
-    let mut loads = [0u16; MOST_LOADS];
-    Ok(run_filter(
-        plan,
-        boxes,
-        log_kinds,
-        log_tasks,
-        log_hours,
-        taken,
-        &mut loads[..count],
-    ))
+    let filtered = if count <= FEW_LOADS {
+        run_with::<FEW_LOADS>(plan, boxes, log_kinds, log_tasks, log_hours, taken, count)
+    } else if count <= YEAR_LOADS {
+        run_with::<YEAR_LOADS>(plan, boxes, log_kinds, log_tasks, log_hours, taken, count)
+    } else {
+        run_with::<MOST_LOADS>(plan, boxes, log_kinds, log_tasks, log_hours, taken, count)
+    };
+    Ok(filtered)
 }
 
 // The filter, with the log lent as its room. A refused plan changes nothing; log cells past the count are untouched.
@@ -137,12 +162,13 @@ pub fn filter(
     log_tasks: &mut [u16],
     log_hours: &mut [u16],
 ) -> Result<Filtered, Refusal>
-    ensures answer { let P = plan_in plan.now in
-        filter_end (filter_answer result) boxes.new log_kinds.new log_tasks.new log_hours.new
-        ≡ filter_plan P boxes.old log_kinds.old log_tasks.old log_hours.old }
-    ensures holds { let P = plan_in plan.now in
+    ensures answer { filter_end (filter_answer result) boxes.new log_kinds.new log_tasks.new log_hours.new
+        ≡ filter_packed (packed_in plan.now) boxes.old log_kinds.old log_tasks.old log_hours.old }
+    ensures holds { let check = check_records_packed (packed_in plan.now) boxes.old in
         let steps = steps_from log_kinds.new log_tasks.new log_hours.new 0 in
-        FilterHolds P boxes.old (check_records P boxes.old) (length log_kinds.old) (filter_answer result) boxes.new steps }
+        FilterHolds (plan_in plan.now) boxes.old check (length log_kinds.old) (filter_answer result) boxes.new steps }
+    ensures letters { let left = filter_end (filter_answer result) boxes.new log_kinds.new log_tasks.new log_hours.new in
+        SameOverLetters (packed_in plan.now) left (λ Q. filter_plan Q boxes.old log_kinds.old log_tasks.old log_hours.old) }
 {
     filter_from(plan, boxes, log_kinds, log_tasks, log_hours, 0)
 }

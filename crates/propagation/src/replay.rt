@@ -1,10 +1,11 @@
 // The log checker: a log from anyone, step by step, each at its turn.
 ghost use Rattle.std.specs.Prelude.{true, ◌≡◌, ◌+◌, ◌^◌, ◌<◌, length};
-ghost use Rattle.plan.specs.Lent.{plan_in};
+ghost use Rattle.plan.specs.Lent.{packed_in, plan_in};
 ghost use Rattle.plan.specs.Refusals.{answer_of};
 ghost use Rattle.plan.specs.Passed.{Passed};
+ghost use Rattle.plan.specs.Over.{SameOverLetters};
 ghost use Rattle.steps.specs.Log.{replay_from};
-ghost use Rattle.steps.specs.Entry.{steps_in, one_for_each_step, entry_fault, check_log, check_answer};
+ghost use Rattle.steps.specs.Entry.{steps_in, one_for_each_step, packed_entry_fault, check_log, check_log_packed, check_answer};
 ghost use Rattle.steps.specs.Inner.From.{check_from};
 ghost use Rattle.steps.specs.Claim.{CheckedHolds};
 
@@ -80,8 +81,7 @@ pub fn check_from(
     after: Accepted,
 ) -> Result<Accepted, Refusal>
     requires { after.steps + length log_kinds.now < 2 ^ 64 }
-    ensures { let P = plan_in plan.now in
-        let e = check_from P boxes.old log_kinds.now log_tasks.now log_hours.now after.steps after.impossible in
+    ensures { let e = check_from (packed_in plan.now) boxes.old log_kinds.now log_tasks.now log_hours.now after.steps after.impossible in
         (answer_of result ≡ check_answer e) × (boxes.new ≡ e.boxes) }
 {
     entry::test_entry(plan, boxes, log_kinds, log_tasks, log_hours)?;
@@ -102,13 +102,14 @@ pub fn check_log(
     log_tasks: &[u16],
     log_hours: &[u16],
 ) -> Result<Accepted, Refusal>
-    ensures answer { let P = plan_in plan.now in
-        let e = check_log P boxes.old log_kinds.now log_tasks.now log_hours.now in
+    ensures answer { let e = check_log_packed (packed_in plan.now) boxes.old log_kinds.now log_tasks.now log_hours.now in
         (answer_of result ≡ check_answer e) × (boxes.new ≡ e.boxes) }
-    ensures holds { let P = plan_in plan.now in
-        let refusal = entry_fault P boxes.old log_kinds.now log_tasks.now log_hours.now in
+    ensures holds { let refusal = packed_entry_fault (packed_in plan.now) boxes.old log_kinds.now log_tasks.now log_hours.now in
         let steps = steps_in log_kinds.now log_tasks.now log_hours.now in
-        CheckedHolds P boxes.old refusal steps (answer_of result) boxes.new }
+        CheckedHolds (plan_in plan.now) boxes.old refusal steps (answer_of result) boxes.new }
+    ensures letters { let P = packed_in plan.now in
+        SameOverLetters P (answer_of result) (λ Q. check_answer (check_log Q boxes.old log_kinds.now log_tasks.now log_hours.now))
+        × SameOverLetters P boxes.new (λ Q. (check_log Q boxes.old log_kinds.now log_tasks.now log_hours.now).boxes) }
 {
     check_from(plan, boxes, log_kinds, log_tasks, log_hours, NO_STEPS)
 }

@@ -6,7 +6,8 @@ use Prim.Native.Nat.{ℕ, ◌≤◌, ◌<◌}
 use lib.ListN.{length, get_or}
 use Rattle.units.specs.Limits.{most_hours, most_height}
 use Rattle.plan.specs.Plan.{Plan, room_count, task_count, heights_of, height_of}
-use Rattle.plan.specs.Faults.{Passes}
+use Rattle.plan.specs.Over.{PackedPlan, PackedPasses}
+use Rattle.plan.specs.Lent.{HasCalendar}
 use Rattle.plan.specs.Passed.{Passed}
 use Rattle.plan.proofs.Passed.{room-heights}
 use Rattle.calendar.specs.Triples.{end_of}
@@ -15,9 +16,14 @@ use Rattle.schedule.specs.Schedule.{triple_at, Feasible}
 use Rattle.schedule.specs.Decision.{RightSize}
 
 -- memory of the right size, and a plan that passes
-pub record InputPasses (P : Plan) (boxes schedule : List ℕ) : Type 0 where
+pub record InputPasses (P : PackedPlan) (boxes schedule : List ℕ) : Type 0 where
   pub size : RightSize P boxes schedule
-  pub passes : Passes P boxes
+  pub passes : PackedPasses P boxes
+
+-- a task's calendar, as the code reads it
+pub has-calendar : {P : Plan} {boxes : List ℕ} → Passed P boxes → {i : ℕ} → i < task_count P → HasCalendar P.shifts i
+has-calendar p l =
+    record { task = l; calendar = record { some_hours = p.some_hours; within = (p.task _ l).calendar; symbols = p.symbols } }
 
 -- the heights in a room, as the code reads them: one a task, and so small that their sum fits
 module _ {P : Plan} {boxes : List ℕ} (p : Passed P boxes) {room : ℕ} (l : room < room_count P) where

@@ -1,4 +1,5 @@
--- The schedule checker as an entry point (01, "Refused because of the input", and the order below it; rooms: 02, W-202; pairs: W-206).
+-- The schedule checker as an entry point (01, "Refused because of the input", and the order below it; rooms: 02, W-202; pairs: W-206; packed calendars:
+-- W-208).
 use Rattle.std.specs.Prelude.{Bool, List, ℕ, ◌*◌, leb, eqb, length}
 use Rattle.std.specs.Prelude.{Option, Result, Ok, Err}
 use Rattle.units.specs.Choice.{◌and◌, ◌or_else◌, first_of}
@@ -7,6 +8,7 @@ use Rattle.plan.specs.Boxes.{bounds_at}
 use Rattle.plan.specs.declared.Fault.{Fault}
 use Rattle.plan.specs.Refusals.{unless, Answer, refused, answered, fault_of, answer_unless}
 use Rattle.plan.specs.Faults.{is_right_size, plan_fault}
+use Rattle.plan.specs.Over.{PackedPlan, unpacked, over_letters}
 use Rattle.units.specs.declared.Bounds.{Bounds}
 use Rattle.calendar.specs.declared.Triple.{Triple}
 use Rattle.calendar.specs.Triples.{triple_numbers, valid_triple, in_bounds}
@@ -53,6 +55,13 @@ check_fault P boxes schedule =
 -- accepted with the makespan
 unfoldable pub check_schedule : Plan → List ℕ → List ℕ → Answer ℕ
 check_schedule P boxes schedule = answer_unless (check_fault P boxes schedule) (makespan P (triple_at schedule))
+
+-- the same of a plan in memory, whose calendars are packed (02, W-208); 31 does not apply
+abbrev pub is_right_memory : PackedPlan → List ℕ → List ℕ → Bool
+is_right_memory P boxes schedule = is_right_size (unpacked P) boxes and is_sized (task_count (unpacked P)) schedule
+
+unfoldable pub check_packed : PackedPlan → List ℕ → List ℕ → Answer ℕ
+check_packed P boxes schedule = over_letters (is_right_memory P boxes schedule) P refused (λ Q. check_schedule Q boxes schedule)
 
 -- the number and the values of each case of the answer
 abbrev pub schedule_answer : Result Hour Refusal → Answer ℕ

@@ -1,3 +1,4 @@
 pub mod Schedule
 pub mod Entry
 pub mod Decision
+pub mod Inner

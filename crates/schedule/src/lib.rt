@@ -6,11 +6,14 @@ ghost use Rattle.units.specs.Choice.{first_of};
 ghost use Rattle.units.specs.Limits.{most_hours};
 ghost use Rattle.plan.specs.Refusals.{tested_fault};
 ghost use Rattle.plan.specs.Plan.{room_count, task_count, pair_count};
-ghost use Rattle.plan.specs.Lent.{plan_in};
+ghost use Rattle.plan.specs.Calendars.{letters_in};
+ghost use Rattle.plan.specs.Lent.{packed_in, plan_in};
 ghost use Rattle.calendar.specs.Triples.{triple_numbers, end_of, in_bounds};
 ghost use Rattle.schedule.specs.Schedule.{triple_at, runs, running, Feasible, makespan};
-ghost use Rattle.schedule.specs.Entry.{one_triple_fault, triple_fault, hour_fault, order_fault, check_fault, check_schedule, schedule_answer};
+ghost use Rattle.schedule.specs.Entry.{one_triple_fault, triple_fault, hour_fault, order_fault, check_schedule, check_packed, schedule_answer};
 ghost use Rattle.schedule.specs.Decision.{Decides};
+ghost use Rattle.plan.specs.Over.{SameOverLetters};
+ghost use Rattle.schedule.specs.Inner.Memory.{packed_check_fault};
 
 use calendar::Triple;
 use input::Tested;
@@ -54,13 +57,13 @@ fn is_in_bounds(b: Bounds, t: Triple) -> bool
 
 // 14, 15 of one task.
 fn test_triple(number: usize, task: &Task, t: Triple) -> Result<(), Refusal>
-    requires { length task.now.calendar.now ≤ most_hours }
-    ensures { tested_fault result ≡ one_triple_fault task.now.calendar.now task.now.work_time.0 task.now.bounds number t }
+    requires { length (letters_in task.now.calendar) ≤ most_hours }
+    ensures { tested_fault result ≡ one_triple_fault (letters_in task.now.calendar) task.now.work_time.0 task.now.bounds number t }
 {
     if !is_in_bounds(task.bounds, t) {
         return Err(Refusal::OutsideBounds(number));
     }
-    if !calendar::is_valid(task.calendar, task.work_time, t) {
+    if !calendar::is_valid(&task.calendar, task.work_time, t) {
         return Err(Refusal::NotValid(number));
     }
     Ok(())
@@ -175,7 +178,7 @@ fn test_schedule<'a>(
     boxes: &'a [u16],
     schedule: &'a [u16],
 ) -> Result<Scheduled<'a>, Refusal>
-    ensures tests { tested_fault result ≡ check_fault (plan_in plan.now) boxes.now schedule.now }
+    ensures tests { tested_fault result ≡ packed_check_fault (packed_in plan.now) boxes.now schedule.now }
     ensures lends { IfOk result (λ s. (s.tested.plan.now ≡ plan.now) × (s.tested.boxes.now ≡ boxes.now) × (s.schedule.now ≡ schedule.now)) }
 {
     // 31 comes before all others, so that the schedule's length is asked before the plan's tests.
@@ -192,8 +195,9 @@ fn test_schedule<'a>(
 
 // The schedule checker: accepts exactly the feasible schedules of a plan that passes the tests, with the makespan.
 pub fn check_schedule(plan: &Plan, boxes: &[u16], schedule: &[u16]) -> Result<Hour, Refusal>
-    ensures answer { schedule_answer result ≡ check_schedule (plan_in plan.now) boxes.now schedule.now }
-    ensures exactly { Decides (plan_in plan.now) boxes.now schedule.now (schedule_answer result) }
+    ensures answer { schedule_answer result ≡ check_packed (packed_in plan.now) boxes.now schedule.now }
+    ensures exactly { Decides (packed_in plan.now) boxes.now schedule.now (schedule_answer result) }
+    ensures letters { SameOverLetters (packed_in plan.now) (schedule_answer result) (λ Q. check_schedule Q boxes.now schedule.now) }
 {
     Ok(test_schedule(plan, boxes, schedule)?.latest_end())
 }

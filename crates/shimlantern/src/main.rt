@@ -1,4 +1,4 @@
-// The program: reads a plan from standard input, filters it with room for 2,048 steps, and prints the listing.
+// The program: reads a plan from standard input, of any length in bounded memory, filters it with room for 2,048 steps, and prints the listing.
 #![tactic(auto)]
 
 use std::io;
@@ -12,14 +12,12 @@ fn fail(rt: &impl Eprint, what: &str, reason: io::Error) -> ExitCode {
 
 // What cannot be read or written is said on standard error, with the system's reason.
 fn main(rt: HostRuntime) -> ExitCode {
-    let mut text = [0u8; plan_text::TEXT_ROOM];
     let mut out = [0u8; listing::ROOM];
-    let n = match text::source::read_input(&mut rt.stdin(), &mut text) {
+    let n = match text_listing::list_input(&mut rt.stdin(), &mut out) {
         Ok(n) => n,
         Err(reason) => return fail(&rt, "standard input cannot be read", reason),
     };
-    let k = text_listing::list_text(&text[..n], &mut out);
-    match rt.write_all(&out[..k]) {
+    match rt.write_all(&out[..n]) {
         Ok(()) => ExitCode::SUCCESS,
         Err(reason) => fail(&rt, "standard output cannot be written", reason),
     }

@@ -21,16 +21,19 @@ use Rattle.plan.specs.Plan.{Plan}
 use Rattle.plan.specs.declared.Fault.{Fault}
 use Rattle.plan.specs.Refusals.{fault_of}
 use Rattle.plan.specs.Faults.{input_fault}
+use Rattle.plan.specs.Over.{PackedPlan, unpacked}
+use Rattle.plan.proofs.Over.{over-tested}
 use Rattle.steps.specs.declared.Step.{Step}
 use Rattle.steps.specs.declared.Filtered.{Filtered}
 use Rattle.steps.specs.Log.{LogEnd, replay}
 use Rattle.steps.specs.Filter.{next, Ending, settled, impossible, no_room, Run, count, ended, after, run}
-use Rattle.steps.specs.Entry.{steps_from, FilterAnswer, count_of, refused_by, ending_answer, FilterEnd, filter_end, ending_of, filter_answer}
+use Rattle.steps.specs.Entry.{packed_input_fault, steps_from, FilterAnswer, count_of, refused_by, ending_answer, FilterEnd, filter_end}
+use Rattle.steps.specs.Entry.{ending_of, filter_answer}
 use Rattle.steps.specs.Inner.From.{logged_from, filter_from}
 use Rattle.steps.proofs.Runs.{run_settled, run-stops, run-moves, run-all, run-replays, run_fits, resumed, run-resumes}
 use Rattle.steps.proofs.Contracts.{steps-written}
 use Rattle.step_log.specs.declared.part.PartFiltered.{PartFiltered}
-use Rattle.step_log.specs.Entry.{StepsEnd, steps_end, logged_steps, filter_steps}
+use Rattle.step_log.specs.Entry.{StepsEnd, steps_end, logged_steps, filter_steps, filter_steps_packed}
 use Rattle.step_log.specs.Inner.Size.{part_size}
 use Rattle.step_log.specs.Inner.Parts.{part_steps, does_go_on, part_run, RanAs, FilteredAs}
 use Rattle.step_log.proofs.Passing.{replay-passes}
@@ -74,11 +77,13 @@ module _ (P : Plan) where
           let e : n ≡ m + (n - m) = omega arith in
           ap (run P boxes) e ∙ run_more m (n - m) boxes (λ w. ne (omega (arith, h w)))
 
-  -- the boxes that it leaves pass the tests again
-  run-passes : (a : ℕ) (boxes : List ℕ) → input_fault P boxes ≡ None → input_fault P (run P boxes a).boxes ≡ None
-  unfolding replay
-  run-passes a boxes e =
-      ap (λ (l : LogEnd). input_fault P l.boxes) (sym (run-replays P boxes a)) ∙ replay-passes P 0 false boxes (run P boxes a).log e
+-- the boxes that a run leaves pass the tests again
+run-passes : (P : PackedPlan) (a : ℕ) (boxes : List ℕ) → packed_input_fault P boxes ≡ None
+    → packed_input_fault P (run (unpacked P) boxes a).boxes ≡ None
+unfolding replay
+run-passes P a boxes e =
+    ap (λ (l : LogEnd). packed_input_fault P l.boxes) (sym (run-replays (unpacked P) boxes a))
+    ∙ replay-passes P 0 false boxes (run (unpacked P) boxes a).log e
 
 -- ---- what the core's answer makes of a part
 
@@ -146,31 +151,31 @@ module _ (taken room end : ℕ) (ends : end ≡ taken + min part_size (room - ta
   inside = fits
 
   -- the core, lent the first cells of three arrays, after so many steps
-  module _ (P : Plan) (boxes : List ℕ) where
+  module _ (P : PackedPlan) (boxes : List ℕ) where
     abbrev core : FilterEnd
     core = filter_from P boxes (take cells blank) (take cells blank) (take cells blank) taken
 
     abbrev ran : Run
-    ran = run P boxes cells
+    ran = run (unpacked P) boxes cells
 
-    core-refused : (f : Fault) → input_fault P boxes ≡ Some f
+    core-refused : (f : Fault) → packed_input_fault P boxes ≡ Some f
         → core ≡ filter_end (refused_by f) boxes (take cells blank) (take cells blank) (take cells blank)
     unfolding filter_from on_option
     core-refused f e = rw (lent-fault P boxes blank blank blank cells inside inside inside, e)
 
-    core-runs : input_fault P boxes ≡ None → core ≡ logged_from taken ran (take cells blank) (take cells blank) (take cells blank)
+    core-runs : packed_input_fault P boxes ≡ None → core ≡ logged_from taken ran (take cells blank) (take cells blank) (take cells blank)
     unfolding filter_from on_option
     core-runs e =
         rw (lent-fault P boxes blank blank blank cells inside inside inside, e)
-        (ap (λ (n : ℕ). logged_from taken (run P boxes n) (take cells blank) (take cells blank) (take cells blank)) (sym lent_length))
+        (ap (λ (n : ℕ). logged_from taken (run (unpacked P) boxes n) (take cells blank) (take cells blank) (take cells blank)) (sym lent_length))
 
     -- a refusal of the core is of the plan, and changes nothing; it is the part's
     pub refused-as : (d : Refusal) (a : Result PartFiltered Refusal) → IsErrAnd a (λ e. e ≡ d)
         → (left ks ts hs : List ℕ) → filter_end (refused_by (fault_of d)) left ks ts hs ≡ core → FilteredAs P boxes taken room a left
     unfolding logged_from
-    refused-as d a h left ks ts hs is = let p = err_from_is_err_and a h in rw (p.1, p.2) (go (input_fault P boxes) refl)
+    refused-as d a h left ks ts hs is = let p = err_from_is_err_and a h in rw (p.1, p.2) (go (packed_input_fault P boxes) refl)
       where
-        go : (o : Option Fault) → input_fault P boxes ≡ o → (input_fault P boxes ≡ Some (fault_of d)) × (left ≡ boxes)
+        go : (o : Option Fault) → packed_input_fault P boxes ≡ o → (packed_input_fault P boxes ≡ Some (fault_of d)) × (left ≡ boxes)
         go (Some f) e =
             let c = is ∙ core-refused f e in
             let same : fault_of d ≡ f = let w = ap (λ (x : FilterEnd). x.answer) c in cc in
@@ -179,10 +184,10 @@ module _ (taken room end : ℕ) (ends : end ≡ taken + min part_size (room - ta
 
     module _ (f : Filtered) (left ks ts hs : List ℕ) (is : filter_end (filter_answer (Ok f)) left ks ts hs ≡ core) where
       -- the plan passes
-      passed-core : input_fault P boxes ≡ None
-      passed-core = go (input_fault P boxes) refl
+      passed-core : packed_input_fault P boxes ≡ None
+      passed-core = go (packed_input_fault P boxes) refl
         where
-          go : (o : Option Fault) → input_fault P boxes ≡ o → input_fault P boxes ≡ None
+          go : (o : Option Fault) → packed_input_fault P boxes ≡ o → packed_input_fault P boxes ≡ None
           go None e = e
           go (Some g) e = ends≢refused (ending_of f.ending) f.count (ap (λ (x : FilterEnd). x.answer) (is ∙ core-refused g e))
 
@@ -195,7 +200,7 @@ module _ (taken room end : ℕ) (ends : end ≡ taken + min part_size (room - ta
 
       -- the part's steps are as many as a part holds
       pub count-inside : f.count - taken ≤ part_size
-      count-inside = omega (arith, count-is, run_fits (next P) boxes cells, fits)
+      count-inside = omega (arith, count-is, run_fits (next (unpacked P)) boxes cells, fits)
 
       pub ran-as : (held : f.count - taken ≤ part_size) → FilteredAs P boxes taken room
           (Ok (record {
@@ -218,7 +223,7 @@ module _ (taken room end : ℕ) (ends : end ≡ taken + min part_size (room - ta
           let hours = hs ++ drop cells blank in (
             passed-core,
             subst
-                (λ (n : ℕ). RanAs (run P boxes n) taken
+                (λ (n : ℕ). RanAs (run (unpacked P) boxes n) taken
                 (record { steps = record { kinds = kinds; tasks = tasks; hours = hours; count = f.count - taken; counted = held }; filtered = f }) left)
                 few
                 record {
@@ -235,6 +240,13 @@ module _ (taken room end : ℕ) (ends : end ≡ taken + min part_size (room - ta
 
 -- ---- the loop over the parts
 
+-- in memory too it is the run, or at once a refusal
+pub filter-steps-is : (P : PackedPlan) (boxes : List ℕ) (log : List Step)
+    → filter_steps_packed P boxes log
+    ≡ on_option (packed_input_fault P boxes) (logged_steps (run (unpacked P) boxes (length log)) log) (λ f. steps_end (refused_by f) boxes log)
+unfolding filter_steps_packed packed_input_fault filter_steps input_fault
+filter-steps-is P boxes log = over-tested _ P boxes _ _ _ refl
+
 -- ends that agree in each part
 same_end : {a a' : FilterAnswer} {b b' : List ℕ} {l l' : List Step} → a ≡ a' → b ≡ b' → l ≡ l' → steps_end a b l ≡ steps_end a' b' l'
 same_end p q r = rw (p, q, r)
@@ -245,17 +257,17 @@ pub handed_end : {left : List ℕ} {log : List Step} (d : Refusal) (r : Result F
 handed_end d r e h p = let q = err_from_is_err_and r h in rw (q.1, q.2) p
 
 -- What holds at each turn: the steps taken stand in the log's first cells, and the run goes on from here.
-pub record Running (P : Plan) (opening : List ℕ) (cells : List Step) (taken : ℕ) (boxes : List ℕ) (log : List Step) : Type 0 where
+pub record Running (P : PackedPlan) (opening : List ℕ) (cells : List Step) (taken : ℕ) (boxes : List ℕ) (log : List Step) : Type 0 where
   pub steps : List Step
   pub number : length steps ≡ taken
   pub inside : taken ≤ length cells
   pub logs : log ≡ steps ++ drop taken cells
-  pub goes_on : input_fault P opening ≡ None
-      → (input_fault P boxes ≡ None) × (run P opening (length cells) ≡ resumed steps (run P boxes (length cells - taken)))
-  pub refuses : (f : Fault) → input_fault P opening ≡ Some f → (boxes ≡ opening) × (taken ≡ 0)
+  pub goes_on : packed_input_fault P opening ≡ None
+      → (packed_input_fault P boxes ≡ None) × (run (unpacked P) opening (length cells) ≡ resumed steps (run (unpacked P) boxes (length cells - taken)))
+  pub refuses : (f : Fault) → packed_input_fault P opening ≡ Some f → (boxes ≡ opening) × (taken ≡ 0)
   pub same : length boxes ≡ length opening
 
-module _ {P : Plan} {opening : List ℕ} {cells : List Step} {taken : ℕ} {boxes : List ℕ} {log : List Step}
+module _ {P : PackedPlan} {opening : List ℕ} {cells : List Step} {taken : ℕ} {boxes : List ℕ} {log : List Step}
     (t : Running P opening cells taken boxes log) where
   pub same_log : length log ≡ length cells
   same_log = ap length t.logs ∙ length-append t.steps (drop taken cells) ∙ (omega (arith, t.number, t.inside, length-drop taken cells))
@@ -267,30 +279,30 @@ module _ {P : Plan} {opening : List ℕ} {cells : List Step} {taken : ℕ} {boxe
   r = part_run P boxes taken room
 
   -- a plan that passes here passed at the start
-  passed-opening : input_fault P boxes ≡ None → input_fault P opening ≡ None
-  passed-opening e = go (input_fault P opening) refl
+  passed-opening : packed_input_fault P boxes ≡ None → packed_input_fault P opening ≡ None
+  passed-opening e = go (packed_input_fault P opening) refl
     where
-      go : (o : Option Fault) → input_fault P opening ≡ o → input_fault P opening ≡ None
+      go : (o : Option Fault) → packed_input_fault P opening ≡ o → packed_input_fault P opening ≡ None
       go None q = q
-      go (Some g) q = None≢Some (sym e ∙ ap (input_fault P) (t.refuses g q).0 ∙ q)
+      go (Some g) q = None≢Some (sym e ∙ ap (packed_input_fault P) (t.refuses g q).0 ∙ q)
 
   -- a refusal is of the opening, and nothing has changed
   pub part-refuses : (d : Refusal) (left : List ℕ) → FilteredAs P boxes taken room (Err d) left
-      → steps_end (refused_by (fault_of d)) left log ≡ filter_steps P opening cells
-  unfolding filter_steps on_option
-  part-refuses d left (e, kept) = go (input_fault P opening) refl
+      → steps_end (refused_by (fault_of d)) left log ≡ filter_steps_packed P opening cells
+  unfolding on_option
+  part-refuses d left (e, kept) = go (packed_input_fault P opening) refl
     where
       empty : (l : List Step) → length l ≡ 0 → l ≡ []
       empty [] q = refl
       empty (x ∷ xs) q = absurd (omega (arith, q))
 
-      go : (o : Option Fault) → input_fault P opening ≡ o → steps_end (refused_by (fault_of d)) left log ≡ filter_steps P opening cells
+      go : (o : Option Fault) → packed_input_fault P opening ≡ o → steps_end (refused_by (fault_of d)) left log ≡ filter_steps_packed P opening cells
       go None q = None≢Some (sym (t.goes_on q).0 ∙ e)
       go (Some h) q =
           let (b, z) = t.refuses h q in
           let no_steps : t.steps ≡ [] = empty t.steps (t.number ∙ z) in
-          let same-fault : fault_of d ≡ h = let w : Some (fault_of d) ≡ Some h = sym e ∙ ap (input_fault P) b ∙ q in cc in
-          rw q
+          let same-fault : fault_of d ≡ h = let w : Some (fault_of d) ≡ Some h = sym e ∙ ap (packed_input_fault P) b ∙ q in cc in
+          rw (filter-steps-is P opening cells, q)
           (same_end (ap refused_by same-fault) (kept ∙ b)
           (t.logs ∙ ap (λ (s : List Step). s ++ drop taken cells) no_steps ∙ ap (λ (n : ℕ). drop n cells) z))
 
@@ -301,7 +313,7 @@ module _ {P : Plan} {opening : List ℕ} {cells : List Step} {taken : ℕ} {boxe
     -- the part's steps fit the log
     pub steps-inside : taken + f.steps.count ≤ length log
     unfolding part_run
-    steps-inside = omega (arith, same_log, t.inside, run_fits (next P) boxes (min part_size (room - taken)), as_run.number)
+    steps-inside = omega (arith, same_log, t.inside, run_fits (next (unpacked P)) boxes (min part_size (room - taken)), as_run.number)
 
     module _ (new : List Step) (is : new ≡ take taken log ++ written (part_steps f.steps) (drop taken log)) where
       -- the log with the part's steps
@@ -324,7 +336,7 @@ module _ {P : Plan} {opening : List ℕ} {cells : List Step} {taken : ℕ} {boxe
         part-full =
             let number = counted f.filtered r.ending (taken + count r) as_run.answers in
             let (full, inside) = goes-ending r.ending room (taken + count r) (sym (ap (does_go_on room) as_run.answers) ∙ more) in
-            (full, run-filled P (min part_size (room - taken)) boxes full, number, omega (arith, number, inside))
+            (full, run-filled (unpacked P) (min part_size (room - taken)) boxes full, number, omega (arith, number, inside))
 
         pub part-runs-on : length left ≡ length boxes → Running P opening cells f.filtered.count left new
         unfolding part_run
@@ -340,13 +352,13 @@ module _ {P : Plan} {opening : List ℕ} {cells : List Step} {taken : ℕ} {boxe
               inside = omega (arith, inside);
               logs = logs_more ∙ ap (λ (n : ℕ). (t.steps ++ r.log) ++ drop n cells) (sym number);
               goes_on = λ q. (
-                ap (input_fault P) as_run.leaves ∙ run-passes P m boxes c.0,
+                ap (packed_input_fault P) as_run.leaves ∙ run-passes P m boxes c.0,
                 (t.goes_on q).1
-                    ∙ ap (λ (n : ℕ). resumed t.steps (run P boxes n)) rest
-                    ∙ ap (resumed t.steps) (run-resumes (next P) boxes m (room - now) full)
-                    ∙ ap (λ (l : List ℕ). resumed t.steps (resumed r.log (run P l (room - now)))) (sym as_run.leaves)
-                    ∙ ap (λ (l : List Step). ended (run P left (room - now)).ending l (run P left (room - now)).boxes)
-                    (sym (append_assoc t.steps r.log (run P left (room - now)).log)),
+                    ∙ ap (λ (n : ℕ). resumed t.steps (run (unpacked P) boxes n)) rest
+                    ∙ ap (resumed t.steps) (run-resumes (next (unpacked P)) boxes m (room - now) full)
+                    ∙ ap (λ (l : List ℕ). resumed t.steps (resumed r.log (run (unpacked P) l (room - now)))) (sym as_run.leaves)
+                    ∙ ap (λ (l : List Step). ended (run (unpacked P) left (room - now)).ending l (run (unpacked P) left (room - now)).boxes)
+                    (sym (append_assoc t.steps r.log (run (unpacked P) left (room - now)).log)),
               );
               refuses = λ g q. None≢Some (sym opened ∙ q);
               same = kept ∙ t.same;
@@ -356,16 +368,16 @@ module _ {P : Plan} {opening : List ℕ} {cells : List Step} {taken : ℕ} {boxe
         part-shortens = let (_, all, number, inside) = part-full in omega (arith, all, number, inside, t.inside)
 
       pub part-leaves : does_go_on room (filter_answer (Ok f.filtered)) ≡ false
-          → steps_end (filter_answer (Ok f.filtered)) left new ≡ filter_steps P opening cells
-      unfolding part_run filter_steps logged_steps on_option written
+          → steps_end (filter_answer (Ok f.filtered)) left new ≡ filter_steps_packed P opening cells
+      unfolding part_run logged_steps on_option written
       part-leaves more =
           let last = ends-ending r.ending room (taken + count r) (sym (ap (does_go_on room) as_run.answers) ∙ more) in
           let opened = passed-opening c.0 in
           let m = min part_size (room - taken) in
-          let ends : run P boxes (room - taken) ≡ run P boxes m =
-          run-last P m (room - taken) boxes (omega arith) (λ q. omega (arith, last q, run_fits (next P) boxes m)) in
-          let whole : run P opening room ≡ resumed t.steps r = (t.goes_on opened).1 ∙ ap (resumed t.steps) ends in
+          let ends : run (unpacked P) boxes (room - taken) ≡ run (unpacked P) boxes m =
+          run-last (unpacked P) m (room - taken) boxes (omega arith) (λ q. omega (arith, last q, run_fits (next (unpacked P)) boxes m)) in
+          let whole : run (unpacked P) opening room ≡ resumed t.steps r = (t.goes_on opened).1 ∙ ap (resumed t.steps) ends in
           let long : length (t.steps ++ r.log) ≡ taken + count r = length-append t.steps r.log ∙ (omega (arith, t.number)) in
-          rw (opened, whole)
+          rw (filter-steps-is P opening cells, opened, whole)
           (same_end (as_run.answers ∙ ap (ending_answer r.ending) (sym long)) as_run.leaves
           (logs_more ∙ ap (λ (n : ℕ). (t.steps ++ r.log) ++ drop n cells) (sym long)))

@@ -1,11 +1,12 @@
 -- The log checker and the filter over a log that is a list of step records: what each answers and leaves in lent memory (01, "Steps", the order
--- of refusals, and "Where each language form goes").
+-- of refusals, and "Where each language form goes"; packed calendars: 02, W-208).
 use Rattle.std.specs.Prelude.{false, List, ℕ, length, take}
 use Rattle.std.specs.Prelude.{Some}
 use Rattle.units.specs.Choice.{on_option}
 use Rattle.units.specs.Cells.{written}
 use Rattle.plan.specs.Plan.{Plan}
-use Rattle.plan.specs.Faults.{input_fault}
+use Rattle.plan.specs.Faults.{is_right_size, input_fault}
+use Rattle.plan.specs.Over.{PackedPlan, unpacked, over_letters}
 use Rattle.steps.specs.declared.Step.{Step}
 use Rattle.steps.specs.Log.{LogEnd, log_end, replay}
 use Rattle.steps.specs.Filter.{Run, count, run}
@@ -37,3 +38,12 @@ filter_steps P boxes log =
 -- its answer, the boxes, and the first so many steps of the log
 unfoldable pub left_steps : StepsEnd → FilterLeft
 left_steps e = record { answer = e.answer; boxes = e.boxes; first = λ n. take n e.log }
+
+-- both of a plan in memory, whose calendars are packed
+unfoldable pub check_steps_packed : PackedPlan → List ℕ → List Step → LogEnd
+check_steps_packed P boxes log =
+    over_letters (is_right_size (unpacked P) boxes) P (λ f. log_end 0 false boxes (Some f)) (λ Q. check_steps Q boxes log)
+
+unfoldable pub filter_steps_packed : PackedPlan → List ℕ → List Step → StepsEnd
+filter_steps_packed P boxes log =
+    over_letters (is_right_size (unpacked P) boxes) P (λ f. steps_end (refused_by f) boxes log) (λ Q. filter_steps Q boxes log)

@@ -4,12 +4,12 @@
 
 ghost use Rattle.std.specs.Prelude.{◌≡◌, ◌++◌, ◌+◌, ◌≤◌, ◌<◌, length, get_or, set, take, drop};
 ghost use Rattle.units.specs.Cells.{written};
-ghost use Rattle.plan.specs.Faults.{input_fault};
-ghost use Rattle.plan.specs.Lent.{plan_in};
+ghost use Rattle.plan.specs.Lent.{packed_in, plan_in};
 ghost use Rattle.plan.specs.Refusals.{answer_of};
+ghost use Rattle.plan.specs.Over.{SameOverLetters};
 ghost use Rattle.steps.specs.Claim.{CheckedHolds, FilterHolds};
-ghost use Rattle.steps.specs.Entry.{check_answer, filter_answer};
-ghost use Rattle.step_log.specs.Entry.{check_steps, steps_end, filter_steps};
+ghost use Rattle.steps.specs.Entry.{packed_input_fault, check_answer, filter_answer};
+ghost use Rattle.step_log.specs.Entry.{check_steps, check_steps_packed, steps_end, filter_steps, filter_steps_packed};
 ghost use Rattle.step_log.specs.Inner.Size.{part_size};
 ghost use Rattle.step_log.specs.Inner.Parts.{no_step, part_steps};
 
@@ -46,11 +46,13 @@ fn put_part(log: &mut [Step], from: usize, steps: &Part)
 
 // The log checker. Accepted or refused by 11, 12 or 13, the boxes become those at the log's end; any other refusal changes nothing.
 pub fn check_log(plan: &Plan, boxes: &mut [u16], log: &[Step]) -> Result<Accepted, Refusal>
-    ensures answer { let P = plan_in plan.now in
-        let e = check_steps P boxes.old log.now in
+    ensures answer { let e = check_steps_packed (packed_in plan.now) boxes.old log.now in
         (answer_of result ≡ check_answer e) × (boxes.new ≡ e.boxes) }
-    ensures holds { let P = plan_in plan.now in
-        CheckedHolds P boxes.old (input_fault P boxes.old) log.now (answer_of result) boxes.new }
+    ensures holds { let refusal = packed_input_fault (packed_in plan.now) boxes.old in
+        CheckedHolds (plan_in plan.now) boxes.old refusal log.now (answer_of result) boxes.new }
+    ensures letters { let P = packed_in plan.now in
+        SameOverLetters P (answer_of result) (λ Q. check_answer (check_steps Q boxes.old log.now))
+        × SameOverLetters P boxes.new (λ Q. (check_steps Q boxes.old log.now).boxes) }
 {
     let mut accepted = NO_STEPS;
     loop {
@@ -65,10 +67,11 @@ pub fn check_log(plan: &Plan, boxes: &mut [u16], log: &[Step]) -> Result<Accepte
 
 // The filter, with the log lent as its room. A refused plan changes nothing; log cells past the count are untouched.
 pub fn filter(plan: &Plan, boxes: &mut [u16], log: &mut [Step]) -> Result<Filtered, Refusal>
-    ensures answer { let P = plan_in plan.now in
-        steps_end (filter_answer result) boxes.new log.new ≡ filter_steps P boxes.old log.old }
-    ensures holds { let P = plan_in plan.now in
-        FilterHolds P boxes.old (check_steps P boxes.old) (length log.old) (filter_answer result) boxes.new (λ n. take n log.new) }
+    ensures answer { steps_end (filter_answer result) boxes.new log.new ≡ filter_steps_packed (packed_in plan.now) boxes.old log.old }
+    ensures holds { let check = check_steps_packed (packed_in plan.now) boxes.old in
+        FilterHolds (plan_in plan.now) boxes.old check (length log.old) (filter_answer result) boxes.new (λ n. take n log.new) }
+    ensures letters { let left = steps_end (filter_answer result) boxes.new log.new in
+        SameOverLetters (packed_in plan.now) left (λ Q. filter_steps Q boxes.old log.old) }
 {
     let room = log.len();
     let mut taken = 0;

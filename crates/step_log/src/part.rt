@@ -1,6 +1,6 @@
 // A part of a log: as many of its steps as `propagation` is called with at a time, by value, and what it makes of them.
 ghost use Rattle.std.specs.Prelude.{◌≡◌, [], ◌∷◌, ◌++◌, ◌+◌, ◌-◌, ◌^◌, ◌≤◌, ◌<◌, min, Ok};
-ghost use Rattle.plan.specs.Lent.{plan_in};
+ghost use Rattle.plan.specs.Lent.{packed_in};
 ghost use Rattle.steps.specs.Entry.{step_at, filter_answer};
 ghost use Rattle.step_log.specs.Inner.Size.{part_size};
 
@@ -70,7 +70,7 @@ impl Part {
         after: Accepted,
     ) -> Result<Accepted, Refusal>
         requires { after.steps + self.now.count < 2 ^ 64 }
-        ensures { let P = plan_in plan.now in
+        ensures { let P = packed_in plan.now in
             CheckedAs (check_steps_from P after.steps after.impossible boxes.old (part_steps self.now)) result boxes.new }
     {
         let count = self.count;
@@ -111,7 +111,7 @@ impl PartFiltered {
         room: usize,
     ) -> Result<PartFiltered, Refusal>
         requires { taken ≤ room }
-        ensures { let P = plan_in plan.now in
+        ensures { let P = packed_in plan.now in
             FilteredAs P boxes.old taken room result boxes.new }
     {
         let mut kinds = [0u8; Part::SIZE];

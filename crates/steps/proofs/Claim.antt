@@ -2,19 +2,22 @@
 -- and any filter that leaves what the run leaves, and so for those over three slices. Assumes nothing.
 use mathlib.Core.Path.{◌≡◌, refl, sym, subst}
 use Rattle.std.specs.Prelude.{None}
-use mathlib.Core.List.{List}
+use mathlib.Core.List.{List, map}
 use Prim.Native.Nat.{ℕ}
 use lib.ListN.{length, length-map}
 use Rattle.units.specs.Cells.{written}
 use Rattle.units.specs.Choice.{on_option}
 use Rattle.plan.specs.Plan.{Plan}
 use Rattle.plan.specs.Faults.{input_fault}
+use Rattle.plan.specs.Over.{PackedPlan, unpacked}
 use Rattle.steps.specs.declared.Step.{Step}
 use Rattle.steps.specs.Log.{LogEnd, replay}
 use Rattle.steps.specs.Filter.{Run, count, run}
 use Rattle.steps.specs.Entry.{check_answer, check_records, ending_answer, logged, filter_plan, FilterLeft, left_by, filter_records}
+use Rattle.steps.specs.Entry.{packed_input_fault, check_records_packed, filter_records_packed}
 use Rattle.steps.specs.Claim.{CheckedHolds, FilterHolds, LogsHold}
 use Rattle.steps.proofs.Contracts.{first-sized, replayed-holds, steps-written, records-pass, records-replay, run_holds}
+use Rattle.steps.proofs.Contracts.{input-letters, packed-records-pass, packed-records-replay, filter-is}
 
 -- what is left is what the run leaves
 pub record LeftBy (r : Run) (l : FilterLeft) : Type 0 where
@@ -50,3 +53,19 @@ module _ (P : Plan) (opening : List ℕ) (passes : input_fault P opening ≡ Non
 
   pub logs-hold : LogsHold P opening (check_records P opening) (filter_records P opening)
   logs-hold = logs-hold-by P opening _ _ passes (records-replay P opening passes) left-by-run
+
+-- and in memory, where the calendars are packed
+module _ (P : PackedPlan) (opening : List ℕ) (passes : packed_input_fault P opening ≡ None) where
+  packed-left-by-run : (cells : List Step) → LeftBy (run (unpacked P) opening (length cells)) (filter_records_packed P opening cells)
+  unfolding filter_records_packed left_by on_option logged written
+  packed-left-by-run cells =
+      rw (
+        filter-is P opening (map (λ x. x.kind) cells) (map (λ x. x.task) cells) (map (λ x. x.hour) cells),
+        packed-records-pass P opening passes cells,
+        length-map cells (λ x. x.kind),
+      )
+      (record { answer = refl; boxes = refl; log = steps-written (run (unpacked P) opening (length cells)).log _ _ _ })
+
+  pub packed-logs-hold : LogsHold (unpacked P) opening (check_records_packed P opening) (filter_records_packed P opening)
+  packed-logs-hold =
+      logs-hold-by (unpacked P) opening _ _ (input-letters P opening passes) (packed-records-replay P opening passes) packed-left-by-run

@@ -10,14 +10,17 @@ use lib.ListN.{length, length-map}
 use borrow.Author.Tests.{eq-eqb, eqb-true}
 use Rattle.units.specs.Cells.{written}
 use Rattle.units.specs.Choice.{◌and◌, on_option, ◌or_else◌}
-use Rattle.units.proofs.Choices.{and_both, and_left, and_right, None≢Some, option-all, neither}
+use Rattle.units.proofs.Choices.{and_both, and_left, and_right, None≢Some, option-all, neither, first-at}
 use Rattle.plan.specs.Plan.{Plan, task_count}
 use Rattle.plan.specs.Boxes.{bounds_at}
 use Rattle.plan.specs.declared.Fault.{Fault}
 use Rattle.plan.specs.Refusals.{fault, unless, refused, answered, answer_unless}
-use Rattle.plan.specs.Faults.{one_for_each_task, is_right_size, plan_fault, input_fault}
+use Rattle.plan.specs.Faults.{one_for_each_task, is_right_size, packing_fault, packed_fault, plan_fault, input_fault}
+use Rattle.plan.specs.Over.{PackedPlan, unpacked, packed_plan_fault, memory_fault}
+use Rattle.plan.proofs.Over.{letters-none}
+use Rattle.plan.proofs.Over.{over-tested}
 use Rattle.plan.proofs.Refusals.{unless-none, go_on, refused≢answered}
-use Rattle.plan.proofs.Numbers.{by-unless, by-either, plan-numbers, input-numbers}
+use Rattle.plan.proofs.Numbers.{OfInput, by-unless, by-either, plan-numbers}
 use Rattle.steps.specs.declared.Step.{Step}
 use Rattle.calendar.specs.declared.Triple.{Triple}
 use Rattle.calendar.specs.Triples.{in_bounds}
@@ -27,7 +30,8 @@ use Rattle.steps.specs.Log.{LogEnd, log_end, replay_from, replay_by, replay}
 use Rattle.steps.specs.Filter.{filter_order, next, Ending, settled, impossible, no_room, Run, count, run}
 use Rattle.steps.specs.declared.Accepted.{Accepted}
 use Rattle.steps.specs.Entry.{step_at, steps_from, steps_in, one_for_each_step, entry_fault, check_log, check_answer, check_records}
-use Rattle.steps.specs.Entry.{refused_by, ending_answer, FilterEnd, logged, filter_plan}
+use Rattle.steps.specs.Entry.{refused_by, ending_answer, FilterEnd, filter_end, logged, filter_plan}
+use Rattle.steps.specs.Entry.{packed_input_fault, packed_entry_fault, check_log_packed, check_records_packed, filter_packed}
 use Rattle.steps.specs.Claim.{said_impossible, CheckedHolds, FilterHolds}
 use Rattle.steps.proofs.Judgements.{judgement-all}
 use Rattle.steps.proofs.Replays.{accepted-admitted, admitted-accepted, accepted-steps, replay-keeps, replay-possible}
@@ -39,14 +43,17 @@ use Rattle.steps.proofs.Runs.{run-replays, run_fits, run_short, run-rests}
 pub not-13 : Fault → Type 0
 not-13 f = f.number ≡ 13 → ⊥
 
-module _ (P : Plan) (boxes : List ℕ) (f : Fault) where
-  pub first-fault : input_fault P boxes ≡ Some f → not-13 f
-  unfolding not-13
-  first-fault e q = (input-numbers P boxes).other e (omega arith)
+packed-numbers : (h : ℕ) (bytes : List ℕ) → OfInput (packed_fault h bytes)
+unfolding packed_fault packing_fault
+packed-numbers h bytes =
+    by-either (by-unless _ 2 0 (λ s. omega arith))
+    (by-either (by-unless _ 3 0 (λ s. omega arith))
+    (record { other = λ e s. let (k, l, q) = first-at _ _ _ e in (by-unless _ 21 k (λ t. omega arith)).other q s }))
 
-  entry-fault : (kinds tasks hours : List ℕ) → entry_fault P boxes kinds tasks hours ≡ Some f → not-13 f
-  unfolding entry_fault not-13
-  entry-fault kinds tasks hours e q = (by-either (by-unless _ 31 0 (λ s. omega arith)) (plan-numbers P boxes)).other e (omega arith)
+pub memory-fault : (sized : Bool) (P : PackedPlan) (boxes : List ℕ) (f : Fault) → memory_fault sized P boxes ≡ Some f → not-13 f
+unfolding memory_fault packed_plan_fault not-13
+memory-fault sized P boxes f e q =
+    (by-either (by-unless _ 31 0 (λ s. omega arith)) (by-either (packed-numbers P.hours P.calendars) (plan-numbers (unpacked P) boxes))).other e (omega arith)
 
 -- where they find none, the boxes number one for each task
 module _ (P : Plan) (boxes : List ℕ) where
@@ -54,25 +61,45 @@ module _ (P : Plan) (boxes : List ℕ) where
   unfolding input_fault one_for_each_task
   first-sized e = eqb-true _ _ (and_right _ _ (and_right _ _ (and_left _ _ (unless-none _ 31 0 (neither _ _ e).0))))
 
-  -- the tests of a log checker and of a filter are those of the plan and the boxes, and that of the log's slices; where these are of one length, just
-  -- the former
-  entry-input : (kinds tasks hours : List ℕ) → entry_fault P boxes kinds tasks hours ≡ None → input_fault P boxes ≡ None
-  unfolding entry_fault input_fault
+-- the slices of a log that are of one length leave 31 to the plan's memory
+steps-sized : (a : Bool) (kinds tasks hours : List ℕ) → length tasks ≡ length kinds → length hours ≡ length kinds
+    → (a and one_for_each_step kinds tasks hours) ≡ a
+unfolding one_for_each_step
+steps-sized a kinds tasks hours t h = go a (and_both _ _ (eq-eqb (length tasks) (length kinds) t) (eq-eqb (length hours) (length kinds) h))
+  where
+    go : (a : Bool) {b : Bool} → b ≡ true → (a and b) ≡ a
+    go true e = e
+    go false e = refl
+
+-- the tests are then those of the plan and the boxes alone; of letters
+same-fault : (P : Plan) (boxes kinds tasks hours : List ℕ) → length tasks ≡ length kinds → length hours ≡ length kinds
+    → entry_fault P boxes kinds tasks hours ≡ input_fault P boxes
+unfolding entry_fault input_fault
+same-fault P boxes kinds tasks hours t h =
+    ap (λ (b : Bool). unless b 31 0 or_else plan_fault P boxes) (steps-sized (is_right_size P boxes) kinds tasks hours t h)
+
+-- and in memory
+module _ (P : PackedPlan) (boxes : List ℕ) where
+  pub packed-same-fault : (kinds tasks hours : List ℕ) → length tasks ≡ length kinds → length hours ≡ length kinds
+      → packed_entry_fault P boxes kinds tasks hours ≡ packed_input_fault P boxes
+  unfolding packed_entry_fault packed_input_fault
+  packed-same-fault kinds tasks hours t h =
+      ap (λ (b : Bool). memory_fault b P boxes) (steps-sized (is_right_size (unpacked P) boxes) kinds tasks hours t h)
+
+  -- where they find none of a log, they find none of the plan
+  entry-input : (kinds tasks hours : List ℕ) → packed_entry_fault P boxes kinds tasks hours ≡ None → packed_input_fault P boxes ≡ None
+  unfolding packed_entry_fault packed_input_fault memory_fault
   entry-input kinds tasks hours e =
       let faults = neither _ _ e in
       go_on _ 31 0 _ (and_left _ _ (unless-none _ 31 0 faults.0)) ∙ faults.1
 
-  pub same-fault : (kinds tasks hours : List ℕ) → length tasks ≡ length kinds → length hours ≡ length kinds
-      → entry_fault P boxes kinds tasks hours ≡ input_fault P boxes
-  unfolding entry_fault input_fault one_for_each_step
-  same-fault kinds tasks hours t h =
-      ap (λ (b : Bool). unless b 31 0 or_else plan_fault P boxes)
-      (and-true (is_right_size P boxes) _
-      (and_both _ _ (eq-eqb (length tasks) (length kinds) t) (eq-eqb (length hours) (length kinds) h)))
-    where
-      and-true : (a b : Bool) → b ≡ true → (a and b) ≡ a
-      and-true true b e = e
-      and-true false b e = refl
+  -- nor of its letters
+  pub input-letters : packed_input_fault P boxes ≡ None → input_fault (unpacked P) boxes ≡ None
+  unfolding packed_input_fault input_fault
+  input-letters e = letters-none _ P boxes e
+
+  pub packed-sized : packed_input_fault P boxes ≡ None → length boxes ≡ 6 * task_count (unpacked P)
+  packed-sized e = first-sized (unpacked P) boxes (input-letters e)
 
 -- ---- the log checker
 
@@ -154,12 +181,21 @@ module _ (P : Plan) (boxes : List ℕ) (found : Option Fault) (log : List Step) 
       (λ e. replayed-holds (size e))
       (λ f e. unfold check_answer answer_unless in (refused-holds f e (other f e)))
 
-pub check-holds : (P : Plan) (boxes kinds tasks hours : List ℕ)
-    → CheckedHolds P boxes (entry_fault P boxes kinds tasks hours) (steps_in kinds tasks hours) (check_answer (check_log P boxes kinds tasks hours))
-    (check_log P boxes kinds tasks hours).boxes
-unfolding check_log
-check-holds P boxes kinds tasks hours =
-    tested-holds P boxes _ _ (λ e. first-sized P boxes (entry-input P boxes kinds tasks hours e)) (λ f e. entry-fault P boxes f kinds tasks hours e)
+module _ (P : PackedPlan) (boxes kinds tasks hours : List ℕ) where
+  -- in memory too it is the log's end, or at once a refusal
+  pub check-log-is : check_log_packed P boxes kinds tasks hours
+      ≡ on_option (packed_entry_fault P boxes kinds tasks hours) (replay (unpacked P) boxes (steps_in kinds tasks hours))
+      (λ f. log_end 0 false boxes (Some f))
+  unfolding check_log_packed packed_entry_fault check_log entry_fault
+  check-log-is = over-tested _ P boxes _ _ _ refl
+
+  pub check-holds : CheckedHolds (unpacked P) boxes (packed_entry_fault P boxes kinds tasks hours) (steps_in kinds tasks hours)
+      (check_answer (check_log_packed P boxes kinds tasks hours))
+      (check_log_packed P boxes kinds tasks hours).boxes
+  unfolding packed_entry_fault
+  check-holds =
+      rw check-log-is
+      (tested-holds (unpacked P) boxes _ _ (λ e. packed-sized P boxes (entry-input P boxes kinds tasks hours e)) (λ f e. memory-fault _ P boxes f e))
 
 -- ---- the filter
 
@@ -271,15 +307,34 @@ module _ (P : Plan) (boxes : List ℕ) where
   unfolding check_records check_log on_option
   records-replay e log = rw (records-pass e log, records-in log)
 
-module _ (P : Plan) (boxes kinds tasks hours : List ℕ) where
-  abbrev Holds : FilterEnd → Type 0
-  Holds l = FilterHolds P boxes (check_records P boxes) (length kinds) l.answer l.boxes (steps_from l.kinds l.tasks l.hours 0)
+module _ (P : PackedPlan) (boxes : List ℕ) (e : packed_input_fault P boxes ≡ None) where
+  pub packed-records-pass : (log : List Step)
+      → packed_entry_fault P boxes (map (λ x. x.kind) log) (map (λ x. x.task) log) (map (λ x. x.hour) log) ≡ None
+  packed-records-pass log =
+      let same = sym (length-map log (λ x. x.kind)) in
+      packed-same-fault P boxes _ _ _ (length-map log (λ x. x.task) ∙ same) (length-map log (λ x. x.hour) ∙ same) ∙ e
 
-  pub filter-holds : Holds (filter_plan P boxes kinds tasks hours)
-  unfolding filter_plan logged written
+  pub packed-records-replay : (log : List Step) → check_records_packed P boxes log ≡ replay (unpacked P) boxes log
+  unfolding check_records_packed on_option
+  packed-records-replay log = check-log-is P boxes _ _ _ ∙ rw (packed-records-pass log, records-in log) refl
+
+module _ (P : PackedPlan) (boxes kinds tasks hours : List ℕ) where
+  pub filter-is : filter_packed P boxes kinds tasks hours
+      ≡ on_option (packed_entry_fault P boxes kinds tasks hours)
+      (logged (run (unpacked P) boxes (length kinds)) kinds tasks hours)
+      (λ f. filter_end (refused_by f) boxes kinds tasks hours)
+  unfolding filter_packed packed_entry_fault filter_plan entry_fault
+  filter-is = over-tested _ P boxes _ _ _ refl
+
+  abbrev Holds : FilterEnd → Type 0
+  Holds l = FilterHolds (unpacked P) boxes (check_records_packed P boxes) (length kinds) l.answer l.boxes (steps_from l.kinds l.tasks l.hours 0)
+
+  pub filter-holds : Holds (filter_packed P boxes kinds tasks hours)
+  unfolding logged written
   filter-holds =
-      option-all Holds (entry_fault P boxes kinds tasks hours) _ _
+      subst Holds (sym filter-is)
+      (option-all Holds (packed_entry_fault P boxes kinds tasks hours) _ _
       (λ e. let passes = entry-input P boxes kinds tasks hours e in
-      run_holds P boxes _ (length kinds) _ (first-sized P boxes passes) (records-replay P boxes passes)
-      (steps-written (run P boxes (length kinds)).log _ _ _))
-      (λ f e. no-run-holds P boxes _ (length kinds) _ f)
+      run_holds (unpacked P) boxes _ (length kinds) _ (packed-sized P boxes passes) (packed-records-replay P boxes passes)
+      (steps-written (run (unpacked P) boxes (length kinds)).log _ _ _))
+      (λ f e. no-run-holds (unpacked P) boxes _ (length kinds) _ f))

@@ -1,4 +1,5 @@
--- The log checker and the filter as entry points: what each answers and leaves in lent memory (01, "Steps", and the order of refusals).
+-- The log checker and the filter as entry points: what each answers and leaves in lent memory (01, "Steps", and the order of refusals; packed calendars:
+-- 02, W-208).
 use Rattle.std.specs.Prelude.{Bool, false, List, [], ◌∷◌, map, ℕ, zero, suc, ◌+◌, eqb, length, get_or}
 use Rattle.std.specs.Prelude.{Option, Some, Result, Ok, Err}
 use Rattle.units.specs.Choice.{◌and◌, on_option, ◌or_else◌}
@@ -7,6 +8,7 @@ use Rattle.plan.specs.Plan.{Plan}
 use Rattle.plan.specs.declared.Fault.{Fault}
 use Rattle.plan.specs.Refusals.{fault, unless, Answer, answer_unless, fault_of}
 use Rattle.plan.specs.Faults.{is_right_size, plan_fault}
+use Rattle.plan.specs.Over.{PackedPlan, unpacked, over_letters, memory_fault}
 use Rattle.steps.specs.declared.Step.{Step}
 use Rattle.steps.specs.declared.Accepted.{Accepted}
 use Rattle.steps.specs.declared.Filtered.{Filtered}
@@ -116,3 +118,34 @@ left_by e = record { answer = e.answer; boxes = e.boxes; first = steps_from e.ki
 
 unfoldable pub filter_records : Plan → List ℕ → List Step → FilterLeft
 filter_records P boxes cells = left_by (filter_plan P boxes (map (λ x. x.kind) cells) (map (λ x. x.task) cells) (map (λ x. x.hour) cells))
+
+-- ---- of a plan in memory, whose calendars are packed
+
+-- 31, then the plan's tests in memory, where no log is lent in slices
+unfoldable pub packed_input_fault : PackedPlan → List ℕ → Option Fault
+packed_input_fault P boxes = memory_fault (is_right_size (unpacked P) boxes) P boxes
+
+-- 31 does not apply to the plan's memory and the log's; what is found before the log is read
+abbrev pub is_right_memory : PackedPlan → List ℕ → List ℕ → List ℕ → List ℕ → Bool
+is_right_memory P boxes kinds tasks hours = is_right_size (unpacked P) boxes and one_for_each_step kinds tasks hours
+
+unfoldable pub packed_entry_fault : PackedPlan → List ℕ → List ℕ → List ℕ → List ℕ → Option Fault
+packed_entry_fault P boxes kinds tasks hours = memory_fault (is_right_memory P boxes kinds tasks hours) P boxes
+
+-- the log checker; the filter
+unfoldable pub check_log_packed : PackedPlan → List ℕ → List ℕ → List ℕ → List ℕ → LogEnd
+check_log_packed P boxes kinds tasks hours =
+    over_letters (is_right_memory P boxes kinds tasks hours) P (λ f. log_end 0 false boxes (Some f)) (λ Q. check_log Q boxes kinds tasks hours)
+
+unfoldable pub filter_packed : PackedPlan → List ℕ → List ℕ → List ℕ → List ℕ → FilterEnd
+filter_packed P boxes kinds tasks hours =
+    over_letters (is_right_memory P boxes kinds tasks hours) P
+    (λ f. filter_end (refused_by f) boxes kinds tasks hours)
+    (λ Q. filter_plan Q boxes kinds tasks hours)
+
+-- of a log that is given as a list of records
+unfoldable pub check_records_packed : PackedPlan → List ℕ → List Step → LogEnd
+check_records_packed P boxes log = check_log_packed P boxes (map (λ x. x.kind) log) (map (λ x. x.task) log) (map (λ x. x.hour) log)
+
+unfoldable pub filter_records_packed : PackedPlan → List ℕ → List Step → FilterLeft
+filter_records_packed P boxes cells = left_by (filter_packed P boxes (map (λ x. x.kind) cells) (map (λ x. x.task) cells) (map (λ x. x.hour) cells))

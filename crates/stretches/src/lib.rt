@@ -7,19 +7,17 @@ ghost use Rattle.std.specs.Prelude.{◌≡◌, ◌+◌, ◌*◌, ◌≤◌, ◌<
 ghost use Rattle.units.specs.Limits.{box_numbers, most_hours, duration};
 ghost use Rattle.plan.specs.Plan.{calendar_of, work_time_of};
 ghost use Rattle.plan.specs.Boxes.{bounds_at};
+ghost use Rattle.plan.specs.Calendars.{letters_in};
 ghost use Rattle.plan.specs.Lent.{HasCalendar, shifts_in};
 ghost use Rattle.stretches.specs.Inner.Stretches.{Inside, counts_of, with_hour};
 
-use plan::{HourKind, Shifts};
+use plan::{Calendar, Shifts};
 use units::{Bounds, Duration, Hour};
 
-// What an hour adds to the number of hours with a symbol: passed on, since a caller may ask for it here.
-pub use plan::one_if;
-
-// A task as the calendar rule sees it: the symbols of its calendar, its work time p, and its box.
+// A task as the calendar rule sees it: its calendar, its work time p, and its box.
 #[derive(Clone, Copy)]
 pub struct Task<'a> {
-    pub calendar: &'a [u8],
+    pub calendar: Calendar<'a>,
     pub work_time: Duration,
     pub bounds: Bounds,
 }
@@ -58,7 +56,7 @@ impl<'a> Task<'a> {
         requires { let S = shifts_in shifts.now in
             HasCalendar S i × (i < length S.work_times) × (box_numbers * i + box_numbers ≤ length boxes.now) }
         ensures { let S = shifts_in shifts.now in
-            (result.calendar.now ≡ calendar_of S i)
+            (letters_in result.calendar ≡ calendar_of S i)
             × (result.work_time ≡ duration (work_time_of S i))
             × (result.bounds ≡ bounds_at boxes.now i) }
     {
@@ -79,25 +77,27 @@ impl Counts {
 }
 
 // The counts with one hour more.
-fn with_hour(n: Counts, calendar: &[u8], t: usize) -> Counts
-    requires { (n.regular < most_hours) × (n.overtime < most_hours) × (t < length calendar.now) }
-    ensures { result ≡ with_hour n calendar.now t }
+#[tactic(auto, unfolding(plan::specs::HourKinds::is_kind))]
+fn with_hour(n: Counts, calendar: &Calendar, t: usize) -> Counts
+    requires { (n.regular < most_hours) × (n.overtime < most_hours) × (t < length (letters_in calendar.now)) }
+    ensures { result ≡ with_hour n (letters_in calendar.now) t }
 {
+    let code = calendar.code_at(t);
     Counts {
-        regular: n.regular + HourKind::Regular.count_at(calendar, t),
-        overtime: n.overtime + HourKind::Overtime.count_at(calendar, t),
+        regular: n.regular + code.regular_count(),
+        overtime: n.overtime + code.overtime_count(),
     }
 }
 
 // The counts of so many hours from the start on.
-pub fn count_hours(calendar: &[u8], start: Hour, hours: Duration) -> Counts
-    requires { Inside calendar.now start.0 hours.0 }
-    ensures { result ≡ counts_of calendar.now start.0 hours.0 }
+pub fn count_hours(calendar: &Calendar, start: Hour, hours: Duration) -> Counts
+    requires { Inside (letters_in calendar.now) start.0 hours.0 }
+    ensures { result ≡ counts_of (letters_in calendar.now) start.0 hours.0 }
 {
     let first = start.0 as usize;
     let end = first + hours.0 as usize;
     let mut n = Counts::NO_HOURS;
-    // By the hour's index and not over calendar[first..end]: `plan::is_kind` alone reads a symbol.
+    // By the hour's index: the calendar alone knows where its code lies.
     for t in first..end {
         n = with_hour(n, calendar, t);
     }

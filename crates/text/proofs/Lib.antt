@@ -6,4 +6,4 @@ pub mod Puts
 pub mod Decimals
 pub mod Lines
 pub mod Parting
-mod Filled
+pub mod Splitting

@@ -31,7 +31,7 @@ module _ (separator : ℕ) where
   without_more b bs ne e = if-false _ _ _ (ne_eqb _ _ ne) ∙ ap suc e
 
   -- its first byte is another, and so is each of the rest
-  without-rest : (b : ℕ) (bs : List ℕ) → first_at separator (b ∷ bs) ≡ suc (length bs)
+  pub without-rest : (b : ℕ) (bs : List ℕ) → first_at separator (b ∷ bs) ≡ suc (length bs)
       → (eqb b separator ≡ false) × (first_at separator bs ≡ length bs)
   unfolding first_at
   without-rest b bs h = if-case _ _ _ _ h (λ t z. absurd (omega arith)) (λ f s. (f, omega arith))

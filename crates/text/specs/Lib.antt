@@ -4,4 +4,3 @@ pub mod Numbers
 pub mod Lines
 pub mod Reading
 pub mod Putting
-pub mod Source

@@ -4,7 +4,6 @@
 pub mod fields;
 pub mod lengths;
 pub mod put;
-pub mod source;
 
 // The byte that parts fields.
 pub const TAB: u8 = 9;

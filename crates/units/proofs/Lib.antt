@@ -7,6 +7,7 @@ pub mod FirstBest
 pub mod Multiples
 pub mod Ranges
 pub mod Lists
+pub mod Joined
 pub mod Cells
 pub mod Hours
 pub mod Heights

@@ -1,4 +1,4 @@
--- The kinds of value that a plan is made of, and their limits (01, "A plan"; rooms: 02, W-202; pairs: W-206).
+-- The kinds of value that a plan is made of, and their limits (01, "A plan"; rooms: 02, W-202; pairs: W-206; a year: W-208).
 use Rattle.std.specs.Prelude.{Bool, not, ℕ, ◌≤◌, ◌<◌, leb, ltb, eqb}
 use Rattle.units.specs.Choice.{◌and◌}
 use Rattle.units.specs.declared.Hour.{Hour}
@@ -7,9 +7,9 @@ use Rattle.units.specs.declared.Height.{Height}
 use Rattle.units.specs.declared.Bounds.{Bounds}
 use Rattle.units.specs.declared.Pair.{Pair}
 
--- 01, "A plan": H to 1,008; 16 calendars; capacity to 60,000; 64 tasks; height to 1,000. 02, W-202: eight rooms; W-206: 256 pairs
+-- 01, "A plan": 16 calendars; capacity to 60,000; 64 tasks; height to 1,000. 02, W-202: eight rooms; W-206: 256 pairs; W-208: H to 8,784
 abbrev pub most_hours : ℕ
-most_hours = 1008
+most_hours = 8784
 
 abbrev pub most_calendars : ℕ
 most_calendars = 16
@@ -50,7 +50,7 @@ height n = record { 0 = n }
 unfoldable pub within : ℕ → ℕ → ℕ → Bool
 within least most n = leb least n and leb n most
 
--- H is 1 to 1,008
+-- H is 1 to 8,784
 abbrev pub is_plan_length : ℕ → Bool
 is_plan_length h = within 1 most_hours h
 

@@ -84,7 +84,7 @@ impl Hour {
 
 impl Duration {
     // The hours of the longest plan.
-    pub const MOST: u16 = 1008;
+    pub const MOST: u16 = 8784;
 
     // The length of a plan.
     pub fn of_plan(hours: usize) -> Option<Duration>

@@ -1,18 +1,21 @@
-// 01's worked weeks without a star, weeks of two rooms and of pairs, logs of step records, and plans written back as text: each is run,
-// and its answer printed on a line.
+// 01's worked weeks without a star, weeks of two rooms and of pairs, a year, calendars that are packed wrongly, logs of step records, plans written
+// back as text, and what reading leaves in memory: each is run, and its answer printed on a line.
 #![tactic(auto)]
 
 ghost use Rattle.std.specs.Prelude.{◌≡◌, ◌≤◌, IfOk, length};
-ghost use Rattle.plan_format.specs.Text.{most_bytes};
+ghost use Rattle.plan_lines.specs.Pieces.{IsReady};
 
+use calendar::Witnessed;
 use plan::{Fault, Plan, Refusal};
-use plan_text::{MOST_BOUNDS, MOST_BYTES, PlanMemory};
+use plan_lines::Reading;
+use plan_text::{MOST_BOUNDS, MOST_HEIGHTS, MOST_PACKED, MOST_PAIRED, PlanMemory};
 use std::fs::File;
 use std::io;
+use std::io::Read;
 use std::rt::Files;
 use steps::{Accepted, Filtered, Step};
 use text::fields::end_of;
-use units::{Bounds, Hour};
+use units::{Bounds, Duration, Hour, MOST_ROOMS};
 
 fn report_refusal(rt: &impl Print, refusal: Refusal) -> io::Result<()> {
     let Fault { number, place } = Fault::from(refusal);
@@ -38,7 +41,19 @@ static HEIGHTS_IN_TWO_ROOMS: [u16; 4] = [1, 1, 1, 1];
 // Task 0 is to end before task 1 starts.
 static PAIRS: [u16; 2] = [0, 1];
 
-// A week of these tasks.
+// Packed calendars, four hours a byte, the first in its lowest bits: 0 closed, 1 regular, 2 overtime. Regular hours, from 3 to 6.
+static THREE_HOURS: [u8; 1] = [1 + 4 + 16];
+
+static FOUR_HOURS: [u8; 1] = [1 + 4 + 16 + 64];
+
+static SIX_HOURS: [u8; 2] = [1 + 4 + 16 + 64, 1 + 4];
+
+// `rcrrrr`, the printed week's, and `rrcrrr`.
+static SECOND_CLOSED: [u8; 2] = [1 + 16 + 64, 1 + 4];
+
+static THIRD_CLOSED: [u8; 2] = [1 + 4 + 64, 1 + 4];
+
+// A week of these tasks, the calendar packed.
 fn week<'a>(
     hours: u16,
     capacities: &'a [u16],
@@ -62,7 +77,7 @@ const OPENING: [u16; 12] = [0, 3, 2, 3, 0, 0, 0, 2, 2, 3, 0, 0];
 
 // A schedule of the printed week, with pairs of its tasks, held against its opening boxes.
 fn printed_week(pairs: &[u16], schedule: &[u16]) -> Result<Hour, Refusal> {
-    let plan = week(6, &[1], b"rcrrrr", &HEIGHTS, pairs);
+    let plan = week(6, &[1], &SECOND_CLOSED, &HEIGHTS, pairs);
     schedule::check_schedule(&plan, &OPENING, schedule)
 }
 
@@ -92,38 +107,123 @@ fn schedule_that_ends_closed(rt: &impl Print) -> io::Result<()> {
 
 // Both tasks run in hour 1: the first room has racks for both, the second has not.
 fn schedule_over_the_second_capacity(rt: &impl Print) -> io::Result<()> {
-    let plan = week(3, &[2, 1], b"rrr", &HEIGHTS_IN_TWO_ROOMS, &[]);
+    let plan = week(3, &[2, 1], &THREE_HOURS, &HEIGHTS_IN_TWO_ROOMS, &[]);
     let boxes: [u16; 12] = [0, 1, 2, 2, 0, 0, 0, 1, 2, 2, 0, 0];
     let schedule: [u16; 6] = [0, 2, 0, 1, 2, 0];
     report(rt, schedule::check_schedule(&plan, &boxes, &schedule))
 }
 
-// Memory for a plan text.
-const BYTES: usize = plan_text::TEXT_ROOM;
+// The printed week over other bytes for its calendar.
+fn packed_week(rt: &impl Print, calendar: &[u8]) -> io::Result<()> {
+    let plan = week(6, &[1], calendar, &HEIGHTS, &[]);
+    let schedule: [u16; 6] = [3, 2, 0, 0, 3, 0];
+    report(rt, schedule::check_schedule(&plan, &OPENING, &schedule))
+}
 
-// Prints the name of a plan text of data/, and reads it.
-fn read_data(rt: &(impl Files + Print), name: &str, text: &mut [u8; BYTES]) -> io::Result<usize>
-    ensures { IfOk result (λ n. n ≤ length text.new) }
+// The calendars of the printed week in memory: as they are, with another calendar after them, a byte too few or too many, a 3 in the first hour, the
+// last hour or the second calendar, and a bit past the last hour; then two faults, of which 3 comes before 21.
+fn packed_calendars(rt: &impl Print) -> io::Result<()> {
+    packed_week(rt, &[81, 5])?;
+    packed_week(rt, &[81, 5, 85, 5])?;
+    packed_week(rt, &[81])?;
+    packed_week(rt, &[81, 5, 85])?;
+    packed_week(rt, &[81 + 2, 5])?;
+    packed_week(rt, &[81, 5 + 8])?;
+    packed_week(rt, &[81, 5, 85, 5 + 8])?;
+    packed_week(rt, &[81, 5 + 16])?;
+    packed_week(rt, &[81, 5, 85, 5 + 128])?;
+    packed_week(rt, &[81 + 2, 5, 85])
+}
+
+// 65 tasks of an hour on a calendar: 21 comes before 5.
+fn too_many_tasks(rt: &impl Print, calendar: &[u8]) -> io::Result<()> {
+    let plan = Plan::new(6, &[1], calendar, &[0; 65], &[1; 65], &[1; 65], &[]);
+    report(rt, schedule::check_schedule(&plan, &[0; 390], &[0; 195]))
+}
+
+fn report_rule(rt: &impl Print, answer: Result<Option<Witnessed>, Refusal>) -> io::Result<()> {
+    match answer {
+        Err(refusal) => report_refusal(rt, refusal),
+        Ok(None) => println!(rt; "no triple"),
+        Ok(Some(found)) => print_boxes(rt, &plan::box_cells(found.window.bounds)),
+    }
+}
+
+// The calendar rule for so many hours of work, in task 0's box of the printed week or with its earliest start past its latest.
+fn rule_of(
+    rt: &impl Print,
+    hours: u16,
+    calendar: &[u8],
+    work: u16,
+    earliest: u16,
+) -> io::Result<()> {
+    let bounds = plan::bounds_at(&[earliest, 3, 2, 3, 0, 0], 0);
+    report_rule(
+        rt,
+        calendar::calendar_rule(Duration(hours), calendar, Duration(work), bounds),
+    )
+}
+
+// The rule is given H: 2, then 3 for another number of bytes (those of two calendars too), 21, 7, 9.
+fn rules(rt: &impl Print) -> io::Result<()> {
+    rule_of(rt, 6, &[81, 5], 2, 0)?;
+    rule_of(rt, 8785, &[81], 7, 4)?;
+    rule_of(rt, 6, &[81 + 2], 7, 4)?;
+    rule_of(rt, 6, &[81, 5, 81, 5], 7, 4)?;
+    rule_of(rt, 6, &[81 + 2, 5], 7, 4)?;
+    rule_of(rt, 6, &[81, 5 + 64], 7, 4)?;
+    rule_of(rt, 6, &[81, 5], 7, 4)?;
+    rule_of(rt, 6, &[81, 5], 2, 4)
+}
+
+// The bytes that a file is asked for at most.
+const PIECE: usize = 4096;
+
+// More reads than a text of data/ takes.
+const READS: usize = 1_000_000;
+
+// Prints the name of a plan text of data/, and reads it in pieces of so many bytes.
+fn read_data(
+    rt: &(impl Files + Print),
+    name: &str,
+    size: usize,
+    reading: &mut Reading,
+) -> io::Result<()>
+    requires { (size ≤ 4096) × IsReady reading.old }
+    ensures { IfOk result (λ _. IsReady reading.new) }
 {
     println!(rt; "{name}")?;
     let mut file = File::open(rt, name)?;
-    text::source::read_input(&mut file, text)
+    let mut piece = [0u8; PIECE];
+    for _ in 0..READS {
+        let n = file.read(&mut piece[..size])?;
+        if n == 0 {
+            return Ok(());
+        }
+        reading.take(&piece[..n]);
+    }
+    Ok(())
 }
 
 // What the program prints for a plan text.
 fn print_listing(rt: &(impl Files + Print), name: &str) -> io::Result<()> {
-    let mut text = [0u8; BYTES];
+    println!(rt; "{name}")?;
     let mut out = [0u8; listing::ROOM];
-    let n = read_data(rt, name, &mut text)?;
-    let k = text_listing::list_text(&text[..n], &mut out);
+    let mut file = File::open(rt, name)?;
+    let k = text_listing::list_input(&mut file, &mut out)?;
     rt.write_all(&out[..k])
 }
 
-// What a plan may have at most, and one more.
-const LIMITS: [&str; 7] = [
+// What a plan and a line may have at most, and one more. Of a year the last six hours are the printed week.
+const LIMITS: [&str; 12] = [
     "no-tasks.plan",
     "hours-1008.plan",
     "hours-1009.plan",
+    "hours-8784.plan",
+    "hours-8785.plan",
+    "year.plan",
+    "line-8800.plan",
+    "line-8801.plan",
     "tasks-64.plan",
     "tasks-65.plan",
     "pairs-256.plan",
@@ -275,7 +375,7 @@ fn week_log(rt: &impl Print, plan: &Plan, opening: [u16; 12], log: &mut [Step]) 
 
 // The printed week, with room for every step and for two.
 fn printed_week_logs(rt: &impl Print) -> io::Result<()> {
-    let plan = week(6, &[1], b"rcrrrr", &HEIGHTS, &[]);
+    let plan = week(6, &[1], &SECOND_CLOSED, &HEIGHTS, &[]);
     week_log(rt, &plan, OPENING, &mut [NO_STEP; CELLS])?;
     week_log(rt, &plan, OPENING, &mut [NO_STEP; 2])
 }
@@ -284,7 +384,7 @@ fn printed_week_logs(rt: &impl Print) -> io::Result<()> {
 // and then O, the log in the order before W-207, is accepted as well.
 fn overload_before_calendar_logs(rt: &impl Print) -> io::Result<()> {
     let opening: [u16; 12] = [0, 1, 2, 3, 0, 0, 0, 1, 2, 3, 0, 0];
-    let plan = week(3, &[1], b"rrr", &HEIGHTS, &[]);
+    let plan = week(3, &[1], &THREE_HOURS, &HEIGHTS, &[]);
     week_log(rt, &plan, opening, &mut [NO_STEP; CELLS])?;
     week_log(rt, &plan, opening, &mut [NO_STEP; 1])?;
     let log = [step(b'C', 0, 0), step(b'C', 1, 0), step(b'O', 0, 1)];
@@ -295,26 +395,27 @@ fn overload_before_calendar_logs(rt: &impl Print) -> io::Result<()> {
 fn two_rooms_logs(rt: &impl Print) -> io::Result<()> {
     let capacities: [u16; 2] = [2, 1];
     let later: [u16; 12] = [0, 0, 2, 2, 0, 0, 0, 3, 2, 4, 0, 0];
-    let four_hours = week(4, &capacities, b"rrrr", &HEIGHTS_IN_TWO_ROOMS, &[]);
+    let four_hours = week(4, &capacities, &FOUR_HOURS, &HEIGHTS_IN_TWO_ROOMS, &[]);
     week_log(rt, &four_hours, later, &mut [NO_STEP; CELLS])?;
     let together: [u16; 12] = [0, 1, 2, 2, 0, 0, 0, 1, 2, 2, 0, 0];
-    let three_hours = week(3, &capacities, b"rrr", &HEIGHTS_IN_TWO_ROOMS, &[]);
+    let three_hours = week(3, &capacities, &THREE_HOURS, &HEIGHTS_IN_TWO_ROOMS, &[]);
     week_log(rt, &three_hours, together, &mut [NO_STEP; CELLS])
 }
 
 // Weeks with a pair: on regular hours, and with a rest through hour 2, which moves a bound of each task once more.
 fn pairs_logs(rt: &impl Print) -> io::Result<()> {
     let opening: [u16; 12] = [0, 5, 2, 6, 0, 0, 0, 5, 2, 6, 0, 0];
-    let regular = week(6, &[2], b"rrrrrr", &HEIGHTS, &PAIRS);
+    let regular = week(6, &[2], &SIX_HOURS, &HEIGHTS, &PAIRS);
     week_log(rt, &regular, opening, &mut [NO_STEP; CELLS])?;
-    let resting = week(6, &[2], b"rrcrrr", &HEIGHTS, &PAIRS);
+    let resting = week(6, &[2], &THIRD_CLOSED, &HEIGHTS, &PAIRS);
     week_log(rt, &resting, opening, &mut [NO_STEP; CELLS])
 }
 
 // 130 regular hours without capacity: the filter raises the earliest start of task 0 hour by hour, until its step 127, the last of the log's second
 // part of 64, says impossible. The log is checked as it is, and with a record after that step.
 fn log_of_two_parts(rt: &impl Print) -> io::Result<()> {
-    let calendar = [b'r'; 130];
+    let mut calendar = [85u8; 33];
+    calendar[32] = 5;
     let opening: [u16; 12] = [0, 128, 2, 2, 0, 0, 0, 128, 2, 2, 0, 0];
     let plan = week(130, &[0], &calendar, &HEIGHTS, &[]);
     let mut log = [NO_STEP; 129];
@@ -331,11 +432,13 @@ fn report_writing(rt: &impl Print, answer: Result<usize, Refusal>) -> io::Result
     }
 }
 
-// Reads a plan text and writes the plan back.
-fn rewrite(text: &[u8], out: &mut [u8]) -> Result<usize, Refusal> {
+// The plan of a text that was read, written back.
+fn rewrite(reading: &Reading, out: &mut [u8]) -> Result<usize, Refusal>
+    requires { IsReady reading.now }
+{
     let mut memory = PlanMemory::EMPTY;
     let mut boxes = [0u16; MOST_BOUNDS];
-    let read = memory.read(text, &mut boxes)?;
+    let read = memory.finish(reading, &mut boxes)?;
     plan_writing::write_plan(
         &memory.plan(read),
         &boxes[..Bounds::NUMBERS * read.tasks],
@@ -343,39 +446,59 @@ fn rewrite(text: &[u8], out: &mut [u8]) -> Result<usize, Refusal> {
     )
 }
 
+// One byte more than the greatest text has.
+const BYTES: usize = 149_067;
+
 // What marks the bytes that writing left as they were: no plan text has it.
 const MARK: u8 = b'.';
 
-fn marks() -> [u8; MOST_BYTES]
-    ensures { length result ≡ most_bytes }
+fn marks() -> [u8; BYTES]
+    ensures { length result ≡ 149067 }
 {
-    [MARK; MOST_BYTES]
+    [MARK; BYTES]
 }
 
-// A plan text of data/ read, and written back into the memory lent: prints the answer, and says how many bytes were written.
-fn rewrite_data(rt: &(impl Files + Print), name: &str, out: &mut [u8]) -> io::Result<usize>
+// A plan text of data/ read in pieces, and written back into the memory lent: prints the answer, and says how many bytes were written.
+fn rewrite_data(
+    rt: &(impl Files + Print),
+    name: &str,
+    size: usize,
+    out: &mut [u8],
+) -> io::Result<usize>
+    requires { size ≤ 4096 }
     ensures { IfOk result (λ end. end ≤ length out.new) }
 {
-    let mut text = [0u8; BYTES];
-    let n = read_data(rt, name, &mut text)?;
-    let answer = rewrite(&text[..n], out);
+    let mut reading = Reading::begin();
+    read_data(rt, name, size, &mut reading)?;
+    let answer = rewrite(&reading, out);
     report_writing(rt, answer)?;
     Ok(end_of(out, MARK))
 }
 
-// A plan text written back: the text.
-fn print_rewritten(rt: &(impl Files + Print), name: &str) -> io::Result<()> {
+// A plan text that arrives in pieces, written back: the text.
+fn print_from_pieces(rt: &(impl Files + Print), name: &str, size: usize) -> io::Result<()>
+    requires { size ≤ 4096 }
+{
     let mut out = marks();
-    let end = rewrite_data(rt, name, &mut out)?;
+    let end = rewrite_data(rt, name, size, &mut out)?;
     rt.write_all(&out[..end])
 }
 
+fn print_rewritten(rt: &(impl Files + Print), name: &str) -> io::Result<()> {
+    print_from_pieces(rt, name, PIECE)
+}
+
 // A plan text written back into so many bytes: how many were written.
-fn count_rewritten(rt: &(impl Files + Print), name: &str, room: usize) -> io::Result<()>
-    requires { room ≤ most_bytes }
+fn count_rewritten(
+    rt: &(impl Files + Print),
+    name: &str,
+    size: usize,
+    room: usize,
+) -> io::Result<()>
+    requires { (size ≤ 4096) × (room ≤ 149067) }
 {
     let mut out = marks();
-    let end = rewrite_data(rt, name, &mut out[..room])?;
+    let end = rewrite_data(rt, name, size, &mut out[..room])?;
     print_count(rt, b"bytes", end)
 }
 
@@ -389,13 +512,80 @@ fn print_rewritings(rt: &(impl Files + Print)) -> io::Result<()> {
     print_rewritten(rt, "bakery-week.plan")?;
     print_rewritten(rt, "pairs-in-order.plan")?;
     print_rewritten(rt, "refused-9.plan")?;
-    count_rewritten(rt, "printed-week.plan", 0)?;
-    count_rewritten(rt, "printed-week.plan", 65)?;
-    count_rewritten(rt, "printed-week.plan", 66)?;
-    count_rewritten(rt, "printed-week.plan", 67)?;
-    count_rewritten(rt, "longest.plan", 24649)?;
-    count_rewritten(rt, "longest.plan", 24650)?;
-    count_rewritten(rt, "longest.plan", 24651)
+    count_rewritten(rt, "printed-week.plan", PIECE, 0)?;
+    count_rewritten(rt, "printed-week.plan", PIECE, 65)?;
+    count_rewritten(rt, "printed-week.plan", PIECE, 66)?;
+    count_rewritten(rt, "printed-week.plan", PIECE, 67)?;
+    count_rewritten(rt, "longest.plan", PIECE, 149_065)?;
+    count_rewritten(rt, "longest.plan", PIECE, 149_066)?;
+    count_rewritten(rt, "longest.plan", PIECE, 149_067)
+}
+
+// Texts in pieces of 1 byte, 7 and 4,096: accepted, malformed in the middle and at the end, refused, and the greatest.
+fn print_pieces(rt: &(impl Files + Print)) -> io::Result<()> {
+    for size in [1, 7, PIECE] {
+        print_from_pieces(rt, "printed-week.plan", size)?;
+        print_from_pieces(rt, "refused-1-task-after-pair.plan", size)?;
+        print_from_pieces(rt, "refused-1-no-lf.plan", size)?;
+        print_from_pieces(rt, "line-8800.plan", size)?;
+        print_from_pieces(rt, "line-8801.plan", size)?;
+        count_rewritten(rt, "longest.plan", size, 149_066)?;
+    }
+    Ok(())
+}
+
+// What memory holds after a call that met 7 in each cell.
+fn report_memory(rt: &impl Print, numbers: &[u16], bytes: &[u8]) -> io::Result<()> {
+    let touched = numbers.iter().position(|n| *n != 7).is_some()
+        || bytes.iter().position(|n| *n != 7).is_some();
+    let cleared = numbers.iter().position(|n| *n != 0).is_none()
+        && bytes.iter().position(|n| *n != 0).is_none();
+    let state = if !touched {
+        "as it was"
+    } else if cleared {
+        "all 0"
+    } else {
+        "the plan"
+    };
+    println!(rt; "memory\t{state}")
+}
+
+// A plan text of data/ read into memory with so many bytes for the calendars: the answer, and what the calendars and the boxes hold after it.
+fn read_into(rt: &(impl Files + Print), name: &str, calendars: &mut [u8]) -> io::Result<()> {
+    let mut reading = Reading::begin();
+    read_data(rt, name, PIECE, &mut reading)?;
+    let mut capacities = [7u16; MOST_ROOMS];
+    let mut task_calendars = [7u16; Bounds::MOST];
+    let mut work_times = [7u16; Bounds::MOST];
+    let mut heights = [7u16; MOST_HEIGHTS];
+    let mut pairs = [7u16; MOST_PAIRED];
+    let mut boxes = [7u16; MOST_BOUNDS];
+    let answer = plan_text::finish_plan(
+        &reading,
+        &mut capacities,
+        calendars,
+        &mut task_calendars,
+        &mut work_times,
+        &mut heights,
+        &mut pairs,
+        &mut boxes,
+    );
+    match answer {
+        Err(refusal) => report_refusal(rt, refusal)?,
+        Ok(read) => print_count(rt, b"read", read.tasks)?,
+    }
+    report_memory(rt, &boxes, calendars)
+}
+
+// What reading leaves: a refused text all 0, in memory that is too short too where it is malformed, and in surplus memory; 31 all as it was.
+fn memory_after_reading(rt: &(impl Files + Print)) -> io::Result<()> {
+    read_into(rt, "printed-week.plan", &mut [7; MOST_PACKED])?;
+    read_into(rt, "printed-week.plan", &mut [7; MOST_PACKED - 1])?;
+    read_into(rt, "hours-8785.plan", &mut [7; MOST_PACKED])?;
+    read_into(rt, "hours-8785.plan", &mut [7; MOST_PACKED - 1])?;
+    read_into(rt, "refused-1.plan", &mut [7; MOST_PACKED])?;
+    read_into(rt, "refused-1.plan", &mut [7; MOST_PACKED - 1])?;
+    read_into(rt, "refused-18.plan", &mut [7; MOST_PACKED + 1])
 }
 
 fn main(rt: HostRuntime) -> io::Result<()> {
@@ -404,6 +594,10 @@ fn main(rt: HostRuntime) -> io::Result<()> {
     schedule_that_ends_closed(&rt)?;
     schedule_over_the_second_capacity(&rt)?;
     schedules_with_pairs(&rt)?;
+    packed_calendars(&rt)?;
+    too_many_tasks(&rt, &[81 + 2, 5])?;
+    too_many_tasks(&rt, &[81, 5])?;
+    rules(&rt)?;
     print_listings(&rt, &LIMITS)?;
     print_listings(&rt, &WEEKS)?;
     print_listings(&rt, &REFUSALS)?;
@@ -413,5 +607,7 @@ fn main(rt: HostRuntime) -> io::Result<()> {
     two_rooms_logs(&rt)?;
     pairs_logs(&rt)?;
     log_of_two_parts(&rt)?;
-    print_rewritings(&rt)
+    print_rewritings(&rt)?;
+    print_pieces(&rt)?;
+    memory_after_reading(&rt)
 }

@@ -1,61 +1,41 @@
-use mathlib.Core.Path.{refl, sym, ◌∙◌}
-use Prim.Native.Nat.{◌≤◌}
+use mathlib.Core.Path.{ap, ◌∙◌}
+use Prim.Native.Nat.{◌-◌, ◌≤◌}
 use native.Mathlib.Omega.{arith}
-use Rattle.stretches.proofs.Stretches.{counts-few}
-use Rattle.calendar.proofs.Windows.{unmoved}
-use Rattle.calendar.proofs.Starts.{none-left}
-use Rattle.calendar.proofs.Finding.{Added, found-first, found-last, reaches, precedes, none-added, start-added, next-found}
+use Rattle.units.proofs.Hours.{lt-cmp, before, not-before}
+use Rattle.plan.specs.Calendars.{letters_in}
+use Rattle.stretches.specs.declared.Reach.{Reach}
+use Rattle.stretches.specs.Inner.Stretches.{shortest_at, lengthened}
+use Rattle.stretches.proofs.Fours.{nothing-reach, none-ends, each-lasts}
+use Rattle.calendar.proofs.Finding.{found-none}
 use Rattle.calendar.proofs.add_starts.Goals as goal
-use Rattle.calendar.proofs.add_starts.Goals.{then-not-is_at+in-Some, else-not-is_at}
 
-pub loop-s-init : goal.loop-s-init
-loop-s-init c = rw (c.nothing_at-shortest.ensures, c.nothing_at-longest.ensures) (found-first _ _ _ c.requires.nothing)
+-- there is no start
+pub returns-then-lt : goal.returns-then-lt
+returns-then-lt c = found-none _ _ _ (before _ _ (c.lt.ensures ∙ lt-cmp _ _) c.if-lt.true) c.requires.nothing
 
--- none that starts at s or later is valid
-pub returns-in_default : goal.returns-in_default
-returns-in_default c =
-    let f = c.loop-s.invariant in
-    unmoved _ (none-left c.requires.ready (omega (arith, c.loop-s-test.true)) f.carried _ refl (c.shortest_from.ensures.none c.in_default.is)) ∙ f.is
+pub worked_on-shortest-requires : goal.worked_on-shortest-requires
+worked_on-shortest-requires c =
+    let some : c.args.task.now.bounds.earliest.0 ≤ c.args.task.now.bounds.latest.0 = not-before _ _ (c.lt.ensures ∙ lt-cmp _ _) c.if-lt.false in
+    rw c.nothing_at.ensures (nothing-reach _ _ (omega (arith, some, c.requires.ready.latest)) c.requires.ready.short)
 
-pub add_start-requires-clause-reaches : goal.add_start-requires-clause-reaches
-add_start-requires-clause-reaches c =
-    let (is-short, ends, short-hours) = c.shortest_from.ensures.found _ c.in-Some.is in
-    let (is-long, long-hours) = c.longest_from-longest.ensures in
-    rw (c.stretch_from.ensures, c.stretch_from-then-not-is_at.ensures)
-    (reaches c.requires.ready (omega (arith, c.loop-s-test.true)) c.loop-s.invariant _ _ is-short is-long short-hours long-hours ends)
+pub lasted_on-longest-requires : goal.lasted_on-longest-requires
+lasted_on-longest-requires c =
+    let some : c.args.task.now.bounds.earliest.0 ≤ c.args.task.now.bounds.latest.0 = not-before _ _ (c.lt.ensures ∙ lt-cmp _ _) c.if-lt.false in
+    (omega (arith, some, c.requires.ready.latest), c.requires.ready.short)
 
-pub add_start-requires-clause-before : goal.add_start-requires-clause-before
-add_start-requires-clause-before c =
-    let (is-short, ends, short-hours) = c.shortest_from.ensures.found _ c.in-Some.is in
-    let (is-long, long-hours) = c.longest_from-longest.ensures in
-    rw (c.stretch_from.ensures, c.stretch_from-then-not-is_at.ensures)
-    (precedes c.requires.ready (omega (arith, c.loop-s-test.true)) c.loop-s.invariant _ _ is-short is-long short-hours long-hours)
+pub add_from-requires-clause-short : goal.add_from-requires-clause-short
+add_from-requires-clause-short c =
+    let cal = letters_in c.args.task.now.calendar in
+    let p = c.args.task.now.work_time.0 in
+    let b = c.args.task.now.bounds in
+    let (short, near) = c.worked_on-shortest.ensures in
+    let from-nothing = near ∙ ap (λ (r : Reach). lengthened cal b.earliest.0 (shortest_at cal p b b.earliest.0) (r.end.0 - b.earliest.0)) c.nothing_at.ensures in
+    (short, none-ends cal b.earliest.0 p b c.worked_on-shortest.result from-nothing)
 
-pub loop-s-preserved : goal.loop-s-preserved
-loop-s-preserved c =
-    let inside : c.loop-s.s ≤ c.args.task.now.bounds.latest.0 = omega (arith, c.loop-s-test.true) in
-    let added : Added c.args.task.now.calendar.now c.args.task.now.work_time.0 c.args.task.now.bounds c.loop-s.s
-    c.if-not-is_at.shortest c.if-not-is_at.longest c.if-not-is_at.found =
-    elim c.if-not-is_at.branch [
-      | then-not-is_at+in-Some w ↦
-          let (is-short, ends, short-hours) = w.shortest_from.ensures.found _ w.in-Some.is in
-          let (is-long, long-hours) = w.longest_from-longest.ensures in
-          let after = rw (w.stretch_from.ensures, w.stretch_from-then-not-is_at.ensures) at w.add_start.ensures.after in
-          rw (w.found-is, w.shortest-is, w.longest-is)
-          (start-added c.requires.ready inside c.loop-s.invariant _ _ is-short is-long short-hours long-hours ends _ w.add_start.ensures.is after)
-      | else-not-is_at w ↦ rw (w.found-is, w.shortest-is, w.longest-is) (none-added c.requires.ready inside c.loop-s.invariant (sym w.if-not-is_at.ensures))
-    ] in
-    rw (c.without_start-shortest.ensures, c.without_start-longest.ensures) (next-found c.requires.ready added)
-
-pub returns : goal.returns
-returns c = found-last _ _ _ (omega (arith, c.loop-s-test.false)) c.loop-s.invariant
-
-pub stretch_from-requires : goal.stretch_from-requires
-stretch_from-requires c =
-    let short = (c.shortest_from.ensures.found _ c.in-Some.is).0 in
-    (short.from, (counts-few short).0)
-
-pub stretch_from-requires-then-not-is_at : goal.stretch_from-requires-then-not-is_at
-stretch_from-requires-then-not-is_at c =
-    let long = c.longest_from-longest.ensures.0 in
-    (long.from, (counts-few long).0)
+pub add_from-requires-clause-long : goal.add_from-requires-clause-long
+add_from-requires-clause-long c =
+    let (long, sure) = c.lasted_on-longest.ensures in (
+      long,
+      each-lasts (letters_in c.args.task.now.calendar) c.args.task.now.bounds.earliest.0 c.args.task.now.work_time.0 c.args.task.now.bounds
+          c.lasted_on-longest.result sure,
+    )

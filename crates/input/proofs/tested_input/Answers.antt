@@ -1,5 +1,5 @@
 use mathlib.Core.Path.{sym}
-use Rattle.plan.proofs.Passed.{input-passed}
+use Rattle.plan.proofs.Over.{input-passed}
 use Rattle.input.proofs.tested_input.Goals as goal
 
 pub invariant_of-result : goal.invariant_of-result

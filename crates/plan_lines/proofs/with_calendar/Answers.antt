@@ -19,4 +19,5 @@ returns c =
       | else-scan w ↦ w.result-is ∙ w.if-scan.false ∙ sym (not_left _ _ w.if-scan.false)
     ]
     in
-    cal-next held _ c.may_come.ensures _ _ c.if-not-may_come.false even c.store_symbols.ensures
+    cal-next held _ c.may_come.ensures _ _ _ _ c.if-not-may_come.false even c.packed_length.ensures.0 c.packed_length.ensures.1
+    c.first_wrong_symbol.ensures c.store_calendar.ensures

@@ -20,7 +20,7 @@ pub with_calendar-requires : goal.with_calendar-requires
 unfolding Finds
 with_calendar-requires c =
     let found = rw c.in-Cal.is at c.in_ok-count.ensures in
-    (c.requires.0, omega (arith, c.requires.1, found.1))
+    (c.requires.0, c.requires.1, omega (arith, c.requires.2, found.1))
 
 pub returns-in-Plan : goal.returns-in-Plan
 unfolding Finds

@@ -1,16 +1,21 @@
--- What the code keeps of a plan text on its way through the lines: the symbols in bytes of their own, and all numbers in sections of the same cells.
-use Rattle.std.specs.Prelude.{◌≡◌, List, map, ℕ, zero, suc, ◌+◌, ◌*◌, ◌≤◌, ◌<◌, length, get_or, set, take, drop}
+-- What the code keeps of a plan text on its way through the lines: the calendars in bytes of their own, and all numbers in sections of the same cells.
+use Rattle.std.specs.Prelude.{◌≡◌, true, List, ◌-◌, map, ℕ, zero, suc, ◌+◌, ◌*◌, ◌≤◌, ◌<◌, length, get_or, set, take, drop}
 use Rattle.std.specs.Prelude.{Option, None, Some, Result, Ok, Err}
 use Rattle.units.specs.Limits.{most_rooms, most_tasks, box_numbers, pair_numbers}
-use Rattle.units.specs.Lists.{list_to}
-use Rattle.plan.specs.Plan.{Plan, plan}
+use Rattle.units.specs.Lists.{list_to, joined}
+use Rattle.units.specs.Choice.{first_of}
+use Rattle.plan.specs.Packed.{packed}
+use Rattle.plan.specs.Over.{PackedPlan, packed_plan}
+use Rattle.plan.specs.Faults.{symbol_fault}
+use Rattle.plan.specs.declared.Fault.{Fault}
 use Rattle.plan.specs.declared.Refusal.{Refusal}
-use Rattle.plan.specs.Refusals.{Answer, refused, answered, fault_of}
+use Rattle.plan.specs.Refusals.{Answer, refused, answered, fault, fault_of}
+use Rattle.plan_lines.specs.declared.Reading.{Reading}
 use Rattle.plan_lines.specs.declared.Scan.{Scan}
 use Rattle.plan_lines.specs.declared.Section.{Section}
 use Rattle.plan_lines.specs.declared.Section.TheVariants as section_is
-use Rattle.plan_format.specs.Text.{Read, most_bytes, plan_section, cal_section, task_section, after_section}
-use Rattle.plan_format.specs.Reading.{joined, box_of, all_of, most_symbols, most_heights, most_paired, most_bounds}
+use Rattle.plan_format.specs.Text.{Read, most_line, most_lines, plan_section, cal_section, task_section, after_section}
+use Rattle.plan_format.specs.Reading.{box_of, plan_in, all_of, most_packed, most_heights, most_paired, most_bounds}
 
 -- ---- the cells and their sections
 
@@ -73,11 +78,20 @@ with_heights task numbers (suc room) cells = set (with_heights task numbers room
 unfoldable pub stored_heights : ℕ → ℕ → List ℕ → List ℕ
 stored_heights rooms tasks cells = joined (list_to (λ room. section (room_at room) tasks cells) rooms)
 
--- the plan of so many rooms, tasks and pairs that is stored, and its boxes
-abbrev pub stored_plan : ℕ → ℕ → ℕ → ℕ → List ℕ → List ℕ → Plan
-stored_plan hours rooms tasks pairs symbols cells =
-    plan hours (section capacities_at rooms cells) symbols (section calendars_at tasks cells) (section work_times_at tasks cells)
+-- the plan of so many rooms, tasks and pairs that is stored, its calendars packed, and its boxes
+abbrev pub stored_plan : ℕ → ℕ → ℕ → ℕ → List ℕ → List ℕ → PackedPlan
+stored_plan hours rooms tasks pairs calendars cells =
+    packed_plan hours (section capacities_at rooms cells) calendars (section calendars_at tasks cells) (section work_times_at tasks cells)
     (stored_heights rooms tasks cells) (section pairs_at (pair_numbers * pairs) cells)
+
+-- calendars, each packed by its own length, joined
+abbrev pub all_packed : List (List ℕ) → List ℕ
+all_packed cals = joined (map packed cals)
+
+-- the plan that a text holds, its calendars packed
+abbrev pub packed_read : Read → PackedPlan
+packed_read r =
+    packed_plan r.hours r.capacities (all_packed r.calendars) (plan_in r).shifts.task_calendars (plan_in r).shifts.work_times (plan_in r).heights r.pairs
 
 abbrev pub stored_boxes : ℕ → List ℕ → List ℕ
 stored_boxes tasks cells = section boxes_at (box_numbers * tasks) cells
@@ -96,31 +110,54 @@ section_number section_is.Pairs = after_section
 abbrev pub counted : Scan → ℕ
 counted s = s.symbols + s.calendars + s.tasks + s.pairs
 
+-- 4, at the first symbol that is none; as the code keeps it
+abbrev pub symbols_fault : List ℕ → Option Fault
+symbols_fault xs = first_of (symbol_fault xs) (length xs)
+
+abbrev pub wrong_symbol_fault : Option ℕ → Option Fault
+wrong_symbol_fault None = None
+wrong_symbol_fault (Some k) = Some (fault 4 k)
+
 -- what has been read, as it is counted and stored once n bytes are
-pub record Holds (r : Read) (s : Scan) (n : ℕ) (symbols cells : List ℕ) : Type 0 where
+pub record Holds (r : Read) (s : Scan) (n : ℕ) (bytes cells : List ℕ) : Type 0 where
   pub reached : section_number s.reached ≡ r.reached
   pub hours : s.hours ≡ r.hours
   pub rooms : s.rooms ≡ length r.capacities
   pub calendars : s.calendars ≡ length r.calendars
   pub even : s.even ≡ all_of r.hours r.calendars
   pub symbol_count : s.symbols ≡ length (joined r.calendars)
+  pub byte_count : s.bytes ≡ length (all_packed r.calendars)
+  pub wrong_symbol : wrong_symbol_fault s.wrong_symbol ≡ symbols_fault (joined r.calendars)
   pub tasks : s.tasks ≡ length r.tasks
   pub pairs : pair_numbers * s.pairs ≡ length r.pairs
   pub few : counted s ≤ n
-  pub kept_symbols : Kept 0 most_symbols (joined r.calendars) symbols
+  pub few_bytes : s.bytes ≤ s.symbols
+  pub kept_calendars : Kept 0 most_packed (all_packed r.calendars) bytes
   pub kept_numbers : KeepsNumbers r.hours r.capacities r.tasks r.pairs cells
 
 -- what has been read with another line, if the line keeps to the rules
 unfoldable pub Follows : Option Read → Option Scan → ℕ → List ℕ → List ℕ → Type 0
-Follows o None n symbols cells = o ≡ None
-Follows o (Some s) n symbols cells = (r : Read) × (o ≡ Some r) × Holds r s n symbols cells
+Follows o None n calendars cells = o ≡ None
+Follows o (Some s) n calendars cells = (r : Read) × (o ≡ Some r) × Holds r s n calendars cells
+
+-- after the line that is being read: broken, or led to a scan
+abbrev pub line_ended : Reading → Option Scan → Reading
+line_ended m None = record m { broken = true }
+line_ended m (Some s) = record m { scan = s; line = m.line + 1; length = 0 }
+
+-- the bytes of so many lines, at most
+abbrev pub bytes_before : ℕ → ℕ
+bytes_before line = most_line * (line - 1)
+
+abbrev pub most_read : ℕ
+most_read = most_line * most_lines
 
 -- what the whole text comes to
 unfoldable pub Scans : Answer Read → Result Scan Refusal → List ℕ → List ℕ → Type 0
-Scans a (Err refusal) symbols cells = a ≡ refused (fault_of refusal)
-Scans a (Ok s) symbols cells = (r : Read) × (a ≡ answered r) × Holds r s most_bytes symbols cells
+Scans a (Err refusal) calendars cells = a ≡ refused (fault_of refusal)
+Scans a (Ok s) calendars cells = (r : Read) × (a ≡ answered r) × Holds r s most_read calendars cells
 
 -- a whole text as it is stored
-pub record Stored (s : Scan) (symbols cells : List ℕ) : Type 0 where
+pub record Stored (s : Scan) (calendars cells : List ℕ) : Type 0 where
   pub text : Read
-  pub held : Holds text s most_bytes symbols cells
+  pub held : Holds text s most_read calendars cells

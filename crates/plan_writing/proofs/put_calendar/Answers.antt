@@ -6,4 +6,4 @@ use Rattle.plan_writing.proofs.put_calendar.Goals as goal
 pub returns : goal.returns
 unfolding record_line
 returns c =
-    put_both (omega (arith, c.requires)) (put_both (omega (arith, c.requires)) c.put_all-symbols.ensures c.put_all-end.ensures) c.put_byte.ensures
+    put_both (omega (arith, c.requires)) (put_both (omega (arith, c.requires)) c.put_all-letters.ensures c.put_letters-end.ensures) c.put_byte.ensures

@@ -1,21 +1,20 @@
-use mathlib.Core.Path.{◌≡◌, refl, sym, ◌∙◌}
+use mathlib.Core.Path.{◌≡◌, refl, sym, ap, ◌∙◌}
 use mathlib.Core.Bool.{Bool, true, false}
 use mathlib.Core.List.{List}
 use Prim.Native.Nat.{ℕ, ◌*◌}
 use lib.Dec.{eqb}
 use lib.ListN.{length}
-use Rattle.std.specs.Prelude.{Option}
 use Rattle.units.specs.Choice.{◌and◌, ◌or_else◌, first_of}
 use Rattle.units.proofs.Choices.{not_right, else-none, else-some}
-use Rattle.plan.specs.Plan.{Plan, task_count, pair_count}
-use Rattle.plan.specs.declared.Fault.{Fault}
-use Rattle.plan.specs.Refusals.{unless}
-use Rattle.plan.specs.Lent.{plan_in}
-use Rattle.plan.specs.Faults.{is_right_size, plan_fault, input_fault}
+use Rattle.plan.specs.Plan.{task_count, pair_count}
+use Rattle.plan.specs.Lent.{packed_in, plan_in}
+use Rattle.plan.specs.Faults.{is_right_size}
+use Rattle.plan.specs.Over.{PackedPlan, unpacked, memory_fault}
 use Rattle.plan.proofs.Refusals.{refuse, handed-on}
 use Rattle.calendar.specs.Triples.{triple_numbers}
 use Rattle.schedule.specs.Schedule.{triple_at}
-use Rattle.schedule.specs.Entry.{is_sized, order_fault, schedule_fault, check_fault}
+use Rattle.schedule.specs.Entry.{is_sized, order_fault, schedule_fault}
+use Rattle.schedule.specs.Inner.Memory.{packed_check_fault}
 use Rattle.schedule.proofs.test_schedule.Goals.{In_ok-tested, In_ok-test_hours}
 use Rattle.schedule.proofs.test_schedule.Goals as goal
 
@@ -25,22 +24,24 @@ size-is : (schedule : List ℕ) {tasks n : ℕ} {r b : Bool} → r ≡ eqb (leng
 unfolding is_sized
 size-is schedule e f g = rw (← f) (sym e ∙ g)
 
--- two tests for 31 are one, with whatever comes after
-both-31 : (b : Bool) (x y : Option Fault) → (unless (b and true) 31 0 or_else x or_else y) ≡ ((unless b 31 0 or_else x) or_else y)
-unfolding unless ◌or_else◌
-both-31 true x y = refl
-both-31 false x y = refl
-
 -- with a triple for each task the plan's tests come next, and then the schedule's
-by-input : (P : Plan) (boxes schedule : List ℕ) → is_sized (task_count P) schedule ≡ true
-    → check_fault P boxes schedule ≡ (input_fault P boxes or_else schedule_fault P boxes (triple_at schedule))
-unfolding check_fault input_fault
-by-input P boxes schedule e = rw e (both-31 (is_right_size P boxes) (plan_fault P boxes) (schedule_fault P boxes (triple_at schedule)))
+by-input : (P : PackedPlan) (boxes schedule : List ℕ) → is_sized (task_count (unpacked P)) schedule ≡ true
+    → packed_check_fault P boxes schedule
+    ≡ (memory_fault (is_right_size (unpacked P) boxes) P boxes or_else schedule_fault (unpacked P) boxes (triple_at schedule))
+unfolding packed_check_fault
+by-input P boxes schedule e =
+    ap (λ (b : Bool). memory_fault b P boxes or_else schedule_fault (unpacked P) boxes (triple_at schedule))
+    (and-first (is_right_size (unpacked P) boxes) _ e)
+  where
+    and-first : (a b : Bool) → b ≡ true → (a and b) ≡ a
+    and-first true b e = e
+    and-first false b e = refl
 
 pub returns-then-not-is_for_each-clause-tests : goal.returns-then-not-is_for_each-clause-tests
-unfolding check_fault
+unfolding packed_check_fault memory_fault
 returns-then-not-is_for_each-clause-tests c =
-    sym (refuse _ 31 0 _ (not_right _ _ (size-is _ c.is_for_each.ensures c.tasks.ensures c.if-not-is_for_each.true)))
+    sym
+    (else-some _ _ _ (refuse _ 31 0 _ (not_right _ _ (size-is _ c.is_for_each.ensures c.tasks.ensures c.if-not-is_for_each.true))))
 
 pub returns-in_err-tested-clause-tests : goal.returns-in_err-tested-clause-tests
 returns-in_err-tested-clause-tests c =
@@ -49,7 +50,7 @@ returns-in_err-tested-clause-tests c =
 
 -- past the plan's tests those of the schedule decide
 past-input : (c : In_ok-tested) → let P = plan_in c.args.plan.now in
-    check_fault P c.args.boxes.now c.args.schedule.now ≡ schedule_fault P c.args.boxes.now (triple_at c.args.schedule.now)
+    packed_check_fault (packed_in c.args.plan.now) c.args.boxes.now c.args.schedule.now ≡ schedule_fault P c.args.boxes.now (triple_at c.args.schedule.now)
 past-input c =
     let sized = size-is _ c.is_for_each.ensures c.tasks.ensures c.if-not-is_for_each.false in
     by-input _ _ _ sized ∙ else-none _ _ (sym c.in_ok-tested.ensures.tests)
@@ -75,7 +76,8 @@ returns-in_err-test_hours-clause-tests c =
 
 -- past the hours the pairs decide
 past-hours : (c : In_ok-test_hours) → let P = plan_in c.args.plan.now in
-    check_fault P c.args.boxes.now c.args.schedule.now ≡ first_of (order_fault P (triple_at c.args.schedule.now)) (pair_count P)
+    packed_check_fault (packed_in c.args.plan.now) c.args.boxes.now c.args.schedule.now
+    ≡ first_of (order_fault P (triple_at c.args.schedule.now)) (pair_count P)
 unfolding schedule_fault
 past-hours c =
     let lent = c.in_ok-tested.ensures.lends in

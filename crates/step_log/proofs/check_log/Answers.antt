@@ -13,15 +13,15 @@ check-requires c = omega (arith, c.well_formed, part-inside c.loop-accepted.inva
 
 pub returns-in_err-accepted : goal.returns-in_err-accepted
 returns-in_err-accepted c =
-    let (is, leaves) = part-refuses c.loop-accepted.invariant _ c.part_at-steps.ensures c.in_err-accepted.ensures in
-    let (answer, holds) = checks-steps _ _ _ _ _ (refused-on _ _ c.from_residual.ensures.1 ∙ is, leaves) in
-    record { answer = answer; holds = holds }
+    let (is, left) = part-refuses c.loop-accepted.invariant _ c.part_at-steps.ensures c.in_err-accepted.ensures in
+    let (answer, holds, same, leaves) = checks-steps _ _ _ _ _ (refused-on _ _ c.from_residual.ensures.1 ∙ is, left) in
+    record { answer = answer; holds = holds; letters = (same, leaves) }
 
 pub returns-then-steps-lt-SIZE : goal.returns-then-steps-lt-SIZE
 returns-then-steps-lt-SIZE c =
     let ends = part-ends c.loop-accepted.invariant _ c.part_at-steps.ensures c.in_ok-accepted.ensures c.if-steps-lt-SIZE.true in
-    let (answer, holds) = checks-steps _ _ _ _ _ ends in
-    record { answer = answer; holds = holds }
+    let (answer, holds, same, leaves) = checks-steps _ _ _ _ _ ends in
+    record { answer = answer; holds = holds; letters = (same, leaves) }
 
 pub loop-accepted-smaller : goal.loop-accepted-smaller
 loop-accepted-smaller c =

@@ -3,7 +3,11 @@ use Rattle.text_listing.proofs.Room.{within-room, part_length}
 use Rattle.worked.proofs.print_listing.Goals as goal
 
 pub slice_bounds-out-end : goal.slice_bounds-out-end
-slice_bounds-out-end g c = within-room _ _ _ _ c.list_text-k.ensures.0 c.list_text-k.ensures.1
+slice_bounds-out-end g c =
+    let (text, taken, long, left) = c.in_ok-k.ensures.listing in
+    within-room _ _ _ _ long left
 
 pub slice_bounds-write_all-end : goal.slice_bounds-write_all-end
-slice_bounds-write_all-end g c = part_length _ _ _ refl (within-room _ _ _ _ c.list_text-k.ensures.0 c.list_text-k.ensures.1)
+slice_bounds-write_all-end g c =
+    let (text, taken, long, left) = c.in_ok-k.ensures.listing in
+    part_length _ _ _ refl (within-room _ _ _ _ long left)

@@ -3,5 +3,5 @@ use Rattle.propagation.proofs.filter.filter.Goals as goal
 
 pub returns : goal.returns
 returns c =
-    let (answer, holds) = filter-holds-of _ _ _ _ _ _ c.filter_from.ensures in
-    record { answer = answer; holds = holds }
+    let (answer, holds, letters) = filter-holds-of _ _ _ _ _ _ c.filter_from.ensures in
+    record { answer = answer; holds = holds; letters = letters }

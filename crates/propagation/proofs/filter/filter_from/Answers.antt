@@ -1,15 +1,12 @@
-use Prim.Native.Nat.{◌*◌}
 use mathlib.Core.Path.{◌≡◌, refl, sym, ap, ◌∙◌}
 use Rattle.std.specs.Prelude.{Result}
 use Rattle.std.specs.Result.{IsErrAnd}
 use Rattle.std.proofs.lemmas.Result.{err_from_is_err_and}
-use Rattle.units.specs.Limits.{most_hours, most_rooms}
 use Rattle.plan.specs.declared.Refusal.{Refusal}
 use Rattle.plan.specs.Refusals.{fault_of}
 use Rattle.steps.specs.declared.Filtered.{Filtered}
 use Rattle.steps.specs.Entry.{FilterAnswer, refused_by, filter_answer, filter_end}
 use Rattle.steps.proofs.Entry.{passes, filter-refuses, filter_runs}
-use Rattle.propagation.proofs.Filtering.{lent_length, lent-zero}
 use Rattle.propagation.proofs.filter.filter_from.Goals as goal
 
 -- the refusal that is handed on is the answer
@@ -25,25 +22,20 @@ returns-in_err-test_entry c =
 pub load_count-count-requires : goal.load_count-count-requires
 load_count-count-requires c = let passed = (passes _ _ _ _ _ (sym c.in_ok-test_entry.ensures)).0 in (passed.rooms, passed.hours)
 
-pub run_filter-requires : goal.run_filter-requires
-run_filter-requires c =
-    record {
-      passed = passes _ _ _ _ _ (sym c.in_ok-test_entry.ensures);
-      count_fits = c.requires;
-      loads = let few = c.if-count.true in (sym (lent_length most_hours _ few) ∙ c.load_count-count.ensures.0, lent-zero most_hours _ few);
-    }
+pub run_with-filtered-requires-clause-passed : goal.run_with-filtered-requires-clause-passed
+run_with-filtered-requires-clause-passed c = passes _ _ _ _ _ (sym c.in_ok-test_entry.ensures)
 
-pub run_filter-requires-2-clause-passed : goal.run_filter-requires-2-clause-passed
-run_filter-requires-2-clause-passed c = passes _ _ _ _ _ (sym c.in_ok-test_entry.ensures)
+pub run_with-requires-clause-passed : goal.run_with-requires-clause-passed
+run_with-requires-clause-passed c = passes _ _ _ _ _ (sym c.in_ok-test_entry.ensures)
 
-pub run_filter-requires-2-clause-loads : goal.run_filter-requires-2-clause-loads
-run_filter-requires-2-clause-loads c =
-    let most = most_rooms * most_hours in
-    let few = c.load_count-count.ensures.1 in
-    (sym (lent_length most _ few) ∙ c.load_count-count.ensures.0, lent-zero most _ few)
+pub run_with-requires-else-count-le-YEAR_LOADS-clause-passed : goal.run_with-requires-else-count-le-YEAR_LOADS-clause-passed
+run_with-requires-else-count-le-YEAR_LOADS-clause-passed c = passes _ _ _ _ _ (sym c.in_ok-test_entry.ensures)
 
-pub returns-then-count : goal.returns-then-count
-returns-then-count c = filter_runs _ _ _ _ _ _ (sym c.in_ok-test_entry.ensures) _ c.run_filter.ensures
+pub returns-then-count-le-FEW_LOADS : goal.returns-then-count-le-FEW_LOADS
+returns-then-count-le-FEW_LOADS c = filter_runs _ _ _ _ _ _ (sym c.in_ok-test_entry.ensures) _ c.run_with-filtered.ensures
 
-pub returns : goal.returns
-returns c = filter_runs _ _ _ _ _ _ (sym c.in_ok-test_entry.ensures) _ c.run_filter-2.ensures
+pub returns-then-count-le-YEAR_LOADS : goal.returns-then-count-le-YEAR_LOADS
+returns-then-count-le-YEAR_LOADS c = filter_runs _ _ _ _ _ _ (sym c.in_ok-test_entry.ensures) _ c.run_with.ensures
+
+pub returns-else-count-le-YEAR_LOADS : goal.returns-else-count-le-YEAR_LOADS
+returns-else-count-le-YEAR_LOADS c = filter_runs _ _ _ _ _ _ (sym c.in_ok-test_entry.ensures) _ c.run_with-else-count-le-YEAR_LOADS.ensures

@@ -3,5 +3,5 @@ use Rattle.propagation.proofs.replay.check_log.Goals as goal
 
 pub returns : goal.returns
 returns c =
-    let (answer, holds) = check-holds-of _ _ _ _ _ _ _ c.check_from.ensures in
-    record { answer = answer; holds = holds }
+    let (answer, holds, same, leaves) = check-holds-of _ _ _ _ _ _ _ c.check_from.ensures in
+    record { answer = answer; holds = holds; letters = (same, leaves) }

@@ -5,6 +5,7 @@ use lib.ListN.{length}
 use Rattle.units.proofs.Searching.{unfound-first, unfound-next, unfound-hit, unfound-end}
 use Rattle.plan.proofs.Refusals.{handed-on}
 use Rattle.schedule.proofs.Entry.{triple-is, calendar-small}
+use Rattle.schedule.proofs.Readiness.{has-calendar}
 use Rattle.schedule.proofs.Scheduled.test_triples.Goals as goal
 
 pub loop-i-init : goal.loop-i-init
@@ -14,7 +15,7 @@ pub of_plan-task-requires : goal.of_plan-task-requires
 of_plan-task-requires c =
     let passed = c.args.self.now.tested.passed in
     let l : c.loop-i.i < length c.args.self.now.tested.plan.now.shifts.task_calendars.now = omega (arith, c.loop-i-test.true, c.tasks-i-end.ensures) in
-    (record { task = l; within = (passed.task _ l).calendar }, omega (arith, l, passed.work_times), omega (arith, l, passed.boxes))
+    (has-calendar passed l, omega (arith, l, passed.work_times), omega (arith, l, passed.boxes))
 
 pub test_triple-requires : goal.test_triple-requires
 test_triple-requires c = calendar-small _ _ _ c.of_plan-task.ensures.0 c.args.self.now.tested.passed.hours
