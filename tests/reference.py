@@ -1,5 +1,5 @@
-"""Document 01, with 02's requests up to W-208, in plain Python, written from their text alone and from no code of the product. tests/compare
-holds the library to it.
+"""The specification, whose rules docs/REFERENCE.md states, in plain Python, written from its text alone and from no code of the product.
+tests/compare holds the library to it.
 
 A calendar is bytes of r, c, o. A plan has its calendars as they lie in memory: packed, joined. A box is six numbers: S, E, O, the lower bound
 first. Heights lie room by room, each room's of all tasks, and pairs one after the other, the earlier task first. A step is (kind, task, hour), its
@@ -26,7 +26,7 @@ PROGRAM_ROOM = 2048
 # other.
 MOST_LISTED = 2000
 
-# The limits of plan text before W-208: of H, and of the bytes of a text.
+# The limits of plan text when calendars lay in memory as letters: of H, and of the bytes of a text.
 FORMER_HOURS, FORMER_BYTES = 1008, 32768
 
 
@@ -531,7 +531,7 @@ def read_plan(text, enough=True):
 
 
 def former_read_plan(text):
-    """The same before W-208: no limit but that of all bytes (which are no more lines either), and the hours of then."""
+    """The same when calendars lay in memory as letters: no limit but that of all bytes (which are no more lines either), and the hours of then."""
     broken, read = parse(text, most_line=FORMER_BYTES, most_lines=FORMER_BYTES, most_bytes=FORMER_BYTES)
     return ((1, broken), None) if broken else plan_read(read, FORMER_HOURS)
 
