@@ -4,7 +4,7 @@
    points to so many cells, an array to as many as its declaration says. No pointer is null, not even of length 0. Memory that a function
    writes overlaps nothing else that is lent to the same call. Nothing is kept after the call. There is no state: calls on other memory may run
    at the same time. Of the stack filter uses some 8 kB, 24 kB where `hours` times `rooms` is above 1,008, and 147 kB where it is above 8,784;
-   list_text 96 kB more than that; read_plan some 49 kB, the others 3 kB at most.
+   list_text 96 kB more than that; read_plan some 49 kB, the others 3 kB at most. From outside the archive needs memcpy and memset, and nothing else.
 
    A plan in memory: `hours`; the capacities, one for each of its `rooms`; the calendars, packed and joined (below); for each task its calendar (from
    0) and its work time; the heights room by room, first every task's in room 0; the pairs, two tasks (from 0) each, of which the earlier ends by the

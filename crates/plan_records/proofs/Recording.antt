@@ -64,7 +64,7 @@ symbols-made symbols test e = rw e (go (eqb (length symbols.now) 0) refl (list_a
 -- ---- numbers, so many or more
 
 module _ (least : ℕ) (fields : List (List ℕ)) where
-  numbers-none : numbers_of fields ≡ None → numbers_if least fields ≡ None
+  pub numbers-none : numbers_of fields ≡ None → numbers_if least fields ≡ None
   unfolding numbers_if on_option
   numbers-none e = rw e
 

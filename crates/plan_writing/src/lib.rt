@@ -1,7 +1,7 @@
 // Plan text: writing a plan.
 #![tactic(auto)]
 
-ghost use Rattle.std.specs.Prelude.{[], ◌∷◌, ◌≡◌, ℕ, ◌+◌, ◌*◌, ◌≤◌, ◌<◌, length, get_or, take};
+ghost use Rattle.std.specs.Prelude.{[], ◌∷◌, ◌≡◌, ℕ, ◌+◌, ◌*◌, ◌/◌, ◌≤◌, ◌<◌, length, get_or, take};
 ghost use Rattle.units.specs.Limits.{most_rooms};
 ghost use Rattle.text.specs.Lines.{ended};
 ghost use Rattle.text.specs.Putting.{Put};
@@ -17,7 +17,7 @@ ghost use Rattle.plan_format.specs.Writing.{text_of_plan, most_text, write_end, 
 ghost use Rattle.plan_writing.specs.Inner.Sections.{calendars_text, numbers_at, tasks_text, pairs_text};
 
 use input::Tested;
-use plan::{Calendar, HourCode, Plan, Refusal, bounds_at, box_cells, first_symbol};
+use plan::{Calendar, HourCode, PER_BYTE, Plan, Refusal, bounds_at, box_cells, first_symbol};
 use text::LF;
 use text::lengths::line_length;
 use text::put::{put_all, put_byte, put_line};
@@ -125,15 +125,29 @@ fn text_length(tested: &Tested) -> usize
     first + calendars_length(tested) + tasks_length(tested) + pairs_length(tested)
 }
 
-// The letters of the hours' kinds, by their codes.
-const LETTERS: [u8; 3] = [b'c', b'r', b'o'];
-
-// The letter of an hour.
-#[tactic(auto, unfolding(plan::specs::Packed::letter_of))]
+// The letter of an hour. A code's two bits are counts, of which one at most is 1: so no table is read, and the compiler takes several hours at once.
+#[tactic(auto, using(crate::proofs::Lettering::letter_made))]
 fn letter(code: HourCode) -> u8
     ensures { result ≡ letter_of code.number }
 {
-    LETTERS[code.number as usize]
+    b'c' + (b'r' - b'c') * (code.number % 2) + (b'o' - b'c') * (code.number / 2)
+}
+
+// The letters of the hours of a calendar's whole bytes. The four of a byte are put in one turn, so that it is read once.
+fn put_whole_bytes(out: &mut [u8], at: usize, calendar: &Calendar) -> usize
+    requires { at + length (letters_in calendar.now) ≤ length out.old }
+    ensures { let cal = letters_in calendar.now in Put (take (length cal / 4 * 4) cal) at out.old result out.new }
+{
+    let mut end = at;
+    // By number, as the hours of a byte are found.
+    for byte in 0..calendar.len() / PER_BYTE {
+        let first = byte * PER_BYTE;
+        let one = put_byte(out, end, letter(calendar.code_at(first)));
+        let two = put_byte(out, one, letter(calendar.code_at(first + 1)));
+        let three = put_byte(out, two, letter(calendar.code_at(first + 2)));
+        end = put_byte(out, three, letter(calendar.code_at(first + 3)));
+    }
+    end
 }
 
 // The letters of a calendar, one a byte.
@@ -141,10 +155,11 @@ fn put_letters(out: &mut [u8], at: usize, calendar: &Calendar) -> usize
     requires { at + length (letters_in calendar.now) ≤ length out.old }
     ensures { Put (letters_in calendar.now) at out.old result out.new }
 {
-    let mut end = at;
+    let first = calendar.len() / PER_BYTE * PER_BYTE;
+    let mut end = put_whole_bytes(out, at, calendar);
     // By number: an hour's code is two bits of a byte.
-    for t in 0..calendar.len() {
-        end = put_byte(out, end, letter(calendar.code_at(t)));
+    for i in 0..calendar.len() - first {
+        end = put_byte(out, end, letter(calendar.code_at(first + i)));
     }
     end
 }

@@ -33,7 +33,7 @@ use Rattle.step_log.proofs.Appending.{replay-append, goes_on, ends_there, replay
 -- ---- an answer and the end that it is of
 
 -- what a refusal and an acceptance say of the end
-refused_end : (e : LogEnd) (f : Fault) → refused f ≡ check_answer e → e.refusal ≡ Some f
+pub refused_end : (e : LogEnd) (f : Fault) → refused f ≡ check_answer e → e.refusal ≡ Some f
 unfolding check_answer answer_unless
 refused_end e f q = go e.refusal q
   where
@@ -42,7 +42,7 @@ refused_end e f q = go e.refusal q
     go None r = refused≢answered r
     go (Some g) r = cc
 
-accepted-end : (e : LogEnd) (a : Accepted) → answered a ≡ check_answer e
+pub accepted-end : (e : LogEnd) (a : Accepted) → answered a ≡ check_answer e
     → (e.refusal ≡ None) × (a.steps ≡ e.steps) × (a.impossible ≡ e.impossible)
 unfolding check_answer answer_unless
 accepted-end e a q = go e.refusal q

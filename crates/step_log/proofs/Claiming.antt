@@ -8,6 +8,7 @@ use lib.Seq.{take-append_seam}
 use Rattle.units.specs.Cells.{written}
 use Rattle.units.specs.Choice.{on_option}
 use Rattle.units.proofs.Choices.{option-all}
+use Rattle.plan.specs.Plan.{Plan}
 use Rattle.plan.specs.Refusals.{Answer}
 use Rattle.plan.specs.Faults.{input_fault}
 use Rattle.plan.specs.Over.{PackedPlan, unpacked, packed_of, SameOverLetters}
@@ -38,6 +39,19 @@ module _ (P : PackedPlan) (boxes : List ℕ) (passes : packed_input_fault P boxe
   -- the whole claim, over the log checker and the filter of step records
   pub logs-hold : LogsHold (unpacked P) boxes (check_steps_packed P boxes) (λ cells. left_steps (filter_steps_packed P boxes cells))
   logs-hold = logs-hold-by (unpacked P) boxes _ _ (input-letters P boxes passes) steps-replay left-by-run
+
+-- and of a plan of letters
+module _ (P : Plan) (boxes : List ℕ) (passes : input_fault P boxes ≡ None) where
+  lettered-replay : (log : List Step) → check_steps P boxes log ≡ replay P boxes log
+  unfolding check_steps on_option
+  lettered-replay log = rw passes refl
+
+  lettered-left : (cells : List Step) → LeftBy (run P boxes (length cells)) (left_steps (filter_steps P boxes cells))
+  unfolding left_steps filter_steps on_option logged_steps written
+  lettered-left cells = rw passes (record { answer = refl; boxes = refl; log = take-append_seam (run P boxes (length cells)).log _ })
+
+  pub lettered-logs-hold : LogsHold P boxes (check_steps P boxes) (λ cells. left_steps (filter_steps P boxes cells))
+  lettered-logs-hold = logs-hold-by P boxes _ _ passes lettered-replay lettered-left
 
 module _ (P : PackedPlan) (boxes : List ℕ) (log : List Step) where
   -- ---- the log checker

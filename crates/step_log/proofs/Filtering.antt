@@ -43,7 +43,7 @@ use Rattle.step_log.proofs.Checking.{lent-fault}
 
 module _ (P : Plan) where
   -- a run that did not stop for room is the same with more
-  run_more : (a b : ℕ) (boxes : List ℕ) → ((run P boxes a).ending ≡ no_room → ⊥) → run P boxes (a + b) ≡ run P boxes a
+  pub run_more : (a b : ℕ) (boxes : List ℕ) → ((run P boxes a).ending ≡ no_room → ⊥) → run P boxes (a + b) ≡ run P boxes a
   unfolding after
   run_more a b boxes =
       run-all (next P) (λ boxes a r. (r.ending ≡ no_room → ⊥) → run P boxes (a + b) ≡ r)
@@ -55,7 +55,7 @@ module _ (P : Plan) where
       boxes
 
   -- one that did has used it all
-  run-filled : (a : ℕ) (boxes : List ℕ) → (run P boxes a).ending ≡ no_room → count (run P boxes a) ≡ a
+  pub run-filled : (a : ℕ) (boxes : List ℕ) → (run P boxes a).ending ≡ no_room → count (run P boxes a) ≡ a
   unfolding after
   run-filled a boxes =
       run-all (next P) (λ boxes a r. r.ending ≡ no_room → count r ≡ a)
@@ -67,7 +67,7 @@ module _ (P : Plan) where
       boxes
 
   -- a run with at least as much room as one that did not stop for room, or stopped with all of it
-  run-last : (m n : ℕ) (boxes : List ℕ) → m ≤ n → ((run P boxes m).ending ≡ no_room → n ≤ m) → run P boxes n ≡ run P boxes m
+  pub run-last : (m n : ℕ) (boxes : List ℕ) → m ≤ n → ((run P boxes m).ending ≡ no_room → n ≤ m) → run P boxes n ≡ run P boxes m
   run-last m n boxes l h = go (eqb m n) refl
     where
       go : (b : Bool) → eqb m n ≡ b → run P boxes n ≡ run P boxes m
@@ -78,7 +78,7 @@ module _ (P : Plan) where
           ap (run P boxes) e ∙ run_more m (n - m) boxes (λ w. ne (omega (arith, h w)))
 
 -- the boxes that a run leaves pass the tests again
-run-passes : (P : PackedPlan) (a : ℕ) (boxes : List ℕ) → packed_input_fault P boxes ≡ None
+pub run-passes : (P : PackedPlan) (a : ℕ) (boxes : List ℕ) → packed_input_fault P boxes ≡ None
     → packed_input_fault P (run (unpacked P) boxes a).boxes ≡ None
 unfolding replay
 run-passes P a boxes e =
@@ -142,7 +142,7 @@ module _ (taken room end : ℕ) (ends : end ≡ taken + min part_size (room - ta
   fits : cells ≤ part_size
   fits = omega (arith, ends)
 
-  lent_length : cells ≡ length (take cells blank)
+  pub lent_length : cells ≡ length (take cells blank)
   unfolding blank
   lent_length = sym (length-take-le cells blank fits)
 

@@ -141,3 +141,16 @@ digits-in (suc k) n p l =
 
 pub decimal_digits : (n k : ℕ) → 10 ^ k ≤ max n 1 → max n 1 < 10 * 10 ^ k → k + 1 ≡ length (decimal_text n)
 decimal_digits n k p l = sym (digits-in k n (omega (arith, (reach_is k).0)) (omega (arith, (reach_is k).0)))
+
+pub decimal_width : (n k : ℕ) → 1 ≤ n → 10 ^ k ≤ n → n < 10 * 10 ^ k → k + 1 ≡ length (decimal_text n)
+decimal_width n k some p l = let m : max n 1 ≡ n = omega arith in decimal_digits n k (rw m p) (rw m l)
+
+-- of one digit, of two and of three
+pub one_digit : (n : ℕ) → n < 10 → 1 ≡ length (decimal_text n)
+one_digit n l = rw (decimal-one n l) refl
+
+pub two_digits : (n : ℕ) → 10 ≤ n → n < 100 → 2 ≡ length (decimal_text n)
+two_digits n h l = rw (decimal-longer n h, ← one_digit (n / 10) (omega arith)) refl
+
+pub three_digits : (n : ℕ) → 100 ≤ n → n < 1000 → 3 ≡ length (decimal_text n)
+three_digits n h l = rw (decimal-longer n (omega arith), ← two_digits (n / 10) (omega arith) (omega arith)) refl

@@ -20,9 +20,11 @@ pub fn put_all<T: Copy>(out: &mut [T], at: usize, items: &[T]) -> usize
     requires { at + length items.now ≤ length out.old }
     ensures { Put items.now at out.old result out.new }
 {
-    let end = at + items.len();
-    out[at..end].copy_from_slice(items);
-    end
+    // By number: a copy of the whole slice would be the library's, for which a caller in C has to bring `memmove` besides.
+    for i in 0..items.len() {
+        out[at + i] = items[i];
+    }
+    at + items.len()
 }
 
 // A number in decimal. What the library prints is known of a `String` alone, which there is not without a heap.

@@ -263,7 +263,7 @@ module _ (P : Plan) (i t : ℕ) (k : Kind) (is : is_step P k i t ≡ true) where
   there-B q = ltb-true _ _ (and_left _ _ (rw q at is))
 
 module _ (P : Plan) (boxes : List ℕ) (fits : List (Option Window)) (x : Step) (k : Kind) (named : k ≡ kind_of x.kind) where
-  by-none : is_step P k x.task x.hour ≡ false → judge_by P boxes fits x ≡ Unknown
+  pub by-none : is_step P k x.task x.hour ≡ false → judge_by P boxes fits x ≡ Unknown
   unfolding judge_by
   by-none e = if-false _ _ _ (ap (λ (l : Kind). is_step P l x.task x.hour) (sym named) ∙ e)
 

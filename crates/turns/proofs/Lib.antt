@@ -4,3 +4,4 @@ pub mod Searching
 pub mod Loading
 pub mod Scanning
 pub mod Turning
+pub mod Calendars

@@ -250,9 +250,12 @@ fn are_in_order<T: Ord + Copy>(lower: Option<T>, upper: Option<T>) -> bool
         .is_some_and(|(least, greatest)| least <= greatest)
 }
 
-// Whether a length is so many numbers for each of so many.
+// Whether a length is so many numbers for each of so many. It is divided, since the product may not fit.
 pub fn is_for_each(length: usize, numbers: usize, count: usize) -> bool
     ensures { result ≡ eqb length (numbers * count) }
 {
-    numbers.checked_mul(count) == Some(length)
+    if numbers == 0 {
+        return length == 0;
+    }
+    length % numbers == 0 && length / numbers == count
 }

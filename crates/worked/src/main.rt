@@ -418,11 +418,11 @@ fn log_of_two_parts(rt: &impl Print) -> io::Result<()> {
     calendar[32] = 5;
     let opening: [u16; 12] = [0, 128, 2, 2, 0, 0, 0, 128, 2, 2, 0, 0];
     let plan = week(130, &[0], &calendar, &HEIGHTS, &[]);
-    let mut log = [NO_STEP; 129];
+    let mut log = [NO_STEP; CELLS];
     filter_week(rt, &plan, opening, &mut log)?;
     check_week(rt, &plan, opening, &log[..step_count(&log)])?;
     log[128] = log[0];
-    check_week(rt, &plan, opening, &log)
+    check_week(rt, &plan, opening, &log[..step_count(&log)])
 }
 
 fn report_writing(rt: &impl Print, answer: Result<usize, Refusal>) -> io::Result<()> {

@@ -1,3 +1,4 @@
+use mathlib.Core.Path.{refl}
 use Rattle.steps.specs.Entry.{ending_answer}
 use Rattle.propagation.proofs.Answering.{answers-are}
 use Rattle.propagation.proofs.Fits.{all-fitting}
@@ -21,12 +22,12 @@ invariant_of-state c = let p = c.loop-next.invariant.0.keeps.passed in record { 
 
 pub bounds-answers-task : goal.bounds-answers-task
 bounds-answers-task c =
-    (filter-may-move c.loop-next.invariant.0 c.next_turn.ensures.answer 0 c.in-Some.is c.if-log_kinds-count.false c.in-Moved.is
+    (filter-may-move c.loop-next.invariant.0 (c.next_turn.ensures.answer _ _ _ refl) 0 c.in-Some.is c.if-log_kinds-count.false c.in-Moved.is
     (c.next_turn.ensures.there _ _ _)).0
 
 pub mend_loads-requires-clause-task : goal.mend_loads-requires-clause-task
 mend_loads-requires-clause-task c =
-    moved_task c.loop-next.invariant.0 c.next_turn.ensures.answer 0 c.in-Some.is c.if-log_kinds-count.false c.in-Moved.is
+    moved_task c.loop-next.invariant.0 (c.next_turn.ensures.answer _ _ _ refl) 0 c.in-Some.is c.if-log_kinds-count.false c.in-Moved.is
     (c.next_turn.ensures.there _ _ _)
 
 pub mend_loads-requires-clause-loaded : goal.mend_loads-requires-clause-loaded
@@ -34,12 +35,12 @@ mend_loads-requires-clause-loaded c = rw (put-back _ _ _ c.move_bounds.ensures.m
 
 pub move_bounds-requires-clause-fits : goal.move_bounds-requires-clause-fits
 move_bounds-requires-clause-fits c =
-    filter-may-move c.loop-next.invariant.0 c.next_turn.ensures.answer 0 c.in-Some.is c.if-log_kinds-count.false c.in-Moved.is
+    filter-may-move c.loop-next.invariant.0 (c.next_turn.ensures.answer _ _ _ refl) 0 c.in-Some.is c.if-log_kinds-count.false c.in-Moved.is
     (c.next_turn.ensures.there _ _ _)
 
 pub loop-next-preserved : goal.loop-next-preserved
 loop-next-preserved c = (
-  goes_on c.loop-next.invariant.0 c.next_turn.ensures.answer 0 c.in-Some.is c.if-log_kinds-count.false c.in-Moved.is
+  goes_on c.loop-next.invariant.0 (c.next_turn.ensures.answer _ _ _ refl) 0 c.in-Some.is c.if-log_kinds-count.false c.in-Moved.is
       (c.next_turn.ensures.there _ _ _) c.move_bounds.ensures.moves,
   c.move_bounds.ensures.answered,
   c.mend_loads.ensures,
@@ -47,13 +48,13 @@ loop-next-preserved c = (
 
 pub returns-in_default : goal.returns-in_default
 unfolding ending_answer
-returns-in_default c = settles c.loop-next.invariant.0 c.next_turn.ensures.answer _ c.in_default.is
+returns-in_default c = settles c.loop-next.invariant.0 (c.next_turn.ensures.answer _ _ _ refl) _ c.in_default.is
 
 pub returns-then-log_kinds-count : goal.returns-then-log_kinds-count
 unfolding ending_answer
-returns-then-log_kinds-count c = fills c.loop-next.invariant.0 c.next_turn.ensures.answer _ c.in-Some.is c.if-log_kinds-count.true
+returns-then-log_kinds-count c = fills c.loop-next.invariant.0 (c.next_turn.ensures.answer _ _ _ refl) _ c.in-Some.is c.if-log_kinds-count.true
 
 pub returns-in_default-judged : goal.returns-in_default-judged
 unfolding ending_answer
 returns-in_default-judged c =
-    stops_at c.loop-next.invariant.0 c.next_turn.ensures.answer _ c.in-Some.is c.if-log_kinds-count.false c.in_default-judged.not-Moved
+    stops_at c.loop-next.invariant.0 (c.next_turn.ensures.answer _ _ _ refl) _ c.in-Some.is c.if-log_kinds-count.false c.in_default-judged.not-Moved

@@ -1,12 +1,14 @@
-use mathlib.Core.Path.{refl, ◌∙◌}
 use native.Mathlib.Omega.{arith}
-use lib.ListN.{length}
-use Rattle.std.proofs.lemmas.Slice.{put_mid-paste}
-use Rattle.units.proofs.Cells.{paste-end}
+use lib.Seq.{paste-zero}
+use Rattle.text.proofs.Puts.{paste_more, put-pasted}
 use Rattle.text.proofs.put.put_all.Goals as goal
 
+pub loop-i-init : goal.loop-i-init
+loop-i-init g c = paste-zero c.args.out.now c.args.at c.args.items.now
+
+pub loop-i-preserved : goal.loop-i-preserved
+loop-i-preserved g c =
+    paste_more c.args.out.now c.args.at c.args.items.now c.loop-i.i c.loop-i.invariant c.index-items-i.is (omega arith) c.loop-i-test.true
+
 pub returns : goal.returns
-returns g c =
-    let a = c.args in
-    let part = put_mid-paste _ _ a.out.now _ a.items.now (length a.items.now) c.copy_from_slice.ensures.after (omega arith) refl in
-    record { place = refl; cells_left = part ∙ paste-end a.out.now a.at a.items.now }
+returns g c = put-pasted _ _ _ c.loop-i.i c.loop-i.invariant (omega (arith, c.loop-i.auto.i-end, c.loop-i-test.false))
